@@ -1,0 +1,4 @@
+pub mod Divisor
+pub mod Cancelling
+pub mod Unit
+pub mod Rounding

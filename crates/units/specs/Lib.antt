@@ -1,0 +1,5 @@
+pub mod Divisor
+pub mod Unit
+pub mod Rounding
+pub mod Starred
+pub mod Cancelling
