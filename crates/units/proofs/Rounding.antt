@@ -35,7 +35,7 @@ module _ {k : Ratio} (a : Accepted k) (m : ℕ) where
 
 -- |rounded n| ≤ (|n| + 1) / 2
 pub rounded-half : {k : Ratio} (a : Accepted k) (n : ℤ) → natAbs (rounded k n) + natAbs (rounded k n) ≤ natAbs n + 1
-rounded-half {k} a n = rw (abs-sign n (nearestWhole k (natAbs n))) (nearest-half a (natAbs n))
+rounded-half {k} a n = subst (λ (m : ℕ). m + m ≤ natAbs n + 1) (sym (abs-sign n (nearestWhole k (natAbs n)))) (nearest-half a (natAbs n))
 
 -- rounded 0 is 0
 pub rounded-zero : {k : Ratio} → Accepted k → rounded k (pos 0) ≡ pos 0

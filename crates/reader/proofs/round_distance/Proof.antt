@@ -1,6 +1,6 @@
 -- `reader::round_distance` meets its contract: the three units are judged one after the other, then K, and what is left is `units::round`. Assumes nothing.
 use mathlib.Core.Path.{_≡_, refl, sym, ap, ap₂, _∙_, subst}
-use mathlib.Core.Bool.{true, false}
+use mathlib.Core.Bool.{Bool, true, false}
 use Prim.Native.Nat.{ℕ, _≤_, _<_, _^_}
 use native.Mathlib.Omega.{arith}
 use borrow.Author.Needs.{needs, sfits-of}
@@ -42,27 +42,31 @@ small : (z : ℤ) → SFits w32 z → natAbs z ≤ 2 ^ 31
 small (pos n) f = let l : n < 2 ^ 31 = f .sfits in omega arith
 small (negsuc n) f = let l : n < 2 ^ 31 = f .sfits in omega arith
 
+-- a unit's test, read back from the unit's bits
+test-of : (t : Bool) {z : ℤ} → SFits w32 z → leZ (toZ w32 (ofZ w32 z)) (pos 0) ≡ t → leZ z (pos 0) ≡ t
+test-of t f e = subst (λ (y : ℤ). leZ y (pos 0) ≡ t) (toZ-ofZ f) e
+
 num-passed : (c : tie.Else1) → Passed (c .before .args .num)
-num-passed c = let s = c .before in passed (s .args .num) (s .fits .num) (simp (toZ-ofZ, s .fits .num) at (c .if1 .left))
+num-passed c = let s = c .before in passed (s .args .num) (s .fits .num) (test-of false (s .fits .num) (c .if1 .left))
 
 den-passed : (c : tie.Else2) → Passed (c .before .before .args .den)
-den-passed c = let s = c .before .before in passed (s .args .den) (s .fits .den) (simp (toZ-ofZ, s .fits .den) at (c .if2 .left))
+den-passed c = let s = c .before .before in passed (s .args .den) (s .fits .den) (test-of false (s .fits .den) (c .if2 .left))
 
 mag-passed : (c : tie.Else3) → Passed (c .before .before .before .args .mag)
-mag-passed c = let s = c .before .before .before in passed (s .args .mag) (s .fits .mag) (simp (toZ-ofZ, s .fits .mag) at (c .if3 .left))
+mag-passed c = let s = c .before .before .before in passed (s .args .mag) (s .fits .mag) (test-of false (s .fits .mag) (c .if3 .left))
 
 returns : tie.Need-returns
-returns c = let s = c .before in simp (failed (s .args .num) (simp (toZ-ofZ, s .fits .num) at (c .if1 .taken)))
+returns c = let s = c .before in simp (failed (s .args .num) (test-of true (s .fits .num) (c .if1 .taken)))
 
 returns-2 : tie.Need-returns-2
 returns-2 c =
     let s = c .before .before in
-    simp (num-passed (c .before) .positive, failed (s .args .den) (simp (toZ-ofZ, s .fits .den) at (c .if2 .taken)))
+    simp (num-passed (c .before) .positive, failed (s .args .den) (test-of true (s .fits .den) (c .if2 .taken)))
 
 returns-3 : tie.Need-returns-3
 returns-3 c =
     let s = c .before .before .before in
-    simp (num-passed (c .before .before) .positive, den-passed (c .before) .positive, failed (s .args .mag) (simp (toZ-ofZ, s .fits .mag) at (c .if3 .taken)))
+    simp (num-passed (c .before .before) .positive, den-passed (c .before) .positive, failed (s .args .mag) (test-of true (s .fits .mag) (c .if3 .taken)))
 
 cast-unit-of : tie.Need-cast-unit-of
 cast-unit-of c = let s = c .before .before .before in rw (toZ-ofZ (s .fits .num)) (num-passed (c .before .before) .cast)
@@ -96,7 +100,7 @@ unit-is c =
     c .unit-of .ensures ∙ simp (toZ-ofZ, s .fits .num, s .fits .den, s .fits .mag)
 
 cast-round : tie.Need-cast-round
-cast-round c = let f = c .before .before .before .before .before .before .before .fits in rw (toZ-ofZ (f .n)) (sfits-widen tt (f .n))
+cast-round c = let f = c .before .before .before .before .before .before .before .fits in subst (SFits w64) (sym (toZ-ofZ (f .n))) (sfits-widen tt (f .n))
 
 -- the distance, cast and read back
 distance-is : (c : tie.After-known-told2) → let s = c .before .before .before .before .before .before .before in toZ w64 (ofZ w64 (toZ w32 (ofZ w32 (s .args .n)))) ≡ s .args .n
