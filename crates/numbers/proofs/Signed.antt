@@ -3,13 +3,13 @@
 --     up, dn, abs-is            the parts, and |z| = up z + dn z
 --     sum, diff, sub            a + b and a − b, and the difference of two natural numbers
 --     abs-sum, abs-diff, abs-gap   |a ± b| ≤ |a| + |b|, and of two natural numbers |a − b| ≤ max a b
---     same                      two numbers are equal where their parts say so
+--     same                      two numbers are equal where their parts say so;  same-number-…  of the test `sameNumber`
 --     lt-yes lt-no le-yes le-no the fact from a test's outcome;  yes-lt no-lt yes-le no-le  the outcome from the fact
 --     fits, read, read-pos      |z| < 2^63: z fits an i64, and is read back from its bits; of a cast u64
 --     sum-fits, diff-fits       for the needs of `a + b` and `a - b` at i64
 --     neg-is, pos-is, sign-neg, sign-pos   what `n < 0` tells of |n| and of `withSign n m`
 use mathlib.Core.Path.{_≡_, refl, sym, ap, _∙_, subst}
-use mathlib.Core.Bool.{Bool, true, false, cond}
+use mathlib.Core.Bool.{Bool, true, false, cond, and-eq-true-iff}
 use Prim.Native.Nat.{ℕ, zero, suc, _+_, _-_, _%_, _≤_, _<_, _^_, max}
 use native.Mathlib.Nat.{zero-add, mod-lt, mod-eq-of-lt}
 use native.Mathlib.Omega.{arith}
@@ -20,7 +20,7 @@ use borrow.Author.Tests.{ltb-true, ltb-false, leb-true, leb-false, lt-ltb, le-lt
 use mir.Syntax.{w64}
 use mir.Val.{SFits, toZ, ofZ}
 use mir.ValLaws.{toZ-ofZ, toZ-pos}
-use Rattle.numbers.specs.Signs.{withSign, fromTwos, toTwos}
+use Rattle.numbers.specs.Signs.{withSign, sameNumber, fromTwos, toTwos}
 
 abbrev pub up : ℤ → ℕ
 up (pos n) = n
@@ -138,6 +138,25 @@ no-le (pos a) (pos b) h = lt-leb a b (omega arith)
 no-le (pos a) (negsuc b) h = refl
 no-le (negsuc a) (pos b) h = absurd (omega arith)
 no-le (negsuc a) (negsuc b) h = lt-leb b a (omega arith)
+
+-- ---- sameness
+
+pub same-number-refl : (a : ℤ) → sameNumber a a ≡ true
+same-number-refl a = let e : leZ a a ≡ true = yes-le a a (omega arith) in and-eq-true-iff (leZ a a) (leZ a a) .1 (e, e)
+
+pub same-number-true : (a b : ℤ) → sameNumber a b ≡ true → a ≡ b
+same-number-true a b e =
+    let both = and-eq-true-iff (leZ a b) (leZ b a) .0 e in
+    same a b (omega (arith, le-yes a b (both .0), le-yes b a (both .1)))
+
+-- a test that says whether two numbers are equal is `sameNumber`
+pub same-number-is : (a b : ℤ) (t : Bool) → (t ≡ true → a ≡ b) → (a ≡ b → t ≡ true) → t ≡ sameNumber a b
+same-number-is a b true f g = sym (subst (λ (z : ℤ). sameNumber a z ≡ true) (f refl) (same-number-refl a))
+same-number-is a b false f g = differ (sameNumber a b) refl
+  where
+    differ : (t : Bool) → sameNumber a b ≡ t → false ≡ t
+    differ true e = g (same-number-true a b e)
+    differ false e = refl
 
 -- ---- machine words
 

@@ -3,7 +3,7 @@ ghost use mathlib.Core.Path.{_≡_};
 ghost use Prim.Native.Nat.{_+_, _≤_, _<_, _^_};
 ghost use lib.ListN.{length};
 ghost use lib.IntN.{pos, natAbs, _-ℤ_};
-ghost use Rattle.numbers.specs.Signs.{withSign, fromTwos, toTwos};
+ghost use Rattle.numbers.specs.Signs.{withSign, sameNumber, fromTwos, toTwos};
 ghost use Rattle.numbers.specs.Bytes.{unsignedAt, signedAt, bytesOf};
 
 // |n|
@@ -20,6 +20,13 @@ pub fn with_sign(n: i64, m: u64) -> i64
     ensures { λ r. ⌜ r ≡ withSign n m ⌝ }
 {
     if n < 0 { 0 - (m as i64) } else { m as i64 }
+}
+
+// whether two numbers are the same
+pub fn same_number(a: i64, b: i64) -> bool
+    ensures { λ r. ⌜ r ≡ sameNumber a b ⌝ }
+{
+    a == b
 }
 
 // a − b
