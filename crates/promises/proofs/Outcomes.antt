@@ -1,21 +1,67 @@
 -- Any two outcomes that an entry's contract allows for the same inputs are equal. Stated of the contracts themselves. Assumes nothing.
-use mathlib.Core.Path.{_≡_, refl, sym, ap, ap₂, _∙_}
+use mathlib.Core.Path.{_≡_, refl, sym, ap, _∙_}
 use Prim.Native.Nat.{ℕ}
-use native.Mathlib.Omega.{arith}
-use lib.IntN.{ℤ}
 use contract.Lifetimes.{Lfts}
 use Rattle.refusals.specs.Answer.{Answer, refused, given}
+use Rattle.widths.specs.LookUp.{LookUp, found, absent}
 use Rattle.reader.specs.declared.Rounded.{Rounded}
 use Rattle.reader.specs.declared.Rounded.the-variants as Rounded
-use Rattle.reader.specs.Answers.{roundedAnswer}
+use Rattle.reader.specs.declared.Scaled.{Scaled}
+use Rattle.reader.specs.declared.Scaled.the-variants as Scaled
+use Rattle.reader.specs.declared.TableChecked.{TableChecked}
+use Rattle.reader.specs.declared.TableChecked.the-variants as TableChecked
+use Rattle.reader.specs.declared.LookedUp.{LookedUp}
+use Rattle.reader.specs.declared.LookedUp.the-variants as LookedUp
+use Rattle.reader.specs.Answers.{roundedAnswer, scaledAnswer, tableAnswer, lookedAnswer}
 use Rattle.reader.proofs.round_distance.Reads as round-distance
+use Rattle.reader.proofs.scale_width.Reads as scale-width
+use Rattle.reader.proofs.check_table.Reads as check-table
+use Rattle.reader.proofs.look_up.Reads as look-up
 
--- what an answer says, it is
-rounded-one : (r s : Rounded) → roundedAnswer r ≡ roundedAnswer s → r ≡ s
-rounded-one (Rounded.To m) (Rounded.To n) e = let d : m ≡ n = cc in ap Rounded.To d
-rounded-one (Rounded.To m) (Rounded.Refused k p) e = let z : _≡_ {A = ℕ} 0 1 = cc in absurd (omega arith)
-rounded-one (Rounded.Refused k p) (Rounded.To n) e = let z : _≡_ {A = ℕ} 0 1 = cc in absurd (omega arith)
-rounded-one (Rounded.Refused j o) (Rounded.Refused k p) e = let d : j ≡ k = cc in let f : o ≡ p = cc in ap₂ Rounded.Refused d f
+-- ---- what an answer says, it is
+
+-- the outcome of an answer: of a refusal, and of a result
+abbrev outcome : {A R : Type 0} → (ℕ → ℕ → R) → (A → R) → Answer A → R
+outcome refusal result (refused number place) = refusal number place
+outcome refusal result (given a) = result a
+
+-- two outcomes that meet the same answer are equal, where an answer has its outcome back
+module _ {A R : Type 0} (answer : R → Answer A) (back : Answer A → R) (back-is : (r : R) → back (answer r) ≡ r) where
+  one : (meaning : Answer A) (r s : R) → answer r ≡ meaning → answer s ≡ meaning → r ≡ s
+  one meaning r s p q = sym (back-is r) ∙ ap back (p ∙ sym q) ∙ back-is s
+
+rounded-back : (r : Rounded) → outcome Rounded.Refused Rounded.To (roundedAnswer r) ≡ r
+rounded-back (Rounded.To n) = refl
+rounded-back (Rounded.Refused number place) = refl
+
+scaled-back : (r : Scaled) → outcome Scaled.Refused Scaled.To (scaledAnswer r) ≡ r
+scaled-back (Scaled.To n) = refl
+scaled-back (Scaled.Refused number place) = refl
+
+table-back : (r : TableChecked) → outcome TableChecked.Refused TableChecked.Right (tableAnswer r) ≡ r
+table-back (TableChecked.Right records) = refl
+table-back (TableChecked.Refused number place) = refl
+
+-- what a look-up that was not refused says
+abbrev looked : LookUp → LookedUp
+looked (found m) = let w = m .width in LookedUp.Found (m .escapement) (w .b0) (w .b1) (w .b2) (w .b3)
+looked absent = LookedUp.Absent
+
+looked-back : (r : LookedUp) → outcome LookedUp.Refused looked (lookedAnswer r) ≡ r
+looked-back (LookedUp.Found escapement b0 b1 b2 b3) = refl
+looked-back LookedUp.Absent = refl
+looked-back (LookedUp.Refused number place) = refl
+
+-- ---- the entries
 
 pub round-distance-outcomes : (κs : Lfts 0) → (a : _) → (r s : Rounded) → (x y : _) → round-distance.Post κs a r x → round-distance.Post κs a s y → r ≡ s
-round-distance-outcomes κs a r s x y p q = rounded-one r s (p ∙ sym q)
+round-distance-outcomes κs a r s x y p q = one roundedAnswer (outcome Rounded.Refused Rounded.To) rounded-back _ r s p q
+
+pub scale-width-outcomes : (κs : Lfts 0) → (a : _) → (r s : Scaled) → (x y : _) → scale-width.Post κs a r x → scale-width.Post κs a s y → r ≡ s
+scale-width-outcomes κs a r s x y p q = one scaledAnswer (outcome Scaled.Refused Scaled.To) scaled-back _ r s p q
+
+pub check-table-outcomes : (κs : Lfts 1) → (a : _) → (r s : TableChecked) → (x y : _) → check-table.Post κs a r x → check-table.Post κs a s y → r ≡ s
+check-table-outcomes κs a r s x y p q = one tableAnswer (outcome TableChecked.Refused TableChecked.Right) table-back _ r s p q
+
+pub look-up-outcomes : (κs : Lfts 1) → (a : _) → (r s : LookedUp) → (x y : _) → look-up.Post κs a r x → look-up.Post κs a s y → r ≡ s
+look-up-outcomes κs a r s x y p q = one lookedAnswer (outcome LookedUp.Refused looked) looked-back _ r s p q

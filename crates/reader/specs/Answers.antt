@@ -1,8 +1,33 @@
 -- What each entry's answer says: document 01's number and place of a refusal, or the values of the result. Assumes nothing.
+use Prim.Native.Nat.{ℕ}
 use lib.IntN.{ℤ}
 use Rattle.refusals.specs.Answer.{Answer, refused, given}
+use Rattle.widths.specs.Scaling.{fixWord}
+use Rattle.widths.specs.LookUp.{LookUp, found, absent}
+use Rattle.reader.specs.declared.Scaled.{Scaled}
+use Rattle.reader.specs.declared.Scaled.the-variants as Scaled
+use Rattle.reader.specs.declared.TableChecked.{TableChecked}
+use Rattle.reader.specs.declared.TableChecked.the-variants as TableChecked
+use Rattle.reader.specs.declared.LookedUp.{LookedUp}
+use Rattle.reader.specs.declared.LookedUp.the-variants as LookedUp
 use Rattle.reader.specs.declared.Rounded.{Rounded}
 use Rattle.reader.specs.declared.Rounded.the-variants as Rounded
+
+-- scale_width: the width
+abbrev pub scaledAnswer : Scaled → Answer ℤ
+scaledAnswer (Scaled.To width) = given width
+scaledAnswer (Scaled.Refused number place) = refused number place
+
+-- check_table: how many records
+abbrev pub tableAnswer : TableChecked → Answer ℕ
+tableAnswer (TableChecked.Right records) = given records
+tableAnswer (TableChecked.Refused number place) = refused number place
+
+-- look_up: escapement and fix word, or absent
+abbrev pub lookedAnswer : LookedUp → Answer LookUp
+lookedAnswer (LookedUp.Found escapement b0 b1 b2 b3) = given (found (record { escapement = escapement; width = fixWord b0 b1 b2 b3 }))
+lookedAnswer LookedUp.Absent = given absent
+lookedAnswer (LookedUp.Refused number place) = refused number place
 
 -- round_distance: the rounded distance
 abbrev pub roundedAnswer : Rounded → Answer ℤ

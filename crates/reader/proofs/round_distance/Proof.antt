@@ -1,23 +1,23 @@
 -- `reader::round_distance` meets its contract: the three units are judged one after the other, then K, and what is left is `units::round`. Assumes nothing.
-use mathlib.Core.Path.{_≡_, refl, sym, ap, ap₂, _∙_, subst}
+use mathlib.Core.Path.{_≡_, sym, ap, _∙_, subst}
 use mathlib.Core.Bool.{Bool, true, false}
-use Prim.Native.Nat.{ℕ, _≤_, _<_, _^_}
+use Prim.Native.Nat.{_<_, _^_}
 use native.Mathlib.Omega.{arith}
 use borrow.Author.Needs.{needs, sfits-of}
-use borrow.Author.Tests.{ltb-true, leb-false}
-use lib.Dec.{T, leb}
+use borrow.Author.Tests.{leb-false}
+use lib.Dec.{T}
 use lib.IntN.{ℤ, pos, negsuc, natAbs}
 use lib.Signed.{ltZ, leZ, nonNeg}
 use mir.Syntax.{w32, w64}
 use mir.Val.{SFits, Fits, toZ, ofZ}
-use mir.Facts.{toZ-ofZ, sfits-widen}
+use mir.Facts.{toZ-ofZ}
 use Rattle.refusals.specs.Answer.{Answer, given, andThen}
-use Rattle.numbers.proofs.Signed.{up, dn, abs-is, le-yes, le-no, no-lt, yes-lt}
+use Rattle.numbers.proofs.Signed.{le-yes, no-lt, yes-lt}
 use Rattle.units.specs.declared.Ratio.{Ratio}
-use Rattle.units.specs.declared.UnitFound.{UnitFound}
 use Rattle.units.specs.Unit.{Units, unitOf, unitAnswer}
 use Rattle.units.specs.Rounding.{rounded, roundedDistance}
 use Rattle.units.proofs.Unit.{accepted}
+use Rattle.reader.proofs.Words.{small, cast-fits, cast-is}
 use Rattle.reader.proofs.round_distance.Statement.{statement}
 use Rattle.reader.proofs.round_distance.Tie as tie
 
@@ -37,10 +37,6 @@ passed (negsuc n) f e = absurd (subst T e tt)
 
 failed : (z : ℤ) → leZ z (pos 0) ≡ true → ltZ (pos 0) z ≡ false
 failed z e = no-lt (pos 0) z (omega (arith, le-yes z (pos 0) e))
-
-small : (z : ℤ) → SFits w32 z → natAbs z ≤ 2 ^ 31
-small (pos n) f = let l : n < 2 ^ 31 = f .sfits in omega arith
-small (negsuc n) f = let l : n < 2 ^ 31 = f .sfits in omega arith
 
 -- a unit's test, read back from the unit's bits
 test-of : (t : Bool) {z : ℤ} → SFits w32 z → leZ (toZ w32 (ofZ w32 z)) (pos 0) ≡ t → leZ z (pos 0) ≡ t
@@ -100,11 +96,11 @@ unit-is c =
     c .unit-of .ensures ∙ simp (toZ-ofZ, s .fits .num, s .fits .den, s .fits .mag)
 
 cast-round : tie.Need-cast-round
-cast-round c = let f = c .before .before .before .before .before .before .before .fits in subst (SFits w64) (sym (toZ-ofZ (f .n))) (sfits-widen tt (f .n))
+cast-round c = cast-fits (c .before .before .before .before .before .before .before .fits .n)
 
 -- the distance, cast and read back
 distance-is : (c : tie.After-known-told2) → let s = c .before .before .before .before .before .before .before in toZ w64 (ofZ w64 (toZ w32 (ofZ w32 (s .args .n)))) ≡ s .args .n
-distance-is c = let f = c .before .before .before .before .before .before .before .fits in simp (toZ-ofZ, f .n, sfits-widen {w = w32} {w′ = w64} tt (f .n))
+distance-is c = cast-is (c .before .before .before .before .before .before .before .fits .n)
 
 -- K was given
 given-is : (c : tie.After-known-told2) → let a = c .before .before .before .before .before .before .before .args in unitOf (natAbs (a .num)) (natAbs (a .den)) (natAbs (a .mag)) (a .resolution) ≡ given (c .before .k .given .0 .0)

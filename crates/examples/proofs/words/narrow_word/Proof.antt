@@ -1,8 +1,8 @@
--- `examples::narrow_word` meets its contract: 32 bits fit 64. Assumes nothing.
+-- `examples::words::narrow_word` meets its contract: 32 bits fit 64. Assumes nothing.
 use borrow.Author.Needs.{needs}
 use mir.Facts.{toZ-ofZ, sfits-widen}
-use Rattle.examples.proofs.narrow_word.Statement.{statement}
-use Rattle.examples.proofs.narrow_word.Tie as tie
+use Rattle.examples.proofs.words.narrow_word.Statement.{statement}
+use Rattle.examples.proofs.words.narrow_word.Tie as tie
 
 cast-word : tie.Need-cast-word
 cast-word c = rw (toZ-ofZ (c .fits .n)) (sfits-widen tt (c .fits .n))

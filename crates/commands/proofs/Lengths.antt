@@ -1,0 +1,189 @@
+-- The lengths of parameters: the table's rule by kinds, which kinds have a length inside, and that only bytes inside the parameters are looked at.
+-- Assumes nothing.
+use mathlib.Core.Path.{_≡_, refl, ap, ap₂, sym, _∙_}
+use mathlib.Core.Bool.{Bool, true, false, _&&_, true≢false}
+use mathlib.Core.List.{List, _++_}
+use mathlib.Core.Logic.{⊎-elim}
+use Prim.Native.Nat.{ℕ, _+_, _-_, _<_, _≤_}
+use native.Mathlib.Omega.{arith}
+use lib.Dec.{leb}
+use lib.ListN.{length, getD, take, drop, List·getD-append, List·getD-eq-default, take-append-drop}
+use lib.Seq.{length-take-le}
+use borrow.Author.Tests.{le-ltb}
+use Rattle.numbers.specs.Bytes.{unsignedAt}
+use Rattle.numbers.proofs.Bytes.{unsigned-front}
+use Rattle.commands.specs.declared.Kind.{Kind}
+use Rattle.commands.specs.declared.Kind.the-variants.{SetCharacter, SetRule, PutCharacter, PutRule, Nop, Bop, Eop, Push, Pop, Right, W, X, Down, Y, Z, Select, Special, Define, Pre, Post, PostPost, Undefined}
+use Rattle.commands.specs.Kinds.{kindOf}
+use Rattle.commands.specs.Lengths.{lengths, fixedLength, innerLengthOf, innerLength, sizeOf}
+use Rattle.commands.specs.Commands.{Command, Whole, kindOfCommand}
+use Rattle.commands.proofs.Ranges.{below-or-not, constant-on, equal-on, between-on}
+use Rattle.commands.proofs.Opcodes.{first, last, range-kind, kind-from, from-250}
+
+-- ---- the table's rule; a difference is 0 where it would be negative
+
+abbrev pub fixedBy : Kind → ℕ → ℕ
+fixedBy SetCharacter opcode = opcode - 127
+fixedBy SetRule opcode = 8
+fixedBy PutCharacter opcode = opcode - 132
+fixedBy PutRule opcode = 8
+fixedBy Nop opcode = 0
+fixedBy Bop opcode = 44
+fixedBy Eop opcode = 0
+fixedBy Push opcode = 0
+fixedBy Pop opcode = 0
+fixedBy Right opcode = opcode - 142
+fixedBy W opcode = opcode - 147
+fixedBy X opcode = opcode - 152
+fixedBy Down opcode = opcode - 156
+fixedBy Y opcode = opcode - 161
+fixedBy Z opcode = opcode - 166
+fixedBy Select opcode = opcode - 234
+fixedBy Special opcode = opcode - 238
+fixedBy Define opcode = opcode - 228
+fixedBy Pre opcode = 14
+fixedBy Post opcode = 28
+fixedBy PostPost opcode = 5
+fixedBy Undefined opcode = 0
+
+fixed-beyond : (opcode : ℕ) → 250 ≤ opcode → fixedLength opcode ≡ 0
+unfolding fixedLength lengths
+fixed-beyond opcode h = rw (le-ltb opcode 128 (omega arith)) (List·getD-eq-default lengths 0 {n = opcode - 128} (omega arith))
+
+pub fixed-of : {k : Kind} (opcode : ℕ) → kindOf opcode ≡ k → fixedLength opcode ≡ fixedBy k opcode
+fixed-of {k} opcode e = ⊎-elim inside beyond (below-or-not opcode 250) ∙ ap (λ (kind-is : Kind). fixedBy kind-is opcode) e
+  where
+    inside : opcode < 250 → fixedLength opcode ≡ fixedBy (kindOf opcode) opcode
+    inside h = equal-on fixedLength (λ x. fixedBy (kindOf x) x) 0 250 (unfold fixedLength lengths kindOf in refl) (omega arith) (omega arith)
+
+    beyond : 250 ≤ opcode → fixedLength opcode ≡ fixedBy (kindOf opcode) opcode
+    beyond h = rw (from-250 opcode h) (fixed-beyond opcode h)
+
+-- a kind's first opcode has the fewest parameter bytes, its last the most
+pub fixed-between : {k : Kind} (opcode : ℕ) → opcode < 250 → kindOf opcode ≡ k → (fixedBy k (first k) ≤ fixedLength opcode) × (fixedLength opcode ≤ fixedBy k (last k))
+fixed-between opcode h e =
+    rw e at (between-on fixedLength (λ x. fixedBy (kindOf x) (first (kindOf x))) (λ x. fixedBy (kindOf x) (last (kindOf x))) 0 250 (unfold fixedLength lengths kindOf in refl) {x = opcode} (omega arith) (omega arith))
+
+-- ---- lengths inside a command
+
+-- the kinds that have one are special, define and pre, whose opcodes stand together
+abbrev pub hasInner : Kind → Bool
+hasInner k = leb 239 (first k) && leb (first k) 247
+
+module _ (opcode : ℕ) (params : List ℕ) where
+  inner-undefined : kindOf opcode ≡ Undefined → innerLength opcode params ≡ 0
+  unfolding innerLength innerLengthOf
+  inner-undefined e = rw e
+
+  pub inner-special : kindOf opcode ≡ Special → innerLength opcode params ≡ unsignedAt params 0 (opcode - 238)
+  unfolding innerLength innerLengthOf
+  inner-special e = rw e
+
+  pub inner-define : kindOf opcode ≡ Define → innerLength opcode params ≡ getD params (opcode - 230) 0 + getD params (opcode - 229) 0
+  unfolding innerLength innerLengthOf
+  inner-define e = rw e
+
+  pub inner-pre : kindOf opcode ≡ Pre → innerLength opcode params ≡ getD params 13 0
+  unfolding innerLength innerLengthOf
+  inner-pre e = rw e
+
+  pub inner-below : opcode < 239 → innerLength opcode params ≡ 0
+  inner-below l = constant-on (λ x. innerLength x params) 0 0 239 (unfold innerLength innerLengthOf kindOf in refl) (omega arith) (omega arith)
+
+  pub inner-above : 248 ≤ opcode → innerLength opcode params ≡ 0
+  inner-above h = ⊎-elim defined (λ beyond. inner-undefined (from-250 opcode beyond)) (below-or-not opcode 250)
+    where
+      defined : opcode < 250 → innerLength opcode params ≡ 0
+      defined l = constant-on (λ x. innerLength x params) 0 248 2 (unfold innerLength innerLengthOf kindOf in refl) h (omega arith)
+
+-- an opcode has no length inside, or is of one of the three kinds
+data Inner (opcode : ℕ) : Type 0 where
+  none : ((params : List ℕ) → innerLength opcode params ≡ 0) → Inner opcode
+  special : kindOf opcode ≡ Special → Inner opcode
+  define : kindOf opcode ≡ Define → Inner opcode
+  pre : kindOf opcode ≡ Pre → Inner opcode
+
+inner-cases : (opcode : ℕ) → Inner opcode
+inner-cases opcode = ⊎-elim (λ l. none (λ params. inner-below opcode params l)) from-special (below-or-not opcode 239)
+  where
+    from-pre : 247 ≤ opcode → Inner opcode
+    from-pre h = ⊎-elim (λ l. pre (range-kind Pre h (omega arith))) (λ g. none (λ params. inner-above opcode params g)) (below-or-not opcode 248)
+
+    from-define : 243 ≤ opcode → Inner opcode
+    from-define h = ⊎-elim (λ l. define (range-kind Define h (omega arith))) from-pre (below-or-not opcode 247)
+
+    from-special : 239 ≤ opcode → Inner opcode
+    from-special h = ⊎-elim (λ l. special (range-kind Special h (omega arith))) from-define (below-or-not opcode 243)
+
+pub inner-none : {k : Kind} (opcode : ℕ) (params : List ℕ) → kindOf opcode ≡ k → hasInner k ≡ false → innerLength opcode params ≡ 0
+inner-none {k} opcode params e plain = go (inner-cases opcode)
+  where
+    clash : {other : Kind} → kindOf opcode ≡ other → hasInner other ≡ true → innerLength opcode params ≡ 0
+    clash other-is inner-there = absurd (true≢false (sym inner-there ∙ ap hasInner (sym other-is ∙ e) ∙ plain))
+
+    go : Inner opcode → innerLength opcode params ≡ 0
+    go (none zero-at) = zero-at params
+    go (special s) = clash s refl
+    go (define d) = clash d refl
+    go (pre p) = clash p refl
+
+-- ---- only bytes inside the parameters are looked at
+
+module _ (opcode : ℕ) (params more : List ℕ) (long : fixedLength opcode ≤ length params) where
+  byte-append : (index : ℕ) → index < fixedLength opcode → getD (params ++ more) index 0 ≡ getD params index 0
+  byte-append index h = List·getD-append params more 0 index (omega arith)
+
+  inner-append : innerLength opcode (params ++ more) ≡ innerLength opcode params
+  inner-append = go (inner-cases opcode)
+    where
+      go : Inner opcode → innerLength opcode (params ++ more) ≡ innerLength opcode params
+      go (none zero-at) = zero-at (params ++ more) ∙ sym (zero-at params)
+      go (special s) =
+          inner-special opcode (params ++ more) s
+          ∙ unsigned-front params more 0 (opcode - 238) (omega (arith, fixed-of opcode s))
+          ∙ sym (inner-special opcode params s)
+      go (define d) =
+          inner-define opcode (params ++ more) d
+          ∙ ap₂ _+_ (byte-append (opcode - 230) (omega (arith, fixed-of opcode d, kind-from opcode d))) (byte-append (opcode - 229) (omega (arith, fixed-of opcode d, kind-from opcode d)))
+          ∙ sym (inner-define opcode params d)
+      go (pre p) =
+          inner-pre opcode (params ++ more) p ∙ byte-append 13 (omega (arith, fixed-of opcode p)) ∙ sym (inner-pre opcode params p)
+
+  pub size-append : sizeOf opcode (params ++ more) ≡ sizeOf opcode params
+  unfolding sizeOf
+  size-append = ap (λ (inner : ℕ). fixedLength opcode + inner) inner-append
+
+pub fixed-within : (opcode : ℕ) (params : List ℕ) → fixedLength opcode ≤ sizeOf opcode params
+unfolding sizeOf
+fixed-within opcode params = omega arith
+
+-- cut where its own size says, a list keeps that size
+pub size-take : (opcode : ℕ) (bytes : List ℕ) → sizeOf opcode bytes ≤ length bytes → sizeOf opcode (take (sizeOf opcode bytes) bytes) ≡ sizeOf opcode bytes
+size-take opcode bytes fits =
+    let cut-length : length (take (sizeOf opcode bytes) bytes) ≡ sizeOf opcode bytes = length-take-le (sizeOf opcode bytes) bytes fits in
+    sym (size-append opcode (take (sizeOf opcode bytes) bytes) (drop (sizeOf opcode bytes) bytes) (omega (arith, fixed-within opcode bytes)))
+    ∙ ap (sizeOf opcode) (take-append-drop (sizeOf opcode bytes) bytes)
+
+-- ---- of a whole command
+
+module _ (c : Command) (w : Whole c) where
+  pub whole-size : length (c .params) ≡ fixedLength (c .opcode) + innerLength (c .opcode) (c .params)
+  unfolding sizeOf
+  whole-size = w .exact
+
+  pub whole-fixed : fixedLength (c .opcode) ≤ length (c .params)
+  whole-fixed = omega (arith, whole-size)
+
+  module _ {k : Kind} (e : kindOfCommand c ≡ k) (plain : hasInner k ≡ false) where
+    pub whole-exact : length (c .params) ≡ fixedLength (c .opcode)
+    whole-exact = omega (arith, whole-size, inner-none (c .opcode) (c .params) e plain)
+
+    pub whole-plain : length (c .params) ≡ fixedBy k (c .opcode)
+    whole-plain = whole-exact ∙ fixed-of (c .opcode) e
+
+    pub whole-at-most : length (c .params) ≤ fixedBy k (last k)
+    whole-at-most = omega (arith, whole-exact, fixed-between (c .opcode) (w .defined) e)
+
+-- a character's code has at most four bytes, and a bop 44
+shown : (c : Command) → Whole c → (kindOfCommand c ≡ SetCharacter → length (c .params) ≤ 4) × (kindOfCommand c ≡ Bop → length (c .params) ≡ 44)
+shown c w = (λ e. whole-at-most c w e refl, λ e. whole-plain c w e refl)

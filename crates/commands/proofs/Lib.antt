@@ -1,0 +1,6 @@
+pub mod Places
+pub mod Ranges
+pub mod Opcodes
+pub mod Lengths
+pub mod Fronts
+pub mod Readings

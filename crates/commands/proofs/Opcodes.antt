@@ -1,0 +1,95 @@
+-- The kinds and their opcodes: an opcode lies in the range of its kind, and each opcode of a kind's range is of that kind. Assumes nothing.
+use mathlib.Core.Path.{_≡_, refl}
+use mathlib.Core.Bool.{true, false}
+use mathlib.Core.Logic.{⊎-elim, _↔_}
+use Prim.Native.Nat.{ℕ, suc, _-_, _<_, _≤_}
+use native.Mathlib.Omega.{arith}
+use lib.Dec.{ltb, leb}
+use lib.ListN.{replicate}
+use borrow.Author.Tests.{leb-true, le-ltb}
+use Rattle.commands.specs.declared.Kind.{Kind}
+use Rattle.commands.specs.declared.Kind.the-variants.{SetCharacter, SetRule, PutCharacter, PutRule, Nop, Bop, Eop, Push, Pop, Right, W, X, Down, Y, Z, Select, Special, Define, Pre, Post, PostPost, Undefined}
+use Rattle.commands.specs.Kinds.{kindOf}
+use Rattle.commands.proofs.Ranges.{below-or-not, values, constant-on, between-on}
+
+-- the first and the last opcode of a kind
+abbrev pub bounds : Kind → ℕ × ℕ
+bounds SetCharacter = (0, 131)
+bounds SetRule = (132, 132)
+bounds PutCharacter = (133, 136)
+bounds PutRule = (137, 137)
+bounds Nop = (138, 138)
+bounds Bop = (139, 139)
+bounds Eop = (140, 140)
+bounds Push = (141, 141)
+bounds Pop = (142, 142)
+bounds Right = (143, 146)
+bounds W = (147, 151)
+bounds X = (152, 156)
+bounds Down = (157, 160)
+bounds Y = (161, 165)
+bounds Z = (166, 170)
+bounds Select = (171, 238)
+bounds Special = (239, 242)
+bounds Define = (243, 246)
+bounds Pre = (247, 247)
+bounds Post = (248, 248)
+bounds PostPost = (249, 249)
+bounds Undefined = (250, 255)
+
+abbrev pub first : Kind → ℕ
+first k = bounds k .0
+
+abbrev pub last : Kind → ℕ
+last k = bounds k .1
+
+-- an opcode lies in the range of its kind
+pub kind-range : {k : Kind} (opcode : ℕ) → opcode < 256 → kindOf opcode ≡ k → (first k ≤ opcode) × (opcode ≤ last k)
+kind-range opcode h e = rw e at (between-on (λ x. x) (λ x. first (kindOf x)) (λ x. last (kindOf x)) 0 256 (unfold kindOf in refl) {x = opcode} (omega arith) (omega arith))
+
+-- each opcode of a kind's range is of that kind
+abbrev count : Kind → ℕ
+count k = suc (last k) - first k
+
+range-values : (k : Kind) → values kindOf (first k) (count k) ≡ replicate (count k) k
+unfolding kindOf
+range-values SetCharacter = refl
+range-values SetRule = refl
+range-values PutCharacter = refl
+range-values PutRule = refl
+range-values Nop = refl
+range-values Bop = refl
+range-values Eop = refl
+range-values Push = refl
+range-values Pop = refl
+range-values Right = refl
+range-values W = refl
+range-values X = refl
+range-values Down = refl
+range-values Y = refl
+range-values Z = refl
+range-values Select = refl
+range-values Special = refl
+range-values Define = refl
+range-values Pre = refl
+range-values Post = refl
+range-values PostPost = refl
+range-values Undefined = refl
+
+pub range-kind : (k : Kind) {opcode : ℕ} → first k ≤ opcode → opcode ≤ last k → kindOf opcode ≡ k
+range-kind k h l = constant-on kindOf k (first k) (count k) (range-values k) h (omega arith)
+
+-- the undefined opcodes are those from 250 on
+pub from-250 : (opcode : ℕ) → 250 ≤ opcode → kindOf opcode ≡ Undefined
+unfolding kindOf
+from-250 opcode h = simp past
+  where
+    past : (bound : ℕ) → leb bound 250 ≡ true → ltb opcode bound ≡ false
+    past bound t = le-ltb opcode bound (omega (arith, leb-true bound 250 t))
+
+-- a kind's opcodes begin at its first, however large the number
+pub kind-from : {k : Kind} (opcode : ℕ) → kindOf opcode ≡ k → first k ≤ opcode
+kind-from opcode e = ⊎-elim (λ h. kind-range opcode h e .0) (λ h. rw (← e, from-250 opcode (omega arith)) (omega arith)) (below-or-not opcode 256)
+
+pub undefined-iff : (opcode : ℕ) → (kindOf opcode ≡ Undefined) ↔ (250 ≤ opcode)
+undefined-iff opcode = (kind-from opcode, from-250 opcode)

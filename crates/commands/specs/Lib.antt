@@ -1,0 +1,5 @@
+pub mod Kinds
+pub mod Lengths
+pub mod Commands
+pub mod Parameters
+pub mod Reading

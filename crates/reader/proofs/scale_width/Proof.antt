@@ -1,0 +1,53 @@
+-- `reader::scale_width` meets its contract: the scale is judged, then the first byte, and what is left is `widths::scaling::scale_width`. Assumes nothing.
+use mathlib.Core.Path.{_≡_, sym, ap, _∙_}
+use mathlib.Core.Bool.{true, false}
+use borrow.Author.Needs.{needs, sfits-of}
+use borrow.Author.Tests.{not-true, not-false}
+use mir.Facts.{toZ-ofZ}
+use Rattle.refusals.specs.Answer.{given}
+use Rattle.widths.specs.Scaling.{lawfulScale, lawfulFirst}
+use Rattle.reader.proofs.scale_width.Statement.{statement}
+use Rattle.reader.proofs.scale_width.Tie as tie
+
+lawful-scale-requires : tie.Need-lawful-scale-requires
+lawful-scale-requires c κs = search needs
+
+scale-fails : (c : tie.Then1) → lawfulScale (c .before .before .args .scale) ≡ false
+scale-fails c = sym (c .before .lawful-scale .ensures) ∙ not-true (c .before .lawful-scale .result) (c .if1 .taken)
+
+scale-passes : (c : tie.Else1) → lawfulScale (c .before .before .args .scale) ≡ true
+scale-passes c = sym (c .before .lawful-scale .ensures) ∙ not-false (c .before .lawful-scale .result) (c .if1 .left)
+
+returns : tie.Need-returns
+returns c = simp (scale-fails c)
+
+lawful-first-requires : tie.Need-lawful-first-requires
+lawful-first-requires c κs = search needs
+
+first-fails : (c : tie.Then2) → lawfulFirst (c .before .before .before .before .args .b0) ≡ false
+first-fails c = sym (c .before .lawful-first .ensures) ∙ not-true (c .before .lawful-first .result) (c .if2 .taken)
+
+first-passes : (c : tie.Else2) → lawfulFirst (c .before .before .before .before .args .b0) ≡ true
+first-passes c = sym (c .before .lawful-first .ensures) ∙ not-false (c .before .lawful-first .result) (c .if2 .left)
+
+returns-2 : tie.Need-returns-2
+returns-2 c = simp (scale-passes (c .before .before), first-fails c)
+
+scale-width-requires : tie.Need-scale-width-requires
+scale-width-requires c κs = (scale-passes (c .before .before), first-passes c)
+
+returns-3 : tie.Need-returns-3
+returns-3 c =
+    simp (scale-passes (c .before .before .before), first-passes (c .before))
+    (ap given (toZ-ofZ (sfits-of (c .scale-width .ok)) ∙ c .scale-width .ensures))
+
+pub scale-width-spec : {M : Type 1} → statement M
+scale-width-spec =
+    tie.close
+    (tie.spec
+    lawful-scale-requires
+    returns
+    lawful-first-requires
+    returns-2
+    scale-width-requires
+    returns-3)

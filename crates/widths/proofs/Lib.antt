@@ -1,0 +1,6 @@
+pub mod Halving
+pub mod Keys
+pub mod TableLaws
+pub mod Search
+pub mod Hint
+pub mod AsBytes

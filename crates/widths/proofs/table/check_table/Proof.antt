@@ -1,0 +1,101 @@
+-- `widths::table::check_table` meets its contract. Assumes nothing.
+use Prim.Native.Nat.{ℕ, _+_, _-_, _*_, _≤_}
+use mathlib.Core.Path.{_≡_, sym, ap, subst, _∙_}
+use native.Mathlib.Omega.{arith}
+use borrow.Author.Tests.{not-true, not-false}
+use lib.Dec.{ltb}
+use lib.ListN.{length}
+use denote.Ref.{now}
+use Rattle.widths.specs.Table.{recordSize, recordOf}
+use Rattle.widths.specs.Steps.{keyNumber}
+use Rattle.widths.proofs.TableLaws.{Checking, check-starts, check-ends, check-cut, check-low, check-unlawful, check-turns, key-here}
+use Rattle.widths.proofs.table.check_table.Statement.{statement}
+use Rattle.widths.proofs.table.check_table.Tie as tie
+
+abbrev Inv-loop : tie.InvT-loop
+Inv-loop table at₀ least₀ at least = (at ≤ length table) × (least .code ≤ 256) × Checking table at (keyNumber least)
+
+abbrev μ-loop : tie.MeasureT-loop
+μ-loop table at₀ least₀ at least = length table - at
+
+loop-holds : tie.Need-loop-holds Inv-loop μ-loop
+loop-holds c = (omega arith, omega arith, check-starts (now (c .before .args .table)))
+
+sub-if1 : tie.Need-sub-if1 Inv-loop μ-loop
+sub-if1 c = omega arith
+
+returns : tie.Need-returns Inv-loop μ-loop
+returns c =
+    let l = c .before .before .loop in
+    check-cut (now (c .before .before .before .before .args .table)) (l .at) (keyNumber (l .least)) (l .inv .2) (c .before .loop-test .taken) (omega arith)
+
+key-at-requires : tie.Need-key-at-requires Inv-loop μ-loop
+key-at-requires c κs = omega arith
+
+below-requires : tie.Need-below-requires Inv-loop μ-loop
+below-requires c κs = (c .key-at .ensures .code-below, c .before .before .before .loop .inv .1)
+
+-- the test of the rise, on the record's key
+below-test : (c : tie.After-below Inv-loop μ-loop) → c .below .result ≡ ltb (recordOf (now (c .before .before .before .before .before .before .args .table)) (c .before .before .before .before .loop .inv .2 .index) .key) (keyNumber (c .before .before .before .before .loop .least))
+below-test c =
+    let l = c .before .before .before .before .loop in
+    c .below .ensures ∙ ap (λ (n : ℕ). ltb n (keyNumber (l .least))) (key-here (now (c .before .before .before .before .before .before .args .table)) (l .at) (keyNumber (l .least)) (l .inv .2) (c .before .key-at .result) (c .before .key-at .ensures))
+
+returns-2 : tie.Need-returns-2 Inv-loop μ-loop
+returns-2 c =
+    let l = c .before .before .before .before .before .loop in
+    check-low (now (c .before .before .before .before .before .before .before .args .table)) (l .at) (keyNumber (l .least)) (l .inv .2) (omega arith) (sym (below-test (c .before)) ∙ c .if2 .taken)
+
+lawful-fields-requires : tie.Need-lawful-fields-requires Inv-loop μ-loop
+lawful-fields-requires c κs = omega arith
+
+returns-3 : tie.Need-returns-3 Inv-loop μ-loop
+returns-3 c =
+    let l = c .before .before .before .before .before .before .before .loop in
+    check-unlawful (now (c .before .before .before .before .before .before .before .before .before .args .table)) (l .at) (keyNumber (l .least)) (l .inv .2) (omega arith)
+    (sym (below-test (c .before .before .before)) ∙ c .before .before .if2 .left) (sym (c .before .lawful-fields .ensures) ∙ not-true _ (c .if3 .taken))
+
+add-next-code : tie.Need-add-next-code Inv-loop μ-loop
+add-next-code c = omega arith
+
+add-at : tie.Need-add-at Inv-loop μ-loop
+add-at c = omega arith
+
+loop-less : tie.Need-loop-less Inv-loop μ-loop
+loop-less c = omega arith
+
+loop-again : tie.Need-loop-again Inv-loop μ-loop
+loop-again c =
+    let table = now (c .before .before .before .before .before .before .before .before .before .before .args .table) in
+    let l = c .before .before .before .before .before .before .before .before .loop in
+    let key = c .before .before .before .before .before .key-at in
+    let next : Checking table (l .at + recordSize) (recordOf table (l .inv .2 .index) .key + 1) =
+    check-turns table (l .at) (keyNumber (l .least)) (l .inv .2) (omega arith) (sym (below-test (c .before .before .before .before)) ∙ c .before .before .before .if2 .left) (sym (c .before .before .lawful-fields .ensures) ∙ not-false _ (c .before .if3 .left)) in
+    let e : recordOf table (l .inv .2 .index) .key + 1 ≡ key .result .head * 256 + (key .result .code + 1) =
+    omega (arith, key-here table (l .at) (keyNumber (l .least)) (l .inv .2) (key .result) (key .ensures)) in
+    (omega arith, omega (arith, key .ensures .code-below), subst (Checking table (l .at + recordSize)) e next)
+
+returns-4 : tie.Need-returns-4 Inv-loop μ-loop
+returns-4 c =
+    let l = c .before .loop in
+    check-ends (now (c .before .before .before .args .table)) (l .at) (keyNumber (l .least)) (l .inv .2) (c .loop-test .left)
+
+pub check-table-spec : {M : Type 1} → statement M
+check-table-spec =
+    tie.close
+    (tie.spec
+    Inv-loop
+    μ-loop
+    loop-holds
+    sub-if1
+    returns
+    key-at-requires
+    below-requires
+    returns-2
+    lawful-fields-requires
+    returns-3
+    add-next-code
+    add-at
+    loop-less
+    loop-again
+    returns-4)

@@ -1,0 +1,44 @@
+-- "looking up a character (by check sum, scale, code mod 256: escapement, fix word)". Assumes nothing.
+use Prim.Native.Nat.{ℕ, zero, suc}
+use mathlib.Core.Bool.{Bool, cond, _&&_}
+use mathlib.Core.List.{List}
+use lib.Dec.{eqb}
+use lib.IntN.{ℤ}
+use Rattle.refusals.specs.Answer.{Answer, given, andThen}
+use Rattle.numbers.specs.Signs.{toTwos}
+use Rattle.widths.specs.declared.Metric.{Metric}
+use Rattle.widths.specs.Table.{WidthRecord, recordOf, checkedTable}
+
+-- "Looking up an absent character is a result named absent"
+pub data LookUp : Type 0 where
+  found : Metric → LookUp
+  absent : LookUp
+
+-- "by code mod 256 (0 to 255)": −1 is 255
+abbrev pub codeByte : ℤ → ℕ
+codeByte code = toTwos 256 code
+
+-- "escapement, fix word" of a record
+abbrev pub metricOf : WidthRecord → Metric
+metricOf r = record { escapement = r .escapement; width = r .width }
+
+-- "A font finds its records by check sum and s"
+abbrev pub isFor : WidthRecord → ℕ → ℕ → ℕ → Bool
+isFor r checksum scale byte = eqb (r .checksum) checksum && (eqb (r .scale) scale && eqb (r .code) byte)
+
+-- a plain walk over so many records from an index on: the first that is for the character
+unfoldable pub walkFrom : ℕ → List ℕ → ℕ → ℕ → ℕ → ℕ → LookUp
+walkFrom zero table index checksum scale byte = absent
+walkFrom (suc left) table index checksum scale byte =
+    cond (isFor (recordOf table index) checksum scale byte)
+    (found (metricOf (recordOf table index)))
+    (walkFrom left table (suc index) checksum scale byte)
+
+-- the walk over a table of so many records
+abbrev pub walk : ℕ → List ℕ → ℕ → ℕ → ℕ → LookUp
+walk records table checksum scale byte = walkFrom records table 0 checksum scale byte
+
+-- the table is judged first: "table check and look-up give 14"
+abbrev pub lookedUp : List ℕ → ℕ → ℕ → ℤ → Answer LookUp
+lookedUp table checksum scale code =
+    andThen (checkedTable table) (λ records. given (walk records table checksum scale (codeByte code)))

@@ -1,0 +1,54 @@
+-- What the code's own steps give and keep; no promise cites this. Assumes nothing.
+use Prim.Native.Nat.{ℕ, _+_, _*_, _^_, _≤_, _<_}
+use mathlib.Core.Path.{_≡_}
+use mathlib.Core.List.{List}
+use lib.ListN.{getD}
+use Rattle.refusals.specs.Numbers.{wrongWidthTable}
+use Rattle.refusals.specs.Answer.{Answer, refused, given}
+use Rattle.numbers.specs.Bytes.{unsignedAt}
+use Rattle.widths.specs.declared.Halved.{Halved}
+use Rattle.widths.specs.declared.table.Key.{Key}
+use Rattle.widths.specs.declared.table.Table.{Table}
+use Rattle.widths.specs.declared.table.Table.the-variants.{Right, Wrong}
+use Rattle.widths.specs.declared.table.Place.{Place}
+use Rattle.widths.specs.declared.table.Place.the-variants.{At, Nowhere}
+use Rattle.widths.specs.Table.{recordOf}
+use Rattle.widths.specs.LookUp.{LookUp, found, absent, metricOf}
+
+-- z and α after the halving
+pub record Narrow (k : Halved) : Type 0 where
+  pub z-small : k .z < 8388608
+  pub alpha-some : 1 ≤ k .alpha
+  pub alpha-small : k .alpha ≤ 256
+
+-- a key as the number of its nine bytes
+abbrev pub keyNumber : Key → ℕ
+keyNumber k = k .head * 256 + k .code
+
+-- k is the key of the record at a place
+pub record KeyAt (table : List ℕ) (at : ℕ) (k : Key) : Type 0 where
+  pub head-is : k .head ≡ unsignedAt table at 4 * 2 ^ 32 + unsignedAt table (at + 4) 4
+  pub scale-below : unsignedAt table (at + 4) 4 < 2 ^ 32
+  pub code-is : k .code ≡ getD table (at + 8) 0
+  pub code-below : k .code < 256
+
+-- the check's answer: 14 at the place of the first wrong record, or how many records
+abbrev pub tableAnswer : Table → Answer ℕ
+tableAnswer (Right records) = given records
+tableAnswer (Wrong place) = refused wrongWidthTable place
+
+-- what stands at the place that a search found
+abbrev pub foundAt : List ℕ → Place → LookUp
+foundAt table (At index) = found (metricOf (recordOf table index))
+foundAt table Nowhere = absent
+
+-- a place that a search found is one of the records
+abbrev pub Among : ℕ → Place → Type 0
+Among records (At index) = index < records
+Among records Nowhere = Unit {0}
+
+-- the first of so many records whose key is not below a key
+pub record FirstNotBelow (table : List ℕ) (records key index : ℕ) : Type 0 where
+  pub bound : index ≤ records
+  pub below : (j : ℕ) → j < index → recordOf table j .key < key
+  pub above : (j : ℕ) → index ≤ j → j < records → key ≤ recordOf table j .key
