@@ -4,6 +4,15 @@ use lib.IntN.{ℤ}
 use Rattle.refusals.specs.Answer.{Answer, refused, given}
 use Rattle.widths.specs.Scaling.{fixWord}
 use Rattle.widths.specs.LookUp.{LookUp, found, absent}
+use Rattle.commands.specs.declared.Reading.{Reading}
+use Rattle.volume.specs.declared.Summary.{Summary}
+use Rattle.volume.specs.declared.Part.{Part}
+use Rattle.reader.specs.declared.CommandRead.{CommandRead}
+use Rattle.reader.specs.declared.CommandRead.the-variants as CommandRead
+use Rattle.reader.specs.declared.FileChecked.{FileChecked}
+use Rattle.reader.specs.declared.FileChecked.the-variants as FileChecked
+use Rattle.reader.specs.declared.NamePlace.{NamePlace}
+use Rattle.reader.specs.declared.NamePlace.the-variants as NamePlace
 use Rattle.reader.specs.declared.Scaled.{Scaled}
 use Rattle.reader.specs.declared.Scaled.the-variants as Scaled
 use Rattle.reader.specs.declared.TableChecked.{TableChecked}
@@ -12,6 +21,26 @@ use Rattle.reader.specs.declared.LookedUp.{LookedUp}
 use Rattle.reader.specs.declared.LookedUp.the-variants as LookedUp
 use Rattle.reader.specs.declared.Rounded.{Rounded}
 use Rattle.reader.specs.declared.Rounded.the-variants as Rounded
+
+-- read_command: the opcode, where its parameters start, and the place after them
+abbrev pub commandAnswer : CommandRead → Answer Reading
+commandAnswer (CommandRead.Command opcode start next) = given (record { opcode = opcode; start = start; next = next })
+commandAnswer (CommandRead.Refused number place) = refused number place
+
+-- check_file: "the number of pages, the number of fonts, the greatest stack depth and the place of post"
+abbrev pub fileAnswer : FileChecked → Answer Summary
+fileAnswer (FileChecked.Accepted pages fonts depth post) = given (record { pages = pages; fonts = fonts; depth = depth; post = post })
+fileAnswer (FileChecked.Refused number place) = refused number place
+
+-- the file is accepted
+abbrev pub Accepts : FileChecked → Type 0
+Accepts (FileChecked.Accepted pages fonts depth post) = Unit {0}
+Accepts (FileChecked.Refused number place) = ⊥
+
+-- font_name_place: the part of the file that holds the name
+abbrev pub nameAnswer : NamePlace → Answer Part
+nameAnswer (NamePlace.At start end) = given (record { start = start; end = end })
+nameAnswer (NamePlace.Refused number place) = refused number place
 
 -- scale_width: the width
 abbrev pub scaledAnswer : Scaled → Answer ℤ

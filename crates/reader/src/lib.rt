@@ -1,16 +1,124 @@
 // The front door: every public entry, and nothing else. None has a `requires`: what an input breaks is refused, by number and place.
+use commands::Read;
 use units::UnitFound;
+use volume::Checked;
+use volume::Named;
+use volume::names;
+use volume::scanning;
 use widths::FixWord;
 use widths::scaling;
 use widths::table;
 use widths::table::Place;
 use widths::table::Table;
 ghost use mathlib.Core.Path.{_≡_};
+ghost use mathlib.Core.Logic.{_↔_};
+ghost use Rattle.commands.specs.Reading.{commandRead};
+ghost use Rattle.volume.specs.Lawful.{Lawful};
+ghost use Rattle.volume.specs.Judged.{judged};
+ghost use Rattle.volume.specs.Names.{namePlace, nameOf};
 ghost use Rattle.units.specs.Rounding.{roundedDistance};
 ghost use Rattle.widths.specs.Scaling.{fixWord, scaledWidth};
 ghost use Rattle.widths.specs.Table.{checkedTable};
 ghost use Rattle.widths.specs.LookUp.{lookedUp};
-ghost use Rattle.reader.specs.Answers.{roundedAnswer, scaledAnswer, tableAnswer, lookedAnswer};
+ghost use Rattle.reader.specs.Answers.{commandAnswer, fileAnswer, Accepts, nameAnswer, roundedAnswer, scaledAnswer, tableAnswer, lookedAnswer};
+
+// A command's opcode, where its parameters start and the place after them, or refusal 1, 2 or 3
+pub enum CommandRead {
+    Command {
+        opcode: u8,
+        start: usize,
+        next: usize,
+    },
+    Refused {
+        number: u8,
+        place: usize,
+    },
+}
+
+// The command that stands at a place.
+pub fn read_command(file: &[u8], at: usize) -> CommandRead
+    ensures { λ r. ⌜ commandAnswer r ≡ commandRead (now (file .entry)) at ⌝ }
+{
+    if 16777216 < file.len() {
+        return CommandRead::Refused {
+            number: refusals::FILE_TOO_LONG,
+            place: 0,
+        };
+    }
+    match commands::read_at(file, at) {
+        Read::Command(reading) => CommandRead::Command {
+            opcode: reading.opcode,
+            start: reading.start,
+            next: reading.next,
+        },
+        Read::Refused(refusal) => CommandRead::Refused {
+            number: refusal.number,
+            place: refusal.place,
+        },
+    }
+}
+
+// Pages, fonts, greatest depth and the place of post, or refusal 1 to 11
+pub enum FileChecked {
+    Accepted {
+        pages: usize,
+        fonts: usize,
+        depth: usize,
+        post: usize,
+    },
+    Refused {
+        number: u8,
+        place: usize,
+    },
+}
+
+// The check of a whole file. It is accepted exactly if it is the written form of a list of commands that keeps the rules.
+pub fn check_file(file: &[u8]) -> FileChecked
+    ensures { λ r. ⌜ fileAnswer r ≡ judged (now (file .entry)) ⌝ }
+    ensures { λ r. ⌜ Accepts r ↔ Lawful (now (file .entry)) ⌝ }
+{
+    match scanning::check_file(file) {
+        Checked::Accepted(summary) => FileChecked::Accepted {
+            pages: summary.pages,
+            fonts: summary.fonts,
+            depth: summary.depth,
+            post: summary.post,
+        },
+        Checked::Refused(refusal) => FileChecked::Refused {
+            number: refusal.number,
+            place: refusal.place,
+        },
+    }
+}
+
+// Where a font's name stands, from its first byte to past its last, or refusal 1 to 11, then 8
+pub enum NamePlace {
+    At { start: usize, end: usize },
+    Refused { number: u8, place: usize },
+}
+
+// Where the name of a font stands in the file, area first.
+pub fn font_name_place(file: &[u8], font: i32) -> NamePlace
+    ensures { λ r. ⌜ nameAnswer r ≡ namePlace (now (file .entry)) font ⌝ }
+{
+    match names::name_place(file, font as i64) {
+        Named::At(part) => NamePlace::At {
+            start: part.start,
+            end: part.end,
+        },
+        Named::Refused(refusal) => NamePlace::Refused {
+            number: refusal.number,
+            place: refusal.place,
+        },
+    }
+}
+
+// The name of a font, as the part of the file that holds it; on any refusal the empty part at the file's start.
+pub fn font_name(file: &[u8], font: i32) -> &[u8]
+    ensures { λ r. ⌜ now r ≡ nameOf (now (file .entry)) font ⌝ }
+{
+    names::name_of(file, font as i64)
+}
 
 // A rounded distance, or refusal 4, 12 or 13
 pub enum Rounded {

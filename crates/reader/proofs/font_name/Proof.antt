@@ -1,0 +1,20 @@
+-- `reader::font_name` meets its contract. Assumes nothing.
+use mathlib.Core.Path.{ap, _∙_}
+use borrow.Author.Needs.{needs}
+use denote.Ref.{now}
+use Rattle.volume.specs.Names.{nameOf}
+use Rattle.reader.proofs.Words.{cast-fits, cast-is}
+use Rattle.reader.proofs.font_name.Statement.{statement}
+use Rattle.reader.proofs.font_name.Tie as tie
+
+cast-name-of : tie.Need-cast-name-of
+cast-name-of c = cast-fits (c .before .fits .font)
+
+name-of-requires : tie.Need-name-of-requires
+name-of-requires c κs = search needs
+
+returns : tie.Need-returns
+returns c = let s = c .before .before in c .name-of .ensures ∙ ap (nameOf (now (s .args .file))) (cast-is (s .fits .font))
+
+pub font-name-spec : {M : Type 1} → statement M
+font-name-spec = tie.close (tie.spec cast-name-of name-of-requires returns)

@@ -1,0 +1,16 @@
+pub mod Arms
+pub mod SameBytes
+pub mod FontTables
+pub mod FaultLaws
+pub mod Turns
+pub mod Tails
+pub mod Accepts
+pub mod OneList
+pub mod Refused
+pub mod History
+pub mod Bounds
+pub mod Tables
+pub mod PlainLaws
+pub mod Going
+pub mod ScanTurns
+pub mod NameLaws

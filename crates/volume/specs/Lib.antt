@@ -1,0 +1,7 @@
+pub mod Past
+pub mod Rules
+pub mod Lawful
+pub mod Judged
+pub mod Names
+pub mod Steps
+pub mod Starred

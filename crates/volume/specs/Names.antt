@@ -1,0 +1,53 @@
+-- "The name is given back as the part of the caller's file that holds it, area first, not as a copy; of a font's two definitions the one before post
+-- is meant." Assumes nothing.
+use Prim.Native.Nat.{ℕ, zero, suc, _+_, _-_}
+use mathlib.Core.Bool.{Bool, true, false}
+use mathlib.Core.List.{List, [], _∷_}
+use lib.ListN.{length, take, drop}
+use lib.IntN.{ℤ}
+use Rattle.refusals.specs.Numbers.{noFont}
+use Rattle.refusals.specs.Answer.{Answer, refused, given, andThen}
+use Rattle.commands.specs.declared.Kind.the-variants.{PostPost}
+use Rattle.commands.specs.Commands.{Command, Front, cut, undefined, whole, front}
+use Rattle.volume.specs.declared.Part.{Part}
+use Rattle.volume.specs.Past.{isA, place, Definition, none, stands, definitionOf}
+use Rattle.volume.specs.Judged.{judged}
+
+-- the commands of a file up to post_post, the newest first
+abbrev pub onNext : List Command → Front → (Command → List ℕ → List Command) → List Command
+onNext past cut next = past
+onNext past undefined next = past
+onNext past (whole c rest) next = next c rest
+
+abbrev pub onLast : Bool → List Command → (Unit {0} → List Command) → List Command
+onLast true past next = past
+onLast false past next = next tt
+
+unfoldable pub historyFrom : ℕ → List Command → List ℕ → List Command
+historyFrom zero past bytes = past
+historyFrom (suc left) past bytes =
+    onNext past (front bytes) (λ c rest. onLast (isA PostPost c) (c ∷ past) (λ _. historyFrom left (c ∷ past) rest))
+
+unfoldable pub history : List ℕ → List Command
+history file = historyFrom (suc (length file)) [] file
+
+-- the part of a definition that holds the name: after c[4] s[4] d[4] a[1] l[1], to the command's end
+abbrev pub namePart : ℕ → Command → Part
+namePart at c = record { start = at + (c .opcode - 242) + 15; end = at + 1 + length (c .params) }
+
+-- "the name of an undefined font number is 8 with place 0"
+abbrev pub namedBy : Definition → Answer Part
+namedBy none = refused noFont 0
+namedBy (stands at c) = given (namePart at c)
+
+-- "after 1 to 11"
+abbrev pub namePlace : List ℕ → ℤ → Answer Part
+namePlace file number = andThen (judged file) (λ found. namedBy (definitionOf false number (history file)))
+
+-- the bytes of a part; "any refusal there lends the empty part at the file's start"
+abbrev pub partOf : List ℕ → Answer Part → List ℕ
+partOf file (refused number place) = []
+partOf file (given part) = take (part .end - part .start) (drop (part .start) file)
+
+abbrev pub nameOf : List ℕ → ℤ → List ℕ
+nameOf file number = partOf file (namePlace file number)

@@ -1,0 +1,161 @@
+-- The rules: one definition for each row of the refusal table, 4 to 10, in its order. Each speaks of the commands before and of the command,
+-- and is true where the row's number applies. Assumes nothing.
+use Prim.Native.Nat.{ℕ}
+use mathlib.Core.Path.{_≡_}
+use mathlib.Core.Bool.{Bool, true, false, cond, not, _&&_, _||_}
+use mathlib.Core.List.{List, [], _∷_}
+use lib.Dec.{ltb, leb, eqb}
+use lib.ListN.{getD}
+use lib.IntN.{ℤ, pos}
+use lib.Signed.{leZ, ltZ}
+use Rattle.refusals.specs.Numbers.{wrongPreamble, misplacedCommand, wrongDepth, wrongFontDefinition, noFont, wrongPointer, wrongPostamble}
+use Rattle.numbers.specs.Signs.{sameNumber}
+use Rattle.numbers.specs.Bytes.{unsignedAt, signedAt}
+use Rattle.commands.specs.declared.Kind.{Kind}
+use Rattle.commands.specs.declared.Kind.the-variants.{SetCharacter, PutCharacter, Nop, Bop, Eop, Push, Pop, Select, Define, Pre, Post, PostPost}
+use Rattle.commands.specs.Kinds.{is}
+use Rattle.commands.specs.Commands.{Command, kindOfCommand}
+use Rattle.commands.specs.Parameters.{selectedFont, fontScale, fontDesignSize}
+use Rattle.state.specs.Limits.{deepest, mostFonts}
+use Rattle.volume.specs.declared.Stage.{Stage}
+use Rattle.volume.specs.declared.Stage.the-variants.{AtStart, BeforePages, OnPage, BetweenPages, AfterPost, AfterEnd}
+use Rattle.volume.specs.Past.{isA, stage, isAfterPost, depth, greatest, pages, lastBop, postPlace, num, den, mag, selected, fontNumber, body, Definition, none, stands, definitionOf, isDefined, fontCount}
+
+-- ---- 4: "first command is not pre, its identification is not 2, or num, den or mag is not positive as a signed number"
+
+abbrev pub isAtStart : Stage → Bool
+isAtStart AtStart = true
+isAtStart BeforePages = false
+isAtStart OnPage = false
+isAtStart BetweenPages = false
+isAtStart AfterPost = false
+isAtStart AfterEnd = false
+
+-- "positive as a signed number", of four bytes
+abbrev pub positiveAt : List ℕ → ℕ → Bool
+positiveAt params at = ltZ (pos 0) (signedAt params at 4)
+
+-- pre: i[1] num[4] den[4] mag[4]
+abbrev pub lawfulPreamble : List ℕ → Bool
+lawfulPreamble params = eqb (getD params 0 0) 2 && (positiveAt params 1 && (positiveAt params 5 && positiveAt params 9))
+
+abbrev pub preambleWrong : List Command → Command → Bool
+preambleWrong past c = isAtStart (stage past) && not (isA Pre c && lawfulPreamble (c .params))
+
+-- ---- 5: "a command that may not stand there"
+
+-- "Then only nop and font definitions before the first page, between pages, and between the last page and post. A page: bop, any of opcodes 0 to 138,
+-- 141 to 246, then eop. One page at least. post, then only nop and font definitions, then post_post"; what stands at the start is judged by 4
+abbrev pub mayStand : Stage → Kind → Bool
+mayStand AtStart kind = true
+mayStand BeforePages kind = is kind Nop || (is kind Define || is kind Bop)
+mayStand OnPage kind = not (is kind Bop || (is kind Pre || (is kind Post || is kind PostPost)))
+mayStand BetweenPages kind = is kind Nop || (is kind Define || (is kind Bop || is kind Post))
+mayStand AfterPost kind = is kind Nop || (is kind Define || is kind PostPost)
+mayStand AfterEnd kind = false
+
+abbrev pub misplaced : List Command → Command → Bool
+misplaced past c = not (mayStand (stage past) (kindOfCommand c))
+
+-- ---- 6: "pop at depth 0, push at depth 100, eop at depth above 0"
+
+abbrev pub wrongAtDepth : Kind → ℕ → Bool
+wrongAtDepth kind depth = (is kind Pop && eqb depth 0) || ((is kind Push && leb deepest depth) || (is kind Eop && ltb 0 depth))
+
+abbrev pub depthWrong : List Command → Command → Bool
+depthWrong past c = wrongAtDepth (kindOfCommand c) (depth past)
+
+-- ---- 7: "a font definition against the rules below"
+
+-- "number 0 to 255"
+abbrev pub lawfulFont : ℤ → Bool
+lawfulFont number = leZ (pos 0) number && leZ number (pos 255)
+
+-- "scale s and design size d each 1 to 134,217,727"
+abbrev pub lawfulSize : ℕ → Bool
+lawfulSize size = leb 1 size && leb size 134217727
+
+-- two lists of bytes are the same
+unfoldable pub sameBytes : List ℕ → List ℕ → Bool
+sameBytes [] [] = true
+sameBytes [] (y ∷ ys) = false
+sameBytes (x ∷ xs) [] = false
+sameBytes (x ∷ xs) (y ∷ ys) = eqb x y && sameBytes xs ys
+
+-- a definition says just this: "equal check sum, s, d, a, l and name"
+abbrev pub says : Definition → List ℕ → Bool
+says none bytes = false
+says (stands at c) bytes = sameBytes (body c) bytes
+
+-- "Before post a number is defined at most once", and "at most 64 of them"; "After it the same numbers are defined, each once, with equal …"
+abbrev pub lawfulDefinition : List Command → Command → Bool
+lawfulDefinition past c =
+    lawfulFont (fontNumber c)
+    && (lawfulSize (fontScale (body c))
+    && (lawfulSize (fontDesignSize (body c))
+    && cond (isAfterPost (stage past))
+    (not (isDefined (definitionOf true (fontNumber c) past)) && says (definitionOf false (fontNumber c) past) (body c))
+    (not (isDefined (definitionOf false (fontNumber c) past)) && ltb (fontCount false past) mostFonts)))
+
+-- "A font left out after post is 7 at post_post": fewer are defined after post than before it
+abbrev pub fontLeftOut : List Command → Bool
+fontLeftOut past = not (eqb (fontCount true past) (fontCount false past))
+
+abbrev pub definitionWrong : List Command → Command → Bool
+definitionWrong past c = (isA Define c && not (lawfulDefinition past c)) || (isA PostPost c && fontLeftOut past)
+
+-- ---- 8: "selection of a font not yet defined; a character before a selection on this page"
+
+abbrev pub fontMissing : List Command → Command → Bool
+fontMissing past c =
+    (isA Select c && not (isDefined (definitionOf false (selectedFont (c .opcode) (c .params)) past)))
+    || ((isA SetCharacter c || isA PutCharacter c) && not (selected past))
+
+-- ---- 9: "a wrong pointer in bop, post or post_post"
+
+-- "bop points to the previous bop, the first holds −1. post points to the last bop, post_post to post"
+abbrev pub pointerWrong : List Command → Command → Bool
+pointerWrong past c =
+    (isA Bop c && not (sameNumber (signedAt (c .params) 40 4) (lastBop past)))
+    || ((isA Post c && not (sameNumber (signedAt (c .params) 0 4) (lastBop past)))
+    || (isA PostPost c && not (sameNumber (signedAt (c .params) 0 4) (pos (postPlace past)))))
+
+-- ---- 10: "num, den, mag, depth or page count in post wrong; identification in post_post not 2"
+
+-- "its s equals the greatest depth reached"
+abbrev pub rightDepth : ℕ → ℕ → Bool
+rightDepth stated reached = eqb stated reached
+
+-- "post repeats num, den, mag; … its t is the number of pages": p[4] num[4] den[4] mag[4] l[4] u[4] s[2] t[2]
+abbrev pub lawfulPostamble : ℕ → ℕ → ℕ → ℕ → ℕ → List ℕ → Bool
+lawfulPostamble num den mag greatest pages params =
+    eqb (unsignedAt params 4 4) num
+    && (eqb (unsignedAt params 8 4) den
+    && (eqb (unsignedAt params 12 4) mag && (rightDepth (unsignedAt params 24 2) greatest && eqb (unsignedAt params 26 2) pages)))
+
+-- post_post: q[4] i[1]
+abbrev pub postambleWrong : List Command → Command → Bool
+postambleWrong past c =
+    (isA Post c && not (lawfulPostamble (num past) (den past) (mag past) (greatest past) (pages past) (c .params))) || (isA PostPost c && not (eqb (getD (c .params) 4 0) 2))
+
+-- ---- "then the lowest of 4 to 10 that applies"; 0 where none does
+
+abbrev pub fault : List Command → Command → ℕ
+fault past c =
+    cond (preambleWrong past c) wrongPreamble
+    (cond (misplaced past c) misplacedCommand
+    (cond (depthWrong past c) wrongDepth
+    (cond (definitionWrong past c) wrongFontDefinition
+    (cond (fontMissing past c) noFont
+    (cond (pointerWrong past c) wrongPointer
+    (cond (postambleWrong past c) wrongPostamble 0))))))
+
+-- a command that keeps the rules after the commands before it
+pub record Allowed (past : List Command) (c : Command) : Type 0 where
+  pub preamble : preambleWrong past c ≡ false
+  pub standing : misplaced past c ≡ false
+  pub depth-right : depthWrong past c ≡ false
+  pub definition : definitionWrong past c ≡ false
+  pub font : fontMissing past c ≡ false
+  pub pointer : pointerWrong past c ≡ false
+  pub postamble : postambleWrong past c ≡ false

@@ -1,0 +1,51 @@
+-- The starred examples of document 01 on whole files, as entries of a list. Assumes nothing.
+use Prim.Native.Nat.{ℕ}
+use mathlib.Core.Path.{_≡_, refl}
+use mathlib.Core.List.{List, [], _∷_, _++_, map}
+use lib.ListN.{take, set, replicate}
+use Rattle.refusals.specs.Numbers.{fileEnds, wrongDepth, wrongTail}
+use Rattle.refusals.specs.Answer.{Answer, refused, given}
+use Rattle.numbers.specs.Bytes.{unsignedAt}
+use Rattle.commands.specs.Kinds.{kindOf}
+use Rattle.commands.specs.Lengths.{lengths, fixedLength, innerLengthOf, innerLength, sizeOf}
+use Rattle.commands.specs.Commands.{frontAfter}
+use Rattle.volume.specs.declared.Summary.{Summary}
+use Rattle.volume.specs.Rules.{sameBytes}
+use Rattle.volume.specs.Judged.{tail, judgedFrom, judged}
+
+-- "M is: pre with num 254, den 1, mag 1000, no comment (0–14), bop (15), eop (60), post (61), post_post (90), four 223s; 100 bytes"
+abbrev pub M : List ℕ
+M =
+    (247 ∷ 2 ∷ 0 ∷ 0 ∷ 0 ∷ 254 ∷ 0 ∷ 0 ∷ 0 ∷ 1 ∷ 0 ∷ 0 ∷ 3 ∷ 232 ∷ 0 ∷ [])
+    ++ (139 ∷ []) ++ replicate 40 0 ++ (255 ∷ 255 ∷ 255 ∷ 255 ∷ [])
+    ++ (140 ∷ [])
+    ++ (248 ∷ 0 ∷ 0 ∷ 0 ∷ 15 ∷ 0 ∷ 0 ∷ 0 ∷ 254 ∷ 0 ∷ 0 ∷ 0 ∷ 1 ∷ 0 ∷ 0 ∷ 3 ∷ 232 ∷ []) ++ replicate 8 0 ++ (0 ∷ 0 ∷ 0 ∷ 1 ∷ [])
+    ++ (249 ∷ 0 ∷ 0 ∷ 0 ∷ 61 ∷ 2 ∷ [])
+    ++ replicate 4 223
+
+-- a file and what document 01 prints of it
+pub record FileExample : Type 0 where
+  pub file : List ℕ
+  pub printed : Answer Summary
+
+abbrev pub onePage : Summary
+onePage = record { pages = 1; fonts = 0; depth = 0; post = 61 }
+
+-- "*M: 1 page, 0 fonts, depth 0, post 61. With five 223s: accepted. *M less its last byte: 11 at 99. *First 95 bytes: 2 at 90. *Empty: 2 at 0.
+-- *Byte 60 made 142: 6 at 60."
+abbrev pub fileExamples : List FileExample
+fileExamples =
+    record { file = M; printed = given onePage }
+    ∷ record { file = M ++ (223 ∷ []); printed = given onePage }
+    ∷ record { file = take 99 M; printed = refused wrongTail 99 }
+    ∷ record { file = take 95 M; printed = refused fileEnds 90 }
+    ∷ record { file = []; printed = refused fileEnds 0 }
+    ∷ record { file = set M 60 142; printed = refused wrongDepth 60 }
+    ∷ []
+
+abbrev pub fileFound : FileExample → Answer Summary
+fileFound e = judged (e .file)
+
+pub files-hold : map fileFound fileExamples ≡ map (λ e. e .printed) fileExamples
+unfolding unsignedAt kindOf lengths fixedLength innerLengthOf innerLength sizeOf frontAfter sameBytes tail judgedFrom judged
+files-hold = refl

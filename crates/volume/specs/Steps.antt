@@ -1,0 +1,224 @@
+-- What the code holds of the commands so far, and what it makes of one more; no promise cites this. Assumes nothing.
+use Prim.Native.Nat.{ℕ, _+_, _-_, _<_, _≤_, max}
+use mathlib.Core.Path.{_≡_}
+use mathlib.Core.Bool.{Bool, true, false, cond, not, _&&_, _||_}
+use mathlib.Core.List.{List, [], _∷_}
+use lib.Dec.{eqb}
+use lib.ListN.{length, getD, drop, set}
+use lib.IntN.{ℤ, pos, natAbs}
+use Rattle.refusals.specs.Numbers.{wrongPreamble, wrongFontDefinition, wrongPointer, wrongPostamble}
+use Rattle.refusals.specs.Answer.{Answer, given, refusal}
+use Rattle.numbers.specs.Signs.{sameNumber}
+use Rattle.numbers.specs.Bytes.{unsignedAt, signedAt}
+use Rattle.commands.specs.declared.Kind.{Kind}
+use Rattle.commands.specs.declared.Kind.the-variants.{SetCharacter, SetRule, PutCharacter, PutRule, Nop, Bop, Right, W, X, Down, Y, Z, Select, Define, Pre, Post}
+use Rattle.commands.specs.Kinds.{kindOf, is}
+use Rattle.commands.specs.Commands.{Command, kindOfCommand, Front, whole, front}
+use Rattle.commands.specs.Parameters.{definedFont, selectedFont}
+use Rattle.volume.specs.declared.Stage.{Stage}
+use Rattle.volume.specs.declared.Summary.{Summary}
+use Rattle.volume.specs.declared.Volume.{Volume}
+use Rattle.volume.specs.declared.Scanned.{Scanned}
+use Rattle.volume.specs.declared.Scanned.the-variants as Scanned
+use Rattle.volume.specs.declared.Part.{Part}
+use Rattle.volume.specs.declared.Named.{Named}
+use Rattle.volume.specs.declared.Named.the-variants as Named
+use Rattle.volume.specs.declared.Checked.{Checked}
+use Rattle.volume.specs.declared.Checked.the-variants as Checked
+use Rattle.volume.specs.Past.{isA, place, stage, stageAfter, depth, depthAfter, greatest, pages, lastBop, bopOf, postPlace, unitAt, num, den, mag, selected, defines, body, Definition, none, stands, definitionOf, isDefined, fontCount}
+use Rattle.volume.specs.Rules.{lawfulPreamble, lawfulFont, sameBytes, lawfulDefinition, lawfulPostamble, fault}
+use Rattle.volume.specs.Judged.{summary, judged, judgedFrom}
+use Rattle.volume.specs.Names.{history, historyFrom, namedBy}
+
+-- a command of an opcode and its parameters
+abbrev pub command : ℕ → List ℕ → Command
+command opcode params = record { opcode = opcode; params = params }
+
+-- ---- the state that stands for the commands so far, while the bop of one page is wanted
+
+abbrev pub stateOf : ℕ → List Command → Volume
+stateOf page past =
+    record {
+      stage = stage past;
+      at = place past;
+      depth = depth past;
+      greatest = greatest past;
+      pages = pages past;
+      bop = lastBop past;
+      wanted = bopOf page past;
+      post = postPlace past;
+      num = num past;
+      den = den past;
+      mag = mag past;
+      fonts = fontCount false past;
+      again = fontCount true past;
+      selected = selected past;
+    }
+
+-- the state after one more command
+abbrev pub afterOf : ℕ → Volume → Kind → List ℕ → Volume
+afterOf page v kind params =
+    record {
+      stage = stageAfter kind (v .stage);
+      at = v .at + (1 + length params);
+      depth = depthAfter kind (v .depth);
+      greatest = max (v .greatest) (depthAfter kind (v .depth));
+      pages = cond (is kind Bop) (v .pages + 1) (v .pages);
+      bop = cond (is kind Bop) (pos (v .at)) (v .bop);
+      wanted = cond (is kind Bop && eqb (v .pages + 1) page) (v .at) (v .wanted);
+      post = cond (is kind Post) (v .at) (v .post);
+      num = cond (is kind Pre) (unsignedAt params 1 4) (v .num);
+      den = cond (is kind Pre) (unsignedAt params 5 4) (v .den);
+      mag = cond (is kind Pre) (unsignedAt params 9 4) (v .mag);
+      fonts = cond (defines false (v .stage) kind) (v .fonts + 1) (v .fonts);
+      again = cond (defines true (v .stage) kind) (v .again + 1) (v .again);
+      selected = cond (is kind Bop) false (cond (is kind Select) true (v .selected));
+    }
+
+-- ---- the faults of single kinds, by what the code holds
+
+abbrev pub firstFault : Kind → List ℕ → ℕ
+firstFault kind params = cond (is kind Pre && lawfulPreamble params) 0 wrongPreamble
+
+abbrev pub postFault : Volume → List ℕ → ℕ
+postFault v params =
+    cond (not (sameNumber (signedAt params 0 4) (v .bop))) wrongPointer
+    (cond (not (lawfulPostamble (v .num) (v .den) (v .mag) (v .greatest) (v .pages) params)) wrongPostamble 0)
+
+abbrev pub endFault : Volume → List ℕ → ℕ
+endFault v params =
+    cond (not (eqb (v .again) (v .fonts))) wrongFontDefinition
+    (cond (not (sameNumber (signedAt params 0 4) (pos (v .post)))) wrongPointer (cond (not (eqb (getD params 4 0) 2)) wrongPostamble 0))
+
+-- ---- the font tables: one more than the place of a font's definition, 0 where it has none
+
+abbrev pub entryOf : Definition → ℕ
+entryOf none = 0
+entryOf (stands at c) = at + 1
+
+-- a table after one more command
+abbrev pub tableAfter : Bool → Stage → Kind → ℕ → List ℕ → ℕ → List ℕ → List ℕ
+tableAfter after stage kind opcode params at table =
+    cond (defines after stage kind) (set table (natAbs (definedFont opcode params)) (at + 1)) table
+
+-- the table tells the definitions of the fonts 0 to 255
+pub record Tells (after : Bool) (table : List ℕ) (past : List Command) : Type 0 where
+  pub full : length table ≡ 256
+  pub entry : (n : ℕ) → n < 256 → getD table n 0 ≡ entryOf (definitionOf after (pos n) past)
+
+-- what is defined stands in the file
+abbrev pub Standing : List ℕ → Definition → Type 0
+Standing file none = Unit {0}
+Standing file (stands at c) = (rest : List ℕ) × (front (drop at file) ≡ whole c rest)
+
+-- only the fonts 0 to 255 are defined
+abbrev pub Lawfully : List Command → Type 0
+Lawfully past = (number : ℤ) → lawfulFont number ≡ false → definitionOf false number past ≡ none
+
+-- the definitions before post stand in the file
+abbrev pub AllStanding : List ℕ → List Command → Type 0
+AllStanding file past = (n : ℕ) → Standing file (definitionOf false (pos n) past)
+
+-- what the code holds stands for the commands so far
+pub record Agrees (file : List ℕ) (page : ℕ) (v : Volume) (fonts again : List ℕ) (past : List Command) : Type 0 where
+  pub state : v ≡ stateOf page past
+  pub early : Tells false fonts past
+  pub late : Tells true again past
+  pub standing : AllStanding file past
+  pub lawfully : Lawfully past
+
+-- the commands so far, and: what is judged of the file, and its history, are what is judged of the rest, and its history
+pub record Going (file : List ℕ) (page : ℕ) (v : Volume) (fonts again : List ℕ) : Type 0 where
+  pub past : List Command
+  pub left : ℕ
+  pub agrees : Agrees file page v fonts again past
+  pub judgement : judged file ≡ judgedFrom left past (drop (place past) file)
+  pub told : history file ≡ historyFrom left past (drop (place past) file)
+  pub enough : length file < place past + left
+  pub inside : place past ≤ length file
+  pub short : length file ≤ 16777216
+
+-- ---- what single functions say, of whatever commands the code stands for
+
+-- a command of a kind that the rules read has the parameters that they read
+abbrev pub WithRoom : Kind → List ℕ → Type 0
+WithRoom kind params = kind ≡ Pre → 14 ≤ length params
+
+-- a definition's font is one of 0 to 255
+abbrev pub LawfullyNumbered : ℕ → List ℕ → Type 0
+LawfullyNumbered opcode params = kindOf opcode ≡ Define → lawfulFont (definedFont opcode params) ≡ true
+
+-- r says whether the font that a selection names is defined
+abbrev pub SelectionIs : List ℕ → ℕ → List ℕ → Bool → Type 0
+SelectionIs fonts opcode params r =
+    (past : List Command) → Tells false fonts past → Lawfully past → r ≡ isDefined (definitionOf false (selectedFont opcode params) past)
+
+-- r says whether the definition that stands at a place says just this
+abbrev pub SayingIs : List ℕ → ℕ → List ℕ → Bool → Type 0
+SayingIs file at said r = (c : Command) (rest : List ℕ) → front (drop at file) ≡ whole c rest → kindOfCommand c ≡ Define → r ≡ sameBytes (body c) said
+
+-- r says whether a definition keeps the rules
+abbrev pub DefinitionIs : List ℕ → List ℕ → List ℕ → Stage → ℕ → ℕ → List ℕ → Bool → Type 0
+DefinitionIs file fonts again at-stage count opcode params r =
+    (past : List Command) → Tells false fonts past → Tells true again past → AllStanding file past → at-stage ≡ stage past → count ≡ fontCount false past
+    → r ≡ lawfulDefinition past (command opcode params)
+
+-- r is the lowest number that applies to a command
+abbrev pub FaultIs : List ℕ → Volume → List ℕ → List ℕ → ℕ → List ℕ → ℕ → Type 0
+FaultIs file v fonts again opcode params r =
+    (page : ℕ) (past : List Command) → Agrees file page v fonts again past → r ≡ fault past (command opcode params)
+
+-- a step that the scan may take: whatever it stood for before, it stands for what follows after
+abbrev pub Onward : List ℕ → Volume → Volume → Type 0
+Onward file v r = (page : ℕ) (fonts again : List ℕ) → Going file page v fonts again → Going file page r fonts again
+
+-- ---- commands that on a page, with a font selected, change nothing but the place
+
+abbrev pub isPlain : Kind → Bool
+isPlain kind = is kind SetCharacter || (is kind SetRule || (is kind PutCharacter || (is kind PutRule || (is kind Nop || (is kind Right || (is kind W || (is kind X || (is kind Down || (is kind Y || is kind Z)))))))))
+
+-- from one place to another stand whole plain commands, end to end
+pub data Passes (file : List ℕ) : ℕ → ℕ → Type 0 where
+  none-more : {at : ℕ} → Passes file at at
+  one-more : {from at : ℕ} (c : Command) (rest : List ℕ) → Passes file from at → front (drop at file) ≡ whole c rest → isPlain (kindOfCommand c) ≡ true
+      → Passes file from (at + (1 + length (c .params)))
+
+-- ---- answers
+
+abbrev pub summaryOf : Volume → Summary
+summaryOf v = record { pages = v .pages; fonts = v .fonts; depth = v .greatest; post = v .post }
+
+abbrev pub scanAnswer : Scanned → Answer Summary
+scanAnswer (Scanned.Accepted v) = given (summaryOf v)
+scanAnswer (Scanned.Refused r) = refusal r
+
+abbrev pub checkAnswer : Checked → Answer Summary
+checkAnswer (Checked.Accepted s) = given s
+checkAnswer (Checked.Refused r) = refusal r
+
+-- what a scan leaves of an accepted file: the state and the font table of its whole history
+abbrev pub Kept : List ℕ → ℕ → List ℕ → Scanned → Type 0
+Kept file page fonts (Scanned.Accepted v) = (v ≡ stateOf page (history file)) × Tells false fonts (history file) × AllStanding file (history file) × Lawfully (history file)
+Kept file page fonts (Scanned.Refused r) = Unit {0}
+
+-- what is accepted is what was held
+abbrev pub Same : Volume → Scanned → Type 0
+Same v (Scanned.Accepted w) = v ≡ w
+Same v (Scanned.Refused r) = Unit {0}
+
+-- ---- names
+
+abbrev pub nameAnswer : Named → Answer Part
+nameAnswer (Named.At part) = given part
+nameAnswer (Named.Refused r) = refusal r
+
+-- a part lies within so many bytes
+abbrev pub Inside : ℕ → Named → Type 0
+Inside bytes (Named.At part) = (part .start ≤ part .end) × (part .end ≤ bytes)
+Inside bytes (Named.Refused r) = Unit {0}
+
+-- r says where the name of a font stands
+abbrev pub NamedIs : List ℕ → List ℕ → ℤ → Named → Type 0
+NamedIs file fonts number r =
+    (past : List Command) → Tells false fonts past → AllStanding file past → Lawfully past
+    → (nameAnswer r ≡ namedBy (definitionOf false number past)) × Inside (length file) r

@@ -1,0 +1,151 @@
+// Font definitions and selections. A table has, for each font number 0 to 255, one more than the place of its definition, or 0.
+use crate::Stage;
+use crate::rules;
+use commands::Kind;
+use commands::Read;
+use commands::parameters;
+use state::Page;
+ghost use mathlib.Core.Path.{_≡_};
+ghost use mathlib.Core.Bool.{true};
+ghost use Prim.Native.Nat.{_+_, _≤_, _<_, _^_};
+ghost use lib.ListN.{length, getD};
+ghost use lib.IntN.{natAbs};
+ghost use Rattle.commands.specs.declared.Kind.the-variants.{Define, Select};
+ghost use Rattle.commands.specs.Kinds.{kindOf};
+ghost use Rattle.commands.specs.Lengths.{fixedLength};
+ghost use Rattle.volume.specs.Past.{defines};
+ghost use Rattle.volume.specs.Rules.{lawfulFont};
+ghost use Rattle.volume.specs.Steps.{SelectionIs, SayingIs, DefinitionIs, LawfullyNumbered, tableAfter};
+
+// Whether a number is one of the fonts 0 to 255.
+pub fn lawful_font(number: i64) -> bool
+    ensures { λ r. ⌜ r ≡ lawfulFont number ⌝ }
+{
+    if number < 0 {
+        return false;
+    }
+    number <= 255
+}
+
+// A font's entry in a table.
+pub fn entry_of(table: &[u32; 256], number: i64) -> usize
+    requires { ⌜ lawfulFont number ≡ true ⌝ }
+    ensures { λ r. ⌜ r ≡ getD (now (table .entry)) (natAbs number) 0 ⌝ }
+{
+    widened(table[number as usize])
+}
+
+fn widened(entry: u32) -> usize
+    ensures { λ r. ⌜ r ≡ entry ⌝ }
+{
+    entry as usize
+}
+
+// 8: whether the font that a selection names is defined.
+pub fn lawful_selection(fonts: &[u32; 256], opcode: u8, params: &[u8]) -> bool
+    requires { ⌜ (kindOf opcode ≡ Select) × (fixedLength opcode ≤ length (now params)) ⌝ }
+    ensures { λ r. ⌜ SelectionIs (now (fonts .entry)) opcode (now (params .entry)) r ⌝ }
+{
+    let number = parameters::selected_font(opcode, params);
+    if !lawful_font(number) {
+        return false;
+    }
+    entry_of(fonts, number) != 0
+}
+
+// Whether the definition that stands at a place says just this: check sum, s, d, a, l and name.
+fn same_definition(file: &[u8], at: usize, said: &[u8]) -> bool
+    ensures { λ r. ⌜ SayingIs (now (file .entry)) at (now (said .entry)) r ⌝ }
+{
+    match commands::read_at(file, at) {
+        Read::Refused(_) => false,
+        Read::Command(reading) => {
+            let opcode = reading.opcode;
+            let start = reading.start;
+            let next = reading.next;
+            if opcode < 243 {
+                return false;
+            }
+            if 246 < opcode {
+                return false;
+            }
+            let from = start + (opcode - 242) as usize;
+            let found = &file[from..next];
+            check::same(found, said)
+        }
+    }
+}
+
+// 7: whether a definition keeps the rules, at a stage, with so many fonts defined before post.
+pub fn lawful_definition(
+    file: &[u8],
+    fonts: &[u32; 256],
+    again: &[u32; 256],
+    stage: Stage,
+    count: usize,
+    opcode: u8,
+    params: &[u8],
+) -> bool
+    requires { ⌜ (kindOf opcode ≡ Define) × (fixedLength opcode ≤ length (now params)) ⌝ }
+    ensures { λ r. ⌜ DefinitionIs (now (file .entry)) (now (fonts .entry)) (now (again .entry)) stage count opcode (now (params .entry)) r ⌝ }
+{
+    let number = parameters::defined_font(opcode, params);
+    if !lawful_font(number) {
+        return false;
+    }
+    let from = (opcode - 242) as usize;
+    let said = &params[from..];
+    if !rules::lawful_size(numbers::unsigned_at(said, 4, 4)) {
+        return false;
+    }
+    if !rules::lawful_size(numbers::unsigned_at(said, 8, 4)) {
+        return false;
+    }
+    let early = entry_of(fonts, number);
+    if rules::after_post(stage) {
+        if entry_of(again, number) != 0 {
+            return false;
+        }
+        if early == 0 {
+            return false;
+        }
+        return same_definition(file, early - 1, said);
+    }
+    if early != 0 {
+        return false;
+    }
+    count < Page::FONTS
+}
+
+// Whether a command is a definition that stands before post, or after it.
+fn defines_font(after: bool, stage: Stage, kind: Kind) -> bool
+    ensures { λ r. ⌜ r ≡ defines after stage kind ⌝ }
+{
+    match kind {
+        Kind::Define => {
+            let passed = rules::after_post(stage);
+            if after { passed } else { !passed }
+        }
+        _ => false,
+    }
+}
+
+// The table of the definitions before post, or after it, after one more command at a place.
+pub fn note(
+    table: &mut [u32; 256],
+    after: bool,
+    stage: Stage,
+    kind: Kind,
+    opcode: u8,
+    params: &[u8],
+    at: usize,
+)
+    requires { ⌜ (kind ≡ kindOf opcode) × (fixedLength opcode ≤ length (now params)) ⌝ }
+    requires { ⌜ (at + 1 < 2 ^ 32) × LawfullyNumbered opcode (now params) ⌝ }
+    ensures { λ _. ⌜ now (table .exit) ≡ tableAfter after stage kind opcode (now (params .entry)) at (now (table .entry)) ⌝ }
+{
+    if defines_font(after, stage, kind) {
+        let number = parameters::defined_font(opcode, params);
+        table[number as usize] = (at + 1) as u32;
+    }
+}

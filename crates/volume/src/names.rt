@@ -1,0 +1,74 @@
+// A font's name: the part of the file that holds it, in the definition before post.
+use crate::Named;
+use crate::Part;
+use crate::Scanned;
+use crate::fonts;
+use crate::scanning;
+use commands::Read;
+use refusals::Refusal;
+ghost use mathlib.Core.Path.{_≡_};
+ghost use lib.ListN.{length};
+ghost use Rattle.volume.specs.Names.{namePlace, nameOf};
+ghost use Rattle.volume.specs.Steps.{nameAnswer, Inside, NamedIs};
+
+// Where the name of a font stands, by the table of the definitions before post.
+fn named_by(file: &[u8], fonts: &[u32; 256], number: i64) -> Named
+    ensures { λ r. ⌜ NamedIs (now (file .entry)) (now (fonts .entry)) number r ⌝ }
+{
+    let nowhere = Named::Refused(Refusal {
+        number: refusals::NO_FONT,
+        place: 0,
+    });
+    if !fonts::lawful_font(number) {
+        return nowhere;
+    }
+    let entry = fonts::entry_of(fonts, number);
+    if entry == 0 {
+        return nowhere;
+    }
+    match commands::read_at(file, entry - 1) {
+        Read::Refused(_) => nowhere,
+        Read::Command(reading) => {
+            let opcode = reading.opcode;
+            let start = reading.start;
+            let end = reading.next;
+            if opcode < 243 {
+                return nowhere;
+            }
+            if 246 < opcode {
+                return nowhere;
+            }
+            let said = start + (opcode - 242) as usize;
+            let name = said + 14;
+            Named::At(Part {
+                start: name,
+                end: end,
+            })
+        }
+    }
+}
+
+// Where the name of a font stands.
+pub fn name_place(file: &[u8], number: i64) -> Named
+    ensures { λ r. ⌜ (nameAnswer r ≡ namePlace (now (file .entry)) number) × Inside (length (now (file .entry))) r ⌝ }
+{
+    let mut fonts = [0u32; 256];
+    match scanning::scan(file, 0, &mut fonts) {
+        Scanned::Refused(refusal) => Named::Refused(refusal),
+        Scanned::Accepted(_) => named_by(file, &fonts, number),
+    }
+}
+
+// The name of a font, as the part of the file that holds it; the empty part at the file's start on any refusal.
+pub fn name_of(file: &[u8], number: i64) -> &[u8]
+    ensures { λ r. ⌜ now r ≡ nameOf (now (file .entry)) number ⌝ }
+{
+    match name_place(file, number) {
+        Named::Refused(_) => &file[0..0],
+        Named::At(part) => {
+            let start = part.start;
+            let end = part.end;
+            &file[start..end]
+        }
+    }
+}

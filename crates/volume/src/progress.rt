@@ -1,0 +1,106 @@
+// What the commands amount to after one more.
+use crate::Stage;
+use crate::Volume;
+use crate::rules;
+use commands::Kind;
+ghost use mathlib.Core.Path.{_≡_};
+ghost use Prim.Native.Nat.{_+_, _≤_, _<_, _^_, max};
+ghost use lib.ListN.{length};
+ghost use Rattle.volume.specs.Past.{stageAfter, depthAfter};
+ghost use Rattle.volume.specs.Steps.{afterOf, WithRoom};
+
+fn next_stage(kind: Kind, stage: Stage) -> Stage
+    ensures { λ r. ⌜ r ≡ stageAfter kind stage ⌝ }
+{
+    match kind {
+        Kind::Pre => Stage::BeforePages,
+        Kind::Bop => Stage::OnPage,
+        Kind::Eop => Stage::BetweenPages,
+        Kind::Post => Stage::AfterPost,
+        Kind::PostPost => Stage::AfterEnd,
+        _ => stage,
+    }
+}
+
+fn next_depth(kind: Kind, depth: usize) -> usize
+    requires { ⌜ depth < 2 ^ 32 ⌝ }
+    ensures { λ r. ⌜ r ≡ depthAfter kind depth ⌝ }
+{
+    match kind {
+        Kind::Push => depth + 1,
+        Kind::Pop => {
+            if depth == 0 {
+                return 0;
+            }
+            depth - 1
+        }
+        _ => depth,
+    }
+}
+
+fn greater(a: usize, b: usize) -> usize
+    ensures { λ r. ⌜ r ≡ max a b ⌝ }
+{
+    if a < b { b } else { a }
+}
+
+// What the commands amount to after one more.
+pub fn after(v: Volume, page: usize, kind: Kind, params: &[u8]) -> Volume
+    requires { ⌜ (v .at + (1 + length (now params)) < 2 ^ 32) × WithRoom kind (now params) ⌝ }
+    requires { ⌜ (v .depth ≤ v .at) × (v .pages ≤ v .at) × (v .fonts ≤ v .at) × (v .again ≤ v .at) ⌝ }
+    ensures { λ r. ⌜ r ≡ afterOf page v kind (now (params .entry)) ⌝ }
+{
+    let stage = v.stage;
+    let at = v.at;
+    let depth = next_depth(kind, v.depth);
+    let mut next = Volume {
+        stage: next_stage(kind, stage),
+        at: at + (1 + params.len()),
+        depth: depth,
+        greatest: greater(v.greatest, depth),
+        pages: v.pages,
+        bop: v.bop,
+        wanted: v.wanted,
+        post: v.post,
+        num: v.num,
+        den: v.den,
+        mag: v.mag,
+        fonts: v.fonts,
+        again: v.again,
+        selected: v.selected,
+    };
+    match kind {
+        Kind::Pre => {
+            next.num = numbers::unsigned_at(params, 1, 4);
+            next.den = numbers::unsigned_at(params, 5, 4);
+            next.mag = numbers::unsigned_at(params, 9, 4);
+            next
+        }
+        Kind::Bop => {
+            next.pages = v.pages + 1;
+            next.bop = at as i64;
+            next.selected = false;
+            if v.pages + 1 == page {
+                next.wanted = at;
+            }
+            next
+        }
+        Kind::Post => {
+            next.post = at;
+            next
+        }
+        Kind::Select => {
+            next.selected = true;
+            next
+        }
+        Kind::Define => {
+            if rules::after_post(stage) {
+                next.again = v.again + 1;
+            } else {
+                next.fonts = v.fonts + 1;
+            }
+            next
+        }
+        _ => next,
+    }
+}

@@ -1,0 +1,140 @@
+// The rules that look at one command and at numbers: one function for each part of a row of the refusal table.
+use crate::Stage;
+use commands::Kind;
+use state::Page;
+ghost use mathlib.Core.Path.{_≡_};
+ghost use Prim.Native.Nat.{_+_, _≤_, _<_, _^_};
+ghost use lib.ListN.{length};
+ghost use lib.IntN.{natAbs};
+ghost use Rattle.numbers.specs.Signs.{sameNumber};
+ghost use Rattle.numbers.specs.Bytes.{signedAt};
+ghost use Rattle.volume.specs.Past.{isAfterPost};
+ghost use Rattle.volume.specs.Rules.{isAtStart, positiveAt, lawfulPreamble, mayStand, wrongAtDepth, lawfulSize, lawfulPostamble};
+
+// Whether the list is at its start.
+pub fn at_start(stage: Stage) -> bool
+    ensures { λ r. ⌜ r ≡ isAtStart stage ⌝ }
+{
+    match stage {
+        Stage::AtStart => true,
+        _ => false,
+    }
+}
+
+// Whether post has passed.
+pub fn after_post(stage: Stage) -> bool
+    ensures { λ r. ⌜ r ≡ isAfterPost stage ⌝ }
+{
+    match stage {
+        Stage::AfterPost | Stage::AfterEnd => true,
+        _ => false,
+    }
+}
+
+// Whether a unit, four bytes at a place, is positive.
+fn positive_at(params: &[u8], at: usize) -> bool
+    requires { ⌜ at + 4 ≤ length (now params) ⌝ }
+    ensures { λ r. ⌜ r ≡ positiveAt (now (params .entry)) at ⌝ }
+{
+    0 < numbers::signed_at(params, at, 4)
+}
+
+// 4: identification 2, and num, den and mag positive.
+pub fn lawful_preamble(params: &[u8]) -> bool
+    requires { ⌜ 14 ≤ length (now params) ⌝ }
+    ensures { λ r. ⌜ r ≡ lawfulPreamble (now (params .entry)) ⌝ }
+{
+    if params[0] != 2 {
+        return false;
+    }
+    if !positive_at(params, 1) {
+        return false;
+    }
+    if !positive_at(params, 5) {
+        return false;
+    }
+    positive_at(params, 9)
+}
+
+// 5: whether a command may stand there.
+pub fn may_stand(stage: Stage, kind: Kind) -> bool
+    ensures { λ r. ⌜ r ≡ mayStand stage kind ⌝ }
+{
+    match stage {
+        Stage::AtStart => true,
+        Stage::BeforePages => match kind {
+            Kind::Nop | Kind::Define | Kind::Bop => true,
+            _ => false,
+        },
+        Stage::OnPage => match kind {
+            Kind::Bop | Kind::Pre | Kind::Post | Kind::PostPost => false,
+            _ => true,
+        },
+        Stage::BetweenPages => match kind {
+            Kind::Nop | Kind::Define | Kind::Bop | Kind::Post => true,
+            _ => false,
+        },
+        Stage::AfterPost => match kind {
+            Kind::Nop | Kind::Define | Kind::PostPost => true,
+            _ => false,
+        },
+        Stage::AfterEnd => false,
+    }
+}
+
+// 6: pop at depth 0, push at depth 100, eop at depth above 0.
+pub fn wrong_at_depth(kind: Kind, depth: usize) -> bool
+    ensures { λ r. ⌜ r ≡ wrongAtDepth kind depth ⌝ }
+{
+    match kind {
+        Kind::Pop => depth == 0,
+        Kind::Push => Page::DEPTH <= depth,
+        Kind::Eop => 0 < depth,
+        _ => false,
+    }
+}
+
+// 7: whether a scale or a design size is 1 to 134,217,727.
+pub fn lawful_size(size: u64) -> bool
+    ensures { λ r. ⌜ r ≡ lawfulSize size ⌝ }
+{
+    if size < 1 {
+        return false;
+    }
+    size <= 134217727
+}
+
+// 9: whether the pointer at a place of the parameters is this one.
+pub fn points_to(params: &[u8], at: usize, place: i64) -> bool
+    requires { ⌜ at + 4 ≤ length (now params) ⌝ }
+    ensures { λ r. ⌜ r ≡ sameNumber (signedAt (now (params .entry)) at 4) place ⌝ }
+{
+    numbers::same_number(numbers::signed_at(params, at, 4), place)
+}
+
+// 10: whether post repeats num, den and mag, and states depth and pages.
+pub fn lawful_postamble(
+    num: u64,
+    den: u64,
+    mag: u64,
+    greatest: usize,
+    pages: usize,
+    params: &[u8],
+) -> bool
+    requires { ⌜ 28 ≤ length (now params) ⌝ }
+    ensures { λ r. ⌜ r ≡ lawfulPostamble num den mag greatest pages (now (params .entry)) ⌝ }
+{
+    if numbers::unsigned_at(params, 4, 4) != num {
+        return false;
+    }
+    if numbers::unsigned_at(params, 8, 4) != den {
+        return false;
+    }
+    if numbers::unsigned_at(params, 12, 4) != mag {
+        return false;
+    }
+    if numbers::unsigned_at(params, 24, 2) != greatest as u64 {
+        return false;
+    }
+    numbers::unsigned_at(params, 26, 2) == pages as u64
+}
