@@ -1,9 +1,9 @@
 -- The numbers among a command's parameters, by appendix A's signs. Assumes nothing.
-use Prim.Native.Nat.{ℕ, _+_, _-_}
+use Prim.Native.Nat.{ℕ, _-_}
 use mathlib.Core.Bool.{cond}
 use mathlib.Core.List.{List}
 use lib.Dec.{ltb, eqb}
-use lib.ListN.{length, getD, drop}
+use lib.ListN.{length, drop}
 use lib.IntN.{ℤ, pos}
 use Rattle.numbers.specs.Bytes.{unsignedAt, signedAt}
 

@@ -4,6 +4,13 @@ use Prim.Native.Nat.{ℕ}
 use contract.Lifetimes.{Lfts}
 use Rattle.refusals.specs.Answer.{Answer, refused, given}
 use Rattle.widths.specs.LookUp.{LookUp, found, absent}
+use denote.Ref.{now}
+use Rattle.reader.specs.declared.CommandRead.{CommandRead}
+use Rattle.reader.specs.declared.CommandRead.the-variants as CommandRead
+use Rattle.reader.specs.declared.FileChecked.{FileChecked}
+use Rattle.reader.specs.declared.FileChecked.the-variants as FileChecked
+use Rattle.reader.specs.declared.NamePlace.{NamePlace}
+use Rattle.reader.specs.declared.NamePlace.the-variants as NamePlace
 use Rattle.reader.specs.declared.Rounded.{Rounded}
 use Rattle.reader.specs.declared.Rounded.the-variants as Rounded
 use Rattle.reader.specs.declared.Scaled.{Scaled}
@@ -12,7 +19,11 @@ use Rattle.reader.specs.declared.TableChecked.{TableChecked}
 use Rattle.reader.specs.declared.TableChecked.the-variants as TableChecked
 use Rattle.reader.specs.declared.LookedUp.{LookedUp}
 use Rattle.reader.specs.declared.LookedUp.the-variants as LookedUp
-use Rattle.reader.specs.Answers.{roundedAnswer, scaledAnswer, tableAnswer, lookedAnswer}
+use Rattle.reader.specs.Answers.{commandAnswer, fileAnswer, nameAnswer, roundedAnswer, scaledAnswer, tableAnswer, lookedAnswer}
+use Rattle.reader.proofs.read_command.Reads as read-command
+use Rattle.reader.proofs.check_file.Reads as check-file
+use Rattle.reader.proofs.font_name_place.Reads as font-name-place
+use Rattle.reader.proofs.font_name.Reads as font-name
 use Rattle.reader.proofs.round_distance.Reads as round-distance
 use Rattle.reader.proofs.scale_width.Reads as scale-width
 use Rattle.reader.proofs.check_table.Reads as check-table
@@ -52,7 +63,34 @@ looked-back (LookedUp.Found escapement b0 b1 b2 b3) = refl
 looked-back LookedUp.Absent = refl
 looked-back (LookedUp.Refused number place) = refl
 
+command-back : (r : CommandRead) → outcome CommandRead.Refused (λ reading. CommandRead.Command (reading .opcode) (reading .start) (reading .next)) (commandAnswer r) ≡ r
+command-back (CommandRead.Command opcode start next) = refl
+command-back (CommandRead.Refused number place) = refl
+
+file-back : (r : FileChecked) → outcome FileChecked.Refused (λ s. FileChecked.Accepted (s .pages) (s .fonts) (s .depth) (s .post)) (fileAnswer r) ≡ r
+file-back (FileChecked.Accepted pages fonts depth post) = refl
+file-back (FileChecked.Refused number place) = refl
+
+name-back : (r : NamePlace) → outcome NamePlace.Refused (λ part. NamePlace.At (part .start) (part .end)) (nameAnswer r) ≡ r
+name-back (NamePlace.At start end) = refl
+name-back (NamePlace.Refused number place) = refl
+
 -- ---- the entries
+
+pub read-command-outcomes : (κs : Lfts 1) → (a : _) → (r s : CommandRead) → (x y : _) → read-command.Post κs a r x → read-command.Post κs a s y → r ≡ s
+read-command-outcomes κs a r s x y p q =
+    one commandAnswer (outcome CommandRead.Refused (λ reading. CommandRead.Command (reading .opcode) (reading .start) (reading .next))) command-back _ r s p q
+
+pub check-file-outcomes : (κs : Lfts 1) → (a : _) → (r s : FileChecked) → (x y : _) → check-file.Post κs a r x → check-file.Post κs a s y → r ≡ s
+check-file-outcomes κs a r s x y p q =
+    one fileAnswer (outcome FileChecked.Refused (λ s. FileChecked.Accepted (s .pages) (s .fonts) (s .depth) (s .post))) file-back _ r s (p .0) (q .0)
+
+pub font-name-place-outcomes : (κs : Lfts 1) → (a : _) → (r s : NamePlace) → (x y : _) → font-name-place.Post κs a r x → font-name-place.Post κs a s y → r ≡ s
+font-name-place-outcomes κs a r s x y p q = one nameAnswer (outcome NamePlace.Refused (λ part. NamePlace.At (part .start) (part .end))) name-back _ r s p q
+
+-- of a part of the caller's file: what it holds, and where it stands
+pub font-name-outcomes : (κs : Lfts 1) → (a : _) → (r s : _) → (x y : _) → font-name.Post κs a r x → font-name.Post κs a s y → (now r ≡ now s) × (r .ptr ≡ s .ptr)
+font-name-outcomes κs a r s x y p q = (p .0 ∙ sym (q .0), p .1 ∙ sym (q .1))
 
 pub round-distance-outcomes : (κs : Lfts 0) → (a : _) → (r s : Rounded) → (x y : _) → round-distance.Post κs a r x → round-distance.Post κs a s y → r ≡ s
 round-distance-outcomes κs a r s x y p q = one roundedAnswer (outcome Rounded.Refused Rounded.To) rounded-back _ r s p q

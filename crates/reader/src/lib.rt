@@ -15,7 +15,7 @@ ghost use mathlib.Core.Logic.{_↔_};
 ghost use Rattle.commands.specs.Reading.{commandRead};
 ghost use Rattle.volume.specs.Lawful.{Lawful};
 ghost use Rattle.volume.specs.Judged.{judged};
-ghost use Rattle.volume.specs.Names.{namePlace, nameOf};
+ghost use Rattle.volume.specs.Names.{namePlace, nameOf, nameStart, bytesAfter};
 ghost use Rattle.units.specs.Rounding.{roundedDistance};
 ghost use Rattle.widths.specs.Scaling.{fixWord, scaledWidth};
 ghost use Rattle.widths.specs.Table.{checkedTable};
@@ -116,6 +116,7 @@ pub fn font_name_place(file: &[u8], font: i32) -> NamePlace
 // The name of a font, as the part of the file that holds it; on any refusal the empty part at the file's start.
 pub fn font_name(file: &[u8], font: i32) -> &[u8]
     ensures { λ r. ⌜ now r ≡ nameOf (now (file .entry)) font ⌝ }
+    ensures { λ r. ⌜ r .ptr ≡ bytesAfter (nameStart (now (file .entry)) font) (file .entry .ptr) ⌝ }
 {
     names::name_of(file, font as i64)
 }

@@ -1,7 +1,7 @@
 -- Three factors above the line and two below it, cancelled pair by pair, give the lowest terms of the two products. Assumes nothing.
-use mathlib.Core.Path.{_≡_, refl, sym, ap, ap₂, _∙_, subst}
+use mathlib.Core.Path.{_≡_, sym, ap, ap₂, _∙_, subst}
 use Prim.Native.Nat.{ℕ, _*_, _≤_, _<_, _∣_}
-use native.Mathlib.Nat.{mul-assoc, mul-comm, mul-one, mul-pos, dvd-mul-right, dvd-trans, dvd-refl, le-trans, le-mul-of-pos-right, mul-le-mul, pos-of-dvd-of-pos}
+use native.Mathlib.Nat.{mul-assoc, mul-comm, mul-one, mul-pos, dvd-mul-right, dvd-trans, dvd-refl, le-mul-of-pos-right, mul-le-mul, pos-of-dvd-of-pos}
 use lib.Dec.{lit<}
 use Rattle.units.specs.declared.Ratio.{Ratio}
 use Rattle.units.specs.Divisor.{commonDivisor, lowest}

@@ -1,6 +1,6 @@
 -- Laws of the common divisor, up to Euclid's lemma and the uniqueness of lowest terms. Assumes nothing.
 use mathlib.Core.Path.{_≡_, refl, sym, ap, ap₂, _∙_, subst}
-use Prim.Native.Nat.{ℕ, zero, suc, _+_, _-_, _*_, _/_, _%_, _≤_, _<_, _∣_}
+use Prim.Native.Nat.{ℕ, zero, suc, _-_, _*_, _/_, _%_, _≤_, _<_, _∣_}
 use native.Mathlib.Nat.{dvd-antisymm, eq-of-mul-eq-mul-left, eq-of-mul-eq-mul-right, div-mul-cancel, dvd-mod-iff, dvd-mul-right, dvd-of-mul-dvd-mul-right, dvd-refl, dvd-trans, dvd-zero, eq-one-of-dvd-one, le-refl, mod-def, mod-lt, mul-assoc, mul-comm, mul-div-cancel, mul-div-mul-right, mul-dvd-mul-right, mul-left-comm, mul-pos, mul-sub, not-suc-le-zero, one-mul, pos-of-dvd-of-pos, zero-lt-suc, zero-mul}
 use native.Mathlib.Omega.{arith}
 use Rattle.units.specs.declared.Ratio.{Ratio}

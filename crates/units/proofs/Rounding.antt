@@ -2,11 +2,11 @@
 use mathlib.Core.Path.{_≡_, refl, sym, ap, _∙_, subst}
 use mathlib.Core.Bool.{true, false}
 use Prim.Native.Nat.{ℕ, suc, _+_, _-_, _*_, _/_, _≤_, _<_, _^_}
-use native.Mathlib.Nat.{mul-le-mul, mul-le-mul-left, mul-le-mul-right, div-mul-le-self, div-le-self, div-lt-iff-lt-mul, le-div-iff-mul-le, le-mul-of-pos-right, le-of-mul-le-mul-right, one-mul, two-mul, mul-zero, mul-comm, add-mul, mul-add}
+use native.Mathlib.Nat.{mul-le-mul, mul-le-mul-left, mul-le-mul-right, div-mul-le-self, div-lt-iff-lt-mul, le-div-iff-mul-le, le-mul-of-pos-right, le-of-mul-le-mul-right, one-mul, two-mul, mul-comm, add-mul, mul-add}
 use native.Mathlib.Omega.{arith}
 use borrow.Author.Tests.{ltb-true}
-use lib.Dec.{T, lit<}
-use lib.IntN.{ℤ, pos, negsuc, negℤ, natAbs}
+use lib.Dec.{T}
+use lib.IntN.{ℤ, pos, negsuc, natAbs}
 use lib.Signed.{ltZ}
 use Rattle.numbers.specs.Signs.{withSign}
 use Rattle.numbers.proofs.Signed.{abs-sign, abs-neg}

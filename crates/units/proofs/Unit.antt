@@ -1,13 +1,13 @@
 -- What is known of a K that was given. Assumes nothing.
-use mathlib.Core.Path.{_≡_, refl, sym, subst}
-use mathlib.Core.Bool.{Bool, true, false, _||_, _&&_, not, and-eq-true-iff}
-use Prim.Native.Nat.{ℕ, _*_, _≤_, _<_, _^_}
+use mathlib.Core.Path.{_≡_, refl, subst}
+use mathlib.Core.Bool.{Bool, true, false, _||_, _&&_, and-eq-true-iff}
+use Prim.Native.Nat.{ℕ, _*_, _<_, _^_}
 use native.Mathlib.Nat.{mul-pos}
 use native.Mathlib.Omega.{arith}
 use borrow.Author.Tests.{ltb-false, leb-true, not-false}
 use lib.Dec.{ltb, leb}
 use Rattle.refusals.specs.Numbers.{wrongResolution, unitOutOfRange}
-use Rattle.refusals.specs.Answer.{Answer, given, refuseIf}
+use Rattle.refusals.specs.Answer.{given}
 use Rattle.refusals.proofs.Answer.{given-next, given-same}
 use Rattle.units.specs.declared.Ratio.{Ratio}
 use Rattle.units.specs.Divisor.{lowest}

@@ -2,7 +2,7 @@
 use refusals::Refusal;
 ghost use mathlib.Core.Path.{_≡_};
 ghost use Prim.Native.Nat.{_<_, _≤_, _^_};
-ghost use lib.IntN.{pos, natAbs};
+ghost use lib.IntN.{natAbs};
 ghost use Rattle.units.specs.Divisor.{commonDivisor, lowest};
 ghost use Rattle.units.specs.Unit.{Units, Accepted, unitAnswer, judged, unitOf, drift};
 ghost use Rattle.units.specs.Rounding.{nearestWhole, rounded, roundedUp};

@@ -105,6 +105,7 @@ kind-first k = on-kinds (λ j. kindOf (firstOpcode j)) (λ j. j) (unfold kindOf 
 pub is-kind : (k other : Kind) → is k other ≡ true → k ≡ other
 is-kind k other e = sym (kind-first k) ∙ ap kindOf (eqb-true (firstOpcode k) (firstOpcode other) e) ∙ kind-first other
 
+-- an arm of these kinds
 pub kind-arm : {A : Type 0} (f g : Kind → A) (ks : List Kind) → map f ks ≡ map g ks
     → (k : Kind) → OneOf (map (tagOf kind-type) ks) (tagOf kind-type k) → f k ≡ g k
 kind-arm f g ks e k o = on-these (tagOf kind-type) same-kind f g k ks e o
@@ -130,6 +131,7 @@ stage-back AfterEnd = refl
 same-stage : (x y : Stage) → tagOf stage-type x ≡ tagOf stage-type y → x ≡ y
 same-stage x y e = sym (stage-back x) ∙ ap (λ (t : ℕ). getD stages t AfterEnd) e ∙ stage-back y
 
+-- an arm of these stages
 pub stage-arm : {A : Type 0} (f g : Stage → A) (ss : List Stage) → map f ss ≡ map g ss
     → (s : Stage) → OneOf (map (tagOf stage-type) ss) (tagOf stage-type s) → f s ≡ g s
 stage-arm f g ss e s o = on-these (tagOf stage-type) same-stage f g s ss e o

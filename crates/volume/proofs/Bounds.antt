@@ -1,7 +1,7 @@
 -- The counts of the commands so far are at most the place after them, and the depth at most the greatest. Assumes nothing.
 use mathlib.Core.Bool.{Bool, true, false, cond}
 use mathlib.Core.List.{List, [], _∷_}
-use Prim.Native.Nat.{ℕ, _+_, _-_, _≤_, max}
+use Prim.Native.Nat.{ℕ, _≤_}
 use native.Mathlib.Omega.{arith}
 use Rattle.commands.specs.declared.Kind.the-variants.{Bop, Push, Pop, Post}
 use Rattle.commands.specs.Kinds.{is}

@@ -1,11 +1,11 @@
 -- What the lowest fault of a command comes to: at the start, where it may not stand, and by its kind; and it is 0 where every rule is kept, and only there.
 -- Assumes nothing.
-use Prim.Native.Nat.{ℕ, _<_}
-use native.Mathlib.Omega.{arith}
-use borrow.Author.Tests.{not-true, not-false}
 use mathlib.Core.Path.{_≡_, refl, ap, ap₂, sym, _∙_}
 use mathlib.Core.Bool.{Bool, true, false, cond, not, or-false}
 use mathlib.Core.List.{List}
+use Prim.Native.Nat.{ℕ, _<_}
+use native.Mathlib.Omega.{arith}
+use borrow.Author.Tests.{not-true, not-false}
 use Rattle.refusals.specs.Numbers.{wrongPreamble, misplacedCommand, wrongDepth, wrongFontDefinition, noFont, wrongPointer, wrongPostamble}
 use Rattle.numbers.specs.Signs.{sameNumber}
 use Rattle.numbers.specs.Bytes.{signedAt}
@@ -19,8 +19,8 @@ use Rattle.volume.specs.declared.Stage.the-variants.{AtStart, BeforePage
 use Rattle.volume.specs.declared.Volume.{Volume}
 use Rattle.volume.specs.Past.{isA, stage, definitionOf, isDefined}
 use Rattle.volume.specs.Rules.{isAtStart, lawfulPreamble, preambleWrong, mayStand, misplaced, wrongAtDepth, depthWrong, lawfulDefinition, definitionWrong, fontMissing, pointerWrong, postambleWrong, fault, Allowed}
-use Rattle.volume.proofs.Arms.{is-kind}
 use Rattle.volume.specs.Steps.{command, stateOf, firstFault, postFault, endFault}
+use Rattle.volume.proofs.Arms.{is-kind}
 
 -- the fault of a command that may stand where it does, not at the start, by its kind and by what the code holds
 abbrev pub laterFault : Volume → List Command → Command → Kind → ℕ

@@ -1,9 +1,8 @@
 -- What a font table tells of the commands so far, what stands in the file where a definition was read, and when a definition keeps the rules.
 -- Assumes nothing.
 use mathlib.Core.Path.{_≡_, refl, ap, sym, subst, _∙_}
-use mathlib.Core.Bool.{Bool, true, false, cond, not, _&&_}
+use mathlib.Core.Bool.{Bool, true, false, cond, not, _&&_, and-eq-true-iff}
 use mathlib.Core.List.{List, [], _∷_, _++_}
-use mathlib.Core.Logic.{⊎-elim}
 use Prim.Native.Nat.{ℕ, _+_, _-_, _<_, _≤_}
 use native.Mathlib.Omega.{arith}
 use lib.Dec.{T, eqb, ltb}
@@ -18,8 +17,7 @@ use Rattle.commands.specs.declared.Reading.{Reading}
 use Rattle.commands.specs.Kinds.{kindOf, is}
 use Rattle.commands.specs.Commands.{Command, kindOfCommand, whole, front}
 use Rattle.commands.specs.Parameters.{definedFont, definition, fontScale, fontDesignSize}
-use Rattle.commands.proofs.Ranges.{below-or-not, between-on}
-use Rattle.commands.proofs.Opcodes.{kind-range, range-kind, from-250}
+use Rattle.commands.proofs.Opcodes.{kind-range, range-kind}
 use Rattle.commands.proofs.Lengths.{fixed-of, whole-fixed}
 use Rattle.commands.proofs.Readings.{Reads, commandAt}
 use Rattle.state.specs.Limits.{mostFonts}
@@ -27,6 +25,7 @@ use Rattle.volume.specs.declared.Stage.{Stage}
 use Rattle.volume.specs.Past.{place, stage, isAfterPost, defines, fontNumber, body, Definition, none, stands, definitionOf, isDefined, fontCount}
 use Rattle.volume.specs.Rules.{lawfulFont, lawfulSize, says, lawfulDefinition}
 use Rattle.volume.specs.Steps.{command, entryOf, Tells, Standing, SayingIs}
+use Rattle.volume.proofs.Arms.{is-kind}
 
 -- ---- the numbers of a table's entries
 
@@ -37,25 +36,11 @@ lawful-in (negsuc n) e = let z : _≡_ {A = ℕ} 0 1 = cc in absurd (omega arith
 
 -- ---- definitions are of their kind
 
-is-define : (opcode : ℕ) → is (kindOf opcode) Define ≡ true → kindOf opcode ≡ Define
-is-define opcode e = ⊎-elim defined beyond (below-or-not opcode 250)
-  where
-    defined : opcode < 250 → kindOf opcode ≡ Define
-    defined h =
-        let (low, high) = rw e at (between-on (λ x. x) (λ x. cond (is (kindOf x) Define) 243 0) (λ x. cond (is (kindOf x) Define) 246 250) 0 250 (unfold kindOf in refl) {x = opcode} (omega arith) (omega arith)) in
-        range-kind Define low high
-
-    beyond : 250 ≤ opcode → kindOf opcode ≡ Define
-    beyond h = let z : _≡_ {A = ℕ} 0 1 = let other : is (kindOf opcode) Define ≡ false = rw (from-250 opcode h) in cc in absurd (omega arith)
-
 pub defines-kind : (after : Bool) (at-stage : Stage) (opcode : ℕ) → defines after at-stage (kindOf opcode) ≡ true → kindOf opcode ≡ Define
-defines-kind after at-stage opcode e = is-define opcode (go (is (kindOf opcode) Define) (cond after (isAfterPost at-stage) (not (isAfterPost at-stage))) e)
-  where
-    go : (defining timely : Bool) → (defining && timely) ≡ true → defining ≡ true
-    go true timely e = refl
-    go false timely e = e
+defines-kind after at-stage opcode e =
+    is-kind (kindOf opcode) Define (and-eq-true-iff (is (kindOf opcode) Define) (cond after (isAfterPost at-stage) (not (isAfterPost at-stage))) .0 e .0)
 
-definition-kind : (after : Bool) (number : ℤ) (past : List Command) {at : ℕ} {c : Command} → definitionOf after number past ≡ stands at c → kindOfCommand c ≡ Define
+pub definition-kind : (after : Bool) (number : ℤ) (past : List Command) {at : ℕ} {c : Command} → definitionOf after number past ≡ stands at c → kindOfCommand c ≡ Define
 definition-kind after number [] e = let z : _≡_ {A = ℕ} 0 1 = cc in absurd (omega arith)
 definition-kind after number (newest ∷ past) {at} {c} e =
     go (defines after (stage past) (kindOfCommand newest)) (sameNumber (fontNumber newest) number) refl e (definition-kind after number past)

@@ -1,28 +1,25 @@
 -- One turn of the scan: what the code holds stands for the commands so far, before one more and after it. Assumes nothing.
 use mathlib.Core.Path.{_≡_, refl, sym, ap, ap₂, _∙_, subst}
-use mathlib.Core.Bool.{Bool, true, false, cond, not, _&&_, _||_, and-eq-true-iff, false≢true}
+use mathlib.Core.Bool.{Bool, true, false, not, _&&_, _||_, and-eq-true-iff, false≢true}
 use mathlib.Core.List.{List, [], _∷_}
-use Prim.Native.Nat.{ℕ, zero, suc, _+_, _-_, _<_, _≤_}
+use Prim.Native.Nat.{ℕ, zero, suc, _+_, _≤_}
 use native.Mathlib.Omega.{arith}
-use lib.ListN.{length, getD, drop, replicate, getD-replicate, length-drop}
+use lib.ListN.{length, drop, replicate, getD-replicate, length-drop}
 use lib.Seq.{drop-at, drop-drop}
 use native.Mathlib.Numerals.{one-add}
-use borrow.Author.Tests.{le-ltb, not-false}
+use borrow.Author.Tests.{le-ltb}
 use Rattle.refusals.specs.Numbers.{fileEnds, undefinedOpcode}
-use Rattle.refusals.specs.Answer.{Answer, refused, given}
-use Rattle.commands.specs.declared.Kind.{Kind}
+use Rattle.refusals.specs.Answer.{refused}
 use Rattle.commands.specs.declared.Kind.the-variants.{Define, PostPost}
-use Rattle.commands.specs.declared.Reading.{Reading}
-use Rattle.commands.specs.Kinds.{kindOf, is}
+use Rattle.commands.specs.Kinds.{is}
 use Rattle.commands.specs.Commands.{Command, form, kindOfCommand, Front, cut, undefined, whole, front}
 use Rattle.commands.specs.Reading.{reading, readAt}
 use Rattle.commands.proofs.Fronts.{front-sound, front-length}
 use Rattle.volume.specs.declared.Stage.{Stage}
 use Rattle.volume.specs.declared.Stage.the-variants.{OnPage}
-use Rattle.volume.specs.declared.Summary.{Summary}
 use Rattle.volume.specs.declared.Volume.{Volume}
 use Rattle.volume.specs.Past.{isA, place, stage, selected, fontNumber}
-use Rattle.volume.specs.Rules.{lawfulFont, lawfulDefinition, fontLeftOut, fault, Allowed}
+use Rattle.volume.specs.Rules.{lawfulFont, lawfulDefinition, fontLeftOut, fault}
 use Rattle.volume.specs.Judged.{summary, tail, judgedFrom, judged}
 use Rattle.volume.specs.Names.{historyFrom, history}
 use Rattle.volume.specs.Steps.{stateOf, afterOf, tableAfter, Tells, Agrees, Going, isPlain, Passes, none-more, one-more}

@@ -1,7 +1,7 @@
 -- Plain commands: on a page, with a font selected, none is at fault, and none changes anything but the place. Assumes nothing.
-use mathlib.Core.Path.{_≡_, refl, sym, ap, _∙_, subst}
+use mathlib.Core.Path.{_≡_, refl, ap, _∙_}
 use mathlib.Core.Bool.{Bool, true, false, false≢true}
-use mathlib.Core.List.{List, [], _∷_}
+use mathlib.Core.List.{List}
 use Prim.Native.Nat.{ℕ, _+_, _≤_, max}
 use native.Mathlib.Omega.{arith}
 use lib.ListN.{length}
@@ -11,7 +11,7 @@ use Rattle.commands.specs.Commands.{Command, kindOfCommand}
 use Rattle.volume.specs.declared.Stage.{Stage}
 use Rattle.volume.specs.declared.Stage.the-variants.{OnPage}
 use Rattle.volume.specs.declared.Volume.{Volume}
-use Rattle.volume.specs.Past.{isA, stage, selected, defines}
+use Rattle.volume.specs.Past.{isA, stage, selected}
 use Rattle.volume.specs.Rules.{fault}
 use Rattle.volume.specs.Steps.{afterOf, isPlain, tableAfter}
 

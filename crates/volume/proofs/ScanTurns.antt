@@ -1,20 +1,19 @@
 -- What the scan's loop cites: one turn, by what the code read, judged and noted. Assumes nothing.
-use mathlib.Core.Path.{_≡_, refl, sym, ap, _∙_, subst}
-use mathlib.Core.Bool.{Bool, true, false}
-use mathlib.Core.List.{List, [], _∷_}
-use Prim.Native.Nat.{ℕ, _+_, _-_, _<_, _≤_, _^_}
+use mathlib.Core.Path.{_≡_, sym, ap, _∙_, subst}
+use mathlib.Core.Bool.{true, false}
+use mathlib.Core.List.{List, _∷_}
+use Prim.Native.Nat.{ℕ, _+_, _<_, _≤_, _^_}
 use native.Mathlib.Omega.{arith}
-use lib.ListN.{length, take, drop}
+use lib.ListN.{length, drop}
 use Rattle.refusals.specs.Answer.{refused}
 use Rattle.commands.specs.declared.Kind.{Kind}
-use Rattle.commands.specs.declared.Kind.the-variants.{Define, Pre, PostPost}
+use Rattle.commands.specs.declared.Kind.the-variants.{Define, PostPost}
 use Rattle.commands.specs.declared.Reading.{Reading}
 use Rattle.commands.specs.Kinds.{kindOf, is}
 use Rattle.commands.specs.Lengths.{fixedLength}
 use Rattle.commands.specs.Commands.{Command, kindOfCommand}
 use Rattle.commands.proofs.Lengths.{fixed-of, whole-fixed}
 use Rattle.commands.proofs.Readings.{commandAt, Reads}
-use Rattle.volume.specs.declared.Stage.{Stage}
 use Rattle.volume.specs.declared.Volume.{Volume}
 use Rattle.volume.specs.declared.Scanned.{Scanned}
 use Rattle.volume.specs.declared.Scanned.the-variants as Scanned

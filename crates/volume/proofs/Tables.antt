@@ -1,28 +1,23 @@
 -- The font tables after one more command tell the definitions of the list with that command. Assumes nothing.
 use mathlib.Core.Path.{_≡_, refl, sym, ap, _∙_, subst}
-use mathlib.Core.Bool.{Bool, true, false, cond, not, _&&_, _||_, and-eq-true-iff, false≢true}
-use mathlib.Core.List.{List, [], _∷_}
-use Prim.Native.Nat.{ℕ, _+_, _≤_, _<_}
+use mathlib.Core.Bool.{Bool, true, false, cond, not, _&&_, and-eq-true-iff, false≢true}
+use mathlib.Core.List.{List, _∷_}
+use Prim.Native.Nat.{ℕ, _+_, _<_}
 use native.Mathlib.Omega.{arith}
 use lib.Dec.{eqb}
 use lib.ListN.{length, getD, drop, set, length-set}
 use lib.Seq.{getD-set-same, getD-set-other}
-use lib.IntN.{ℤ, pos, negsuc, natAbs}
-use lib.Signed.{leZ}
-use borrow.Author.Tests.{leb-true, eqb-true, eqb-false}
+use lib.IntN.{ℤ, pos, natAbs}
+use borrow.Author.Tests.{eqb-true, eqb-false}
 use Rattle.numbers.specs.Signs.{sameNumber}
 use Rattle.numbers.proofs.Signed.{same-number-refl, same-number-true}
 use Rattle.commands.specs.declared.Kind.the-variants.{Define}
 use Rattle.commands.specs.Kinds.{is}
 use Rattle.commands.specs.Commands.{Command, kindOfCommand, whole, front}
-use Rattle.volume.specs.Past.{isA, place, stage, isAfterPost, fontNumber, defines, Definition, none, stands, definitionOf}
+use Rattle.volume.specs.Past.{place, stage, isAfterPost, fontNumber, defines, Definition, none, stands, definitionOf}
 use Rattle.volume.specs.Rules.{lawfulFont}
 use Rattle.volume.specs.Steps.{entryOf, tableAfter, Tells, Standing, AllStanding, Lawfully}
-
--- a lawful font number is a natural number below 256
-pub lawful-is : (number : ℤ) → lawfulFont number ≡ true → (number ≡ pos (natAbs number)) × (natAbs number < 256)
-lawful-is (pos n) e = let h : n ≤ 255 = leb-true n 255 (and-eq-true-iff (leZ (pos 0) (pos n)) (leZ (pos n) (pos 255)) .0 e .1) in (refl, omega arith)
-lawful-is (negsuc n) e = absurd (false≢true e)
+use Rattle.volume.proofs.FontTables.{lawful-in}
 
 -- two natural numbers that differ are not the same number
 differ : (m n : ℕ) → (m ≡ n → ⊥) → sameNumber (pos m) (pos n) ≡ false
@@ -48,7 +43,7 @@ module _ (past : List Command) (c : Command) (lawful : is (kindOfCommand c) Defi
     same-place : (n : ℕ) → n < 256 → lawfulFont (fontNumber c) ≡ true → natAbs (fontNumber c) ≡ n
         → getD (set table (natAbs (fontNumber c)) (place past + 1)) n 0 ≡ entryOf (found true n)
     same-place n h l e =
-        let here : fontNumber c ≡ pos n = lawful-is (fontNumber c) l .0 ∙ ap pos e in
+        let here : fontNumber c ≡ pos n = sym (lawful-in (fontNumber c) l .2) ∙ ap pos e in
         let test : sameNumber (fontNumber c) (pos n) ≡ true = subst (λ (z : ℤ). sameNumber z (pos n) ≡ true) (sym here) (same-number-refl (pos n)) in
         subst (λ (m : ℕ). getD (set table m (place past + 1)) n 0 ≡ place past + 1) (sym e) (getD-set-same table n (place past + 1) 0 (omega (arith, tells .full)))
         ∙ sym (ap (λ (t : Bool). entryOf (cond t (stands (place past) c) (definitionOf after (pos n) past))) test)
@@ -56,7 +51,7 @@ module _ (past : List Command) (c : Command) (lawful : is (kindOfCommand c) Defi
     other-place : (n : ℕ) → n < 256 → lawfulFont (fontNumber c) ≡ true → (natAbs (fontNumber c) ≡ n → ⊥)
         → getD (set table (natAbs (fontNumber c)) (place past + 1)) n 0 ≡ entryOf (found true n)
     other-place n h l ne =
-        let there = lawful-is (fontNumber c) l .0 in
+        let there = sym (lawful-in (fontNumber c) l .2) in
         let test : sameNumber (fontNumber c) (pos n) ≡ false = subst (λ (z : ℤ). sameNumber z (pos n) ≡ false) (sym there) (differ (natAbs (fontNumber c)) n ne) in
         getD-set-other table (natAbs (fontNumber c)) n (place past + 1) 0 (λ e. ne (sym e))
         ∙ tells .entry n h

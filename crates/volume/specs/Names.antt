@@ -51,3 +51,15 @@ partOf file (given part) = take (part .end - part .start) (drop (part .start) fi
 
 abbrev pub nameOf : List ℕ → ℤ → List ℕ
 nameOf file number = partOf file (namePlace file number)
+
+-- where the part starts in the file: at "the file's start" on any refusal
+abbrev pub startOf : Answer Part → ℕ
+startOf (refused number place) = 0
+startOf (given part) = part .start
+
+abbrev pub nameStart : List ℕ → ℤ → ℕ
+nameStart file number = startOf (namePlace file number)
+
+-- the place in memory so many bytes after another, of the same lent bytes
+abbrev pub bytesAfter : ℕ → ℕ × ℕ → ℕ × ℕ
+bytesAfter count from = (from .0, count + from .1)

@@ -1,8 +1,8 @@
 -- What the code holds of the commands so far, and what it makes of one more; no promise cites this. Assumes nothing.
-use Prim.Native.Nat.{ℕ, _+_, _-_, _<_, _≤_, max}
+use Prim.Native.Nat.{ℕ, _+_, _<_, _≤_, max}
 use mathlib.Core.Path.{_≡_}
 use mathlib.Core.Bool.{Bool, true, false, cond, not, _&&_, _||_}
-use mathlib.Core.List.{List, [], _∷_}
+use mathlib.Core.List.{List}
 use lib.Dec.{eqb}
 use lib.ListN.{length, getD, drop, set}
 use lib.IntN.{ℤ, pos, natAbs}
@@ -13,7 +13,7 @@ use Rattle.numbers.specs.Bytes.{unsignedAt, signedAt}
 use Rattle.commands.specs.declared.Kind.{Kind}
 use Rattle.commands.specs.declared.Kind.the-variants.{SetCharacter, SetRule, PutCharacter, PutRule, Nop, Bop, Right, W, X, Down, Y, Z, Select, Define, Pre, Post}
 use Rattle.commands.specs.Kinds.{kindOf, is}
-use Rattle.commands.specs.Commands.{Command, kindOfCommand, Front, whole, front}
+use Rattle.commands.specs.Commands.{Command, kindOfCommand, whole, front}
 use Rattle.commands.specs.Parameters.{definedFont, selectedFont}
 use Rattle.volume.specs.declared.Stage.{Stage}
 use Rattle.volume.specs.declared.Summary.{Summary}
@@ -25,9 +25,9 @@ use Rattle.volume.specs.declared.Named.{Named}
 use Rattle.volume.specs.declared.Named.the-variants as Named
 use Rattle.volume.specs.declared.Checked.{Checked}
 use Rattle.volume.specs.declared.Checked.the-variants as Checked
-use Rattle.volume.specs.Past.{isA, place, stage, stageAfter, depth, depthAfter, greatest, pages, lastBop, bopOf, postPlace, unitAt, num, den, mag, selected, defines, body, Definition, none, stands, definitionOf, isDefined, fontCount}
+use Rattle.volume.specs.Past.{place, stage, stageAfter, depth, depthAfter, greatest, pages, lastBop, bopOf, postPlace, num, den, mag, selected, defines, body, Definition, none, stands, definitionOf, isDefined, fontCount}
 use Rattle.volume.specs.Rules.{lawfulPreamble, lawfulFont, sameBytes, lawfulDefinition, lawfulPostamble, fault}
-use Rattle.volume.specs.Judged.{summary, judged, judgedFrom}
+use Rattle.volume.specs.Judged.{judged, judgedFrom}
 use Rattle.volume.specs.Names.{history, historyFrom, namedBy}
 
 -- a command of an opcode and its parameters

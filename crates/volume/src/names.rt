@@ -8,7 +8,7 @@ use commands::Read;
 use refusals::Refusal;
 ghost use mathlib.Core.Path.{_≡_};
 ghost use lib.ListN.{length};
-ghost use Rattle.volume.specs.Names.{namePlace, nameOf};
+ghost use Rattle.volume.specs.Names.{namePlace, nameOf, nameStart, bytesAfter};
 ghost use Rattle.volume.specs.Steps.{nameAnswer, Inside, NamedIs};
 
 // Where the name of a font stands, by the table of the definitions before post.
@@ -62,6 +62,7 @@ pub fn name_place(file: &[u8], number: i64) -> Named
 // The name of a font, as the part of the file that holds it; the empty part at the file's start on any refusal.
 pub fn name_of(file: &[u8], number: i64) -> &[u8]
     ensures { λ r. ⌜ now r ≡ nameOf (now (file .entry)) number ⌝ }
+    ensures { λ r. ⌜ r .ptr ≡ bytesAfter (nameStart (now (file .entry)) number) (file .entry .ptr) ⌝ }
 {
     match name_place(file, number) {
         Named::Refused(_) => &file[0..0],

@@ -4,7 +4,6 @@ use crate::Halved;
 ghost use mathlib.Core.Path.{_≡_};
 ghost use mathlib.Core.Bool.{true};
 ghost use Prim.Native.Nat.{_≤_, _<_, _*_, _^_};
-ghost use lib.IntN.{natAbs};
 ghost use Rattle.widths.specs.Scaling.{halved, share, signedShare, scaledBy, lawfulScale, lawfulFirst};
 ghost use Rattle.widths.specs.Steps.{Narrow};
 

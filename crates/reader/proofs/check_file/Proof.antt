@@ -1,9 +1,8 @@
 -- `reader::check_file` meets its contract: what the room answers, and what is accepted is exactly what is lawful. Assumes nothing.
-use mathlib.Core.Path.{_≡_, sym, ap, _∙_}
+use mathlib.Core.Path.{sym, ap, _∙_}
 use borrow.Author.Needs.{needs}
 use denote.Ref.{now}
 use Rattle.refusals.proofs.Answer.{given-not-refused}
-use Rattle.volume.specs.Judged.{judged}
 use Rattle.volume.specs.Steps.{checkAnswer}
 use Rattle.volume.proofs.Accepts.{accepts-lawful, lawful-accepted}
 use Rattle.reader.proofs.check_file.Statement.{statement}

@@ -1,5 +1,5 @@
 -- `units::lowest_terms` meets its contract. Assumes nothing.
-use mathlib.Core.Path.{_≡_, ap}
+use mathlib.Core.Path.{ap}
 use Prim.Native.Nat.{ℕ, _<_, _/_}
 use borrow.Author.Needs.{needs}
 use Rattle.units.specs.Divisor.{lowest}

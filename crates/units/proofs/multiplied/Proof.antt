@@ -1,5 +1,5 @@
 -- `units::multiplied` meets its contract: no product wraps, and the tests are those of `judged`. Assumes nothing.
-use Prim.Native.Nat.{ℕ, _*_, _≤_, _^_}
+use Prim.Native.Nat.{_*_, _^_}
 use native.Mathlib.Nat.{le-mul-of-pos-right}
 use native.Mathlib.Omega.{arith}
 use borrow.Author.Needs.{needs}

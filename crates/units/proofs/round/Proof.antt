@@ -1,7 +1,7 @@
 -- `units::round` meets its contract: magnitude, the nearest whole, the sign put back. Assumes nothing.
 use mathlib.Core.Path.{_≡_, ap, ap₂, _∙_}
 use native.Mathlib.Omega.{arith}
-use borrow.Author.Needs.{needs, sfits-of}
+use borrow.Author.Needs.{sfits-of}
 use lib.IntN.{natAbs}
 use mir.Facts.{toZ-ofZ}
 use Rattle.numbers.specs.Signs.{withSign}

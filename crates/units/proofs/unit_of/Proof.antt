@@ -1,6 +1,5 @@
 -- `units::unit_of` meets its contract: 12 is judged first, then the factors left make P/Q. Assumes nothing.
 use mathlib.Core.Path.{ap, sym, _∙_}
-use native.Mathlib.Omega.{arith}
 use borrow.Author.Needs.{needs}
 use borrow.Author.Tests.{le-leb, lt-leb}
 use Rattle.units.specs.Unit.{judged}

@@ -1,4 +1,5 @@
 -- `volume::faults::end_fault` meets its contract: fonts left out, then the pointer, then the identification. Assumes nothing.
+use mathlib.Core.Path.{refl}
 use native.Mathlib.Omega.{arith}
 use borrow.Author.Needs.{needs}
 use borrow.Author.Tests.{eq-eqb, ne-eqb, not-true, not-false}
@@ -7,7 +8,7 @@ use Rattle.volume.proofs.faults.end_fault.Statement.{statement}
 use Rattle.volume.proofs.faults.end_fault.Tie as tie
 
 returns : tie.Need-returns
-returns c = rw (ne-eqb _ _ (c .if1 .taken))
+returns c = rw (ne-eqb _ _ (c .if1 .taken)) refl
 
 cast-points-to : tie.Need-cast-points-to
 cast-points-to c = search needs

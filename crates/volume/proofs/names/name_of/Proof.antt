@@ -1,16 +1,15 @@
 -- `volume::names::name_of` meets its contract: the part that `name_place` names. Assumes nothing.
-use mathlib.Core.Path.{_≡_, refl, sym, ap, _∙_, subst}
-use mathlib.Core.List.{List}
-use Prim.Native.Nat.{ℕ, _-_, _≤_}
+use mathlib.Core.Path.{_≡_, sym, ap, _∙_, subst}
+use Prim.Native.Nat.{_≤_}
 use native.Mathlib.Omega.{arith}
 use borrow.Author.Needs.{needs}
-use lib.ListN.{length, take, drop}
-use lib.IntN.{ℤ}
+use lib.ListN.{length}
 use denote.Ref.{now}
 use mir.Facts.{toZ-ofZ}
 use Rattle.refusals.specs.Answer.{Answer}
 use Rattle.volume.specs.declared.Part.{Part}
-use Rattle.volume.specs.Names.{namePlace, partOf}
+use Rattle.volume.specs.declared.Named.{Named}
+use Rattle.volume.specs.Names.{namePlace, partOf, startOf, bytesAfter}
 use Rattle.volume.specs.Steps.{nameAnswer, Inside}
 use Rattle.volume.proofs.names.name_of.Statement.{statement}
 use Rattle.volume.proofs.names.name_of.Tie as tie
@@ -50,15 +49,23 @@ part-result-end-2 c = omega (arith, inside c)
 place-is : (c : tie.After-name-place) → nameAnswer (c .name-place .result) ≡ namePlace (now (c .before .before .args .file)) (c .before .before .args .number)
 place-is c = c .name-place .ensures .0 ∙ ap (namePlace (now (c .before .before .args .file))) (toZ-ofZ (c .before .before .fits .number))
 
+-- what was answered, refused or not, is what is meant
+answer-is : (c : tie.After-name-place) (r : Named) → c .name-place .result ≡ r → nameAnswer r ≡ namePlace (now (c .before .before .args .file)) (c .before .before .args .number)
+answer-is c r e = ap nameAnswer (sym e) ∙ place-is c
+
 returns : tie.Need-returns
 returns c =
     let p = c .before .before .before in
-    sym (ap (partOf (now (p .before .before .args .file))) (sym (place-is p) ∙ ap nameAnswer (c .before .enum-told .given .1)))
+    let file = p .before .before .args .file in
+    let e = answer-is p _ (c .before .enum-told .given .1) in
+    (ap (partOf (now file)) e, ap (λ (a : Answer Part). bytesAfter (startOf a) (file .ptr)) e)
 
 returns-2 : tie.Need-returns-2
 returns-2 c =
     let p = c .before .before .before .before in
-    sym (ap (partOf (now (p .before .before .args .file))) (sym (place-is p) ∙ ap nameAnswer (c .before .before .part .given .1)))
+    let file = p .before .before .args .file in
+    let e = answer-is p _ (c .before .before .part .given .1) in
+    (ap (partOf (now file)) e, ap (λ (a : Answer Part). bytesAfter (startOf a) (file .ptr)) e)
 
 pub name-of-spec : {M : Type 1} → statement M
 name-of-spec =

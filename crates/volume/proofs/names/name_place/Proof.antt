@@ -1,5 +1,5 @@
 -- `volume::names::name_place` meets its contract: the file is judged, then the table of its definitions is asked. Assumes nothing.
-use mathlib.Core.Path.{_≡_, refl, sym, ap, _∙_, subst}
+use mathlib.Core.Path.{refl, sym, ap, _∙_, subst}
 use mathlib.Core.Bool.{false}
 use mathlib.Core.List.{List}
 use Prim.Native.Nat.{ℕ}
@@ -12,7 +12,7 @@ use Rattle.volume.specs.declared.Part.{Part}
 use Rattle.volume.specs.declared.Summary.{Summary}
 use Rattle.volume.specs.Past.{definitionOf}
 use Rattle.volume.specs.Names.{history, namedBy}
-use Rattle.volume.specs.Steps.{scanAnswer, nameAnswer, Kept, NamedIs}
+use Rattle.volume.specs.Steps.{scanAnswer, Kept}
 use Rattle.volume.proofs.names.name_place.Statement.{statement}
 use Rattle.volume.proofs.names.name_place.Tie as tie
 

@@ -1,4 +1,7 @@
 -- `volume::rules::lawful_postamble` meets its contract: its tests are the rule's, in the rule's order. Assumes nothing.
+use mathlib.Core.Path.{ap}
+use Prim.Native.Nat.{ℕ}
+use lib.Dec.{eqb}
 use borrow.Author.Needs.{needs}
 use borrow.Author.Tests.{eq-eqb, ne-eqb}
 use Rattle.volume.proofs.rules.lawful_postamble.Statement.{statement}
@@ -32,7 +35,8 @@ unsigned-at-requires-5 : tie.Need-unsigned-at-requires-5
 unsigned-at-requires-5 c κs = search needs
 
 returns-5 : tie.Need-returns-5
-returns-5 c = rw (← c .before .before .before .before .before .before .before .before .unsigned-at .ensures .0, eq-eqb _ _ (c .before .before .before .before .before .before .before .if1 .left), ← c .before .before .before .before .before .before .unsigned-at2 .ensures .0, eq-eqb _ _ (c .before .before .before .before .before .if2 .left), ← c .before .before .before .before .unsigned-at3 .ensures .0, eq-eqb _ _ (c .before .before .before .if3 .left), ← c .before .before .unsigned-at4 .ensures .0, eq-eqb _ _ (c .before .if4 .left), ← c .unsigned-at5 .ensures .0)
+returns-5 c = rw (← c .before .before .before .before .before .before .before .before .unsigned-at .ensures .0, eq-eqb _ _ (c .before .before .before .before .before .before .before .if1 .left), ← c .before .before .before .before .before .before .unsigned-at2 .ensures .0, eq-eqb _ _ (c .before .before .before .before .before .if2 .left), ← c .before .before .before .before .unsigned-at3 .ensures .0, eq-eqb _ _ (c .before .before .before .if3 .left), ← c .before .before .unsigned-at4 .ensures .0, eq-eqb _ _ (c .before .if4 .left))
+    (ap (λ (stated : ℕ). eqb stated (c .before .before .before .before .before .before .before .before .before .before .args .pages)) (c .unsigned-at5 .ensures .0))
 
 pub lawful-postamble-spec : {M : Type 1} → statement M
 lawful-postamble-spec =

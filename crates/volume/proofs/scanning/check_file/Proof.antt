@@ -1,5 +1,5 @@
 -- `volume::scanning::check_file` meets its contract: what the scan found, in its four numbers. Assumes nothing.
-use mathlib.Core.Path.{_≡_, refl, sym, ap, _∙_}
+use mathlib.Core.Path.{refl, sym, ap, _∙_}
 use borrow.Author.Needs.{needs}
 use Rattle.volume.specs.Steps.{scanAnswer}
 use Rattle.volume.proofs.scanning.check_file.Statement.{statement}

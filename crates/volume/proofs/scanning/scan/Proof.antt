@@ -1,8 +1,8 @@
 -- `volume::scanning::scan` meets its contract: at each turn what the code holds stands for the commands so far. Assumes nothing.
-use mathlib.Core.Path.{_≡_, refl, sym, ap, _∙_, subst}
-use mathlib.Core.Bool.{true, false}
+use mathlib.Core.Path.{refl, sym, ap, _∙_, subst}
+use mathlib.Core.Bool.{false}
 use mathlib.Core.List.{List, [], _∷_}
-use Prim.Native.Nat.{ℕ, _+_, _-_, _<_, _≤_}
+use Prim.Native.Nat.{ℕ, _-_}
 use native.Mathlib.Omega.{arith}
 use borrow.Author.Needs.{needs}
 use borrow.Author.Tests.{lt-ltb}
@@ -11,7 +11,7 @@ use denote.Ref.{now}
 use Rattle.commands.specs.declared.Kind.{Kind}
 use Rattle.commands.specs.declared.Kind.the-variants.{PostPost}
 use Rattle.commands.specs.Kinds.{is}
-use Rattle.commands.specs.Reading.{readAnswer, readAt}
+use Rattle.commands.specs.Reading.{readAnswer}
 use Rattle.commands.proofs.Readings.{Reads, given-reads}
 use Rattle.volume.specs.Judged.{judged}
 use Rattle.volume.specs.Steps.{stateOf, Going}
