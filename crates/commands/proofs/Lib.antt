@@ -1,4 +1,3 @@
-pub mod Places
 pub mod Ranges
 pub mod Opcodes
 pub mod Lengths

@@ -5,8 +5,8 @@ use Prim.Native.Nat.{ℕ, zero, suc, _+_, _*_, _/_, _%_, _^_, _≤_, _<_}
 use native.Mathlib.Nat.{zero-add, pow-suc, pow-le-pow-right, div-add-mod', div-lt-iff-lt-mul}
 use native.Mathlib.Numerals.{add-one}
 use native.Mathlib.Omega.{arith}
-use lib.ListN.{getD, length, length-append, List·getD-append}
-use lib.Seq.{getD-append-seam}
+use lib.ListN.{getD, drop, length, length-append, List·getD-append}
+use lib.Seq.{getD-append-seam, getD-drop}
 use lib.Dec.{lit<}
 use lib.IntN.{ℤ}
 use Rattle.numbers.specs.Signs.{fromTwos, toTwos}
@@ -53,3 +53,12 @@ read-back (suc count) n h =
 pub read-signed : (count : ℕ) (z : ℤ) → up z + up z < 256 ^ count → dn z + dn z ≤ 256 ^ count → signedAt (signedBytesOf count z) 0 count ≡ z
 read-signed count z h k =
     ap (fromTwos (256 ^ count)) (read-back count (toTwos (256 ^ count) z) (to-below (256 ^ count) z (omega arith))) ∙ from-to (256 ^ count) z h k
+
+-- ---- counted from another start
+
+pub unsigned-drop : (bytes : List ℕ) (start at count : ℕ) → unsignedAt (drop start bytes) at count ≡ unsignedAt bytes (start + at) count
+unfolding unsignedAt
+unsigned-drop bytes start at zero = refl
+unsigned-drop bytes start at (suc count) =
+    let place : start + (at + count) ≡ start + at + count = omega arith in
+    ap₂ (λ (value byte : ℕ). value * 256 + byte) (unsigned-drop bytes start at count) (getD-drop start bytes (at + count) 0 ∙ ap (λ (index : ℕ). getD bytes index 0) place)

@@ -41,13 +41,13 @@ plain-cases P a b c d e f g h i j k Post t = absurd (false≢true t)
 plain-cases P a b c d e f g h i j k PostPost t = absurd (false≢true t)
 plain-cases P a b c d e f g h i j k Undefined t = absurd (false≢true t)
 
--- the same volume at another place, with another greatest depth
-abbrev compared : Volume → ℕ → ℕ → Volume
-compared v at greatest =
+-- the same volume but for its stage, place and depths
+abbrev pub changed : Volume → Stage → ℕ → ℕ → ℕ → Volume
+changed v stage at depth greatest =
     record {
-      stage = v .stage;
+      stage = stage;
       at = at;
-      depth = v .depth;
+      depth = depth;
       greatest = greatest;
       pages = v .pages;
       bop = v .bop;
@@ -63,21 +63,21 @@ compared v at greatest =
 
 -- the same volume at another place
 abbrev pub placedAt : Volume → ℕ → Volume
-placedAt v at = compared v at (v .greatest)
+placedAt v at = changed v (v .stage) at (v .depth) (v .greatest)
 
 module _ (page : ℕ) (v : Volume) (params : List ℕ) where
   abbrev next : ℕ
   next = v .at + (1 + length params)
 
-  plain-compared : (kind : Kind) → isPlain kind ≡ true → afterOf page v kind params ≡ compared v next (max (v .greatest) (v .depth))
+  plain-compared : (kind : Kind) → isPlain kind ≡ true → afterOf page v kind params ≡ changed v (v .stage) next (v .depth) (max (v .greatest) (v .depth))
   plain-compared =
-      plain-cases (λ kind. afterOf page v kind params ≡ compared v next (max (v .greatest) (v .depth)))
+      plain-cases (λ kind. afterOf page v kind params ≡ changed v (v .stage) next (v .depth) (max (v .greatest) (v .depth)))
       refl refl refl refl refl refl refl refl refl refl refl
 
   pub plain-after : (kind : Kind) → isPlain kind ≡ true → v .depth ≤ v .greatest → afterOf page v kind params ≡ placedAt v next
   plain-after kind t h =
       let e : max (v .greatest) (v .depth) ≡ v .greatest = omega arith in
-      plain-compared kind t ∙ ap (compared v next) e
+      plain-compared kind t ∙ ap (changed v (v .stage) next (v .depth)) e
 
 pub plain-table : (after : Bool) (at-stage : Stage) (kind : Kind) → isPlain kind ≡ true → (opcode : ℕ) (params : List ℕ) (at : ℕ) (table : List ℕ)
     → tableAfter after at-stage kind opcode params at table ≡ table

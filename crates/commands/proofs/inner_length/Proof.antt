@@ -7,7 +7,7 @@ use lib.ListN.{getD}
 use lib.Seq.{getD-drop}
 use borrow.Author.Needs.{needs}
 use Rattle.commands.specs.declared.Kind.the-variants.{Special, Define, Pre}
-use Rattle.commands.proofs.Places.{unsigned-drop}
+use Rattle.numbers.proofs.Bytes.{unsigned-drop}
 use Rattle.commands.proofs.Lengths.{fixed-of, inner-special, inner-define, inner-pre, inner-below, inner-above}
 use Rattle.commands.proofs.Opcodes.{range-kind}
 use Rattle.commands.proofs.inner_length.Statement.{statement}

@@ -14,28 +14,14 @@ use Rattle.volume.specs.declared.Volume.{Volume}
 use Rattle.volume.specs.Past.{stageAfter, depthAfter}
 use Rattle.volume.specs.Steps.{afterOf}
 use Rattle.volume.proofs.Arms.{kind-others}
+use Rattle.volume.proofs.PlainLaws.{changed}
 use Rattle.volume.proofs.progress.after.Statement.{statement}
 use Rattle.volume.proofs.progress.after.Tie as tie
 
 -- a command that changes the stage, the place and the depth alone
 abbrev moved : Volume → Kind → List ℕ → Volume
 moved v kind params =
-    record {
-      stage = stageAfter kind (v .stage);
-      at = v .at + (1 + length params);
-      depth = depthAfter kind (v .depth);
-      greatest = max (v .greatest) (depthAfter kind (v .depth));
-      pages = v .pages;
-      bop = v .bop;
-      wanted = v .wanted;
-      post = v .post;
-      num = v .num;
-      den = v .den;
-      mag = v .mag;
-      fonts = v .fonts;
-      again = v .again;
-      selected = v .selected;
-    }
+    changed v (stageAfter kind (v .stage)) (v .at + (1 + length params)) (depthAfter kind (v .depth)) (max (v .greatest) (depthAfter kind (v .depth)))
 
 next-depth-requires : tie.Need-next-depth-requires
 next-depth-requires c κs = search needs
