@@ -1,11 +1,7 @@
 // The check of a width table: one right table, and what one byte or two of it changed make wrong.
+use crate::building;
+use crate::building::byte;
 use reader::TableChecked;
-ghost use Prim.Native.Nat.{_+_, _≤_};
-ghost use lib.ListN.{length};
-
-fn byte(n: u32) -> u8 {
-    (n % 256) as u8
-}
 
 // A record's bytes. Escapement and width are given as the numbers that their bytes make without a sign.
 fn record_bytes(checksum: u32, scale: u32, code: u8, escapement: u32, width: u32) -> [u8; 16] {
@@ -29,39 +25,29 @@ fn record_bytes(checksum: u32, scale: u32, code: u8, escapement: u32, width: u32
     ]
 }
 
-fn put(table: &mut [u8], at: usize, bytes: [u8; 16])
-    requires { ⌜ at + 16 ≤ length (now table) ⌝ }
-{
-    let mut i: usize = 0;
-    while i < 16 {
-        table[at + i] = bytes[i];
-        i += 1;
-    }
-}
-
 // Five records: three of one font, one of the same check sum at the greatest scale, one of the greatest check sum at the least scale.
 pub fn right_table() -> [u8; 80] {
     let mut table = [0u8; 80];
-    put(&mut table, 0, record_bytes(1, 655360, 0, 5, 0x0009c71c));
-    put(
+    building::put(&mut table, 0, &record_bytes(1, 655360, 0, 5, 0x0009c71c));
+    building::put(
         &mut table,
         16,
-        record_bytes(1, 655360, 65, 65534, 0xffffffff),
+        &record_bytes(1, 655360, 65, 65534, 0xffffffff),
     );
-    put(
+    building::put(
         &mut table,
         32,
-        record_bytes(1, 655360, 255, 32767, 0x00000000),
+        &record_bytes(1, 655360, 255, 32767, 0x00000000),
     );
-    put(
+    building::put(
         &mut table,
         48,
-        record_bytes(1, 134217727, 65, 32768, 0x00ffffff),
+        &record_bytes(1, 134217727, 65, 32768, 0x00ffffff),
     );
-    put(
+    building::put(
         &mut table,
         64,
-        record_bytes(0xffffffff, 1, 7, 0, 0xff000000),
+        &record_bytes(0xffffffff, 1, 7, 0, 0xff000000),
     );
     table
 }
@@ -77,16 +63,16 @@ pub fn ask() {
 // None, one and five records.
 fn right_tables() {
     let table = right_table();
-    check_first(&table, 0);
-    check_first(&table, 16);
+    check(building::first(&table, 0));
+    check(building::first(&table, 16));
     check(&table);
 }
 
 // A byte after four records, and fifteen bytes alone.
 fn cut_tables() {
     let table = right_table();
-    check_first(&table, 65);
-    check_first(&table, 15);
+    check(building::first(&table, 65));
+    check(building::first(&table, 15));
 }
 
 // The second record's key is the first's; the third record's code is one below the second's.
@@ -121,13 +107,6 @@ fn wrong_bytes() {
     check(&second);
     second[73] = 1;
     check(&second);
-}
-
-// The check of a table's first bytes.
-fn check_first(table: &[u8], count: usize)
-    requires { ⌜ count ≤ length (now table) ⌝ }
-{
-    check(&table[..count]);
 }
 
 fn check(table: &[u8]) {

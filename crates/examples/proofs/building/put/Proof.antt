@@ -1,32 +1,31 @@
--- `examples::tables::put` meets its contract: the table keeps its length. Assumes nothing.
+-- `examples::building::put` meets its contract: the file keeps its length. Assumes nothing.
 use mathlib.Core.Path.{_≡_}
 use Prim.Native.Nat.{_≤_, _-_}
 use native.Mathlib.Omega.{arith}
 use lib.ListN.{length, length-set}
-use borrow.Author.Needs.{needs}
-use Rattle.examples.proofs.tables.put.Statement.{statement}
-use Rattle.examples.proofs.tables.put.Tie as tie
+use Rattle.examples.proofs.building.put.Statement.{statement}
+use Rattle.examples.proofs.building.put.Tie as tie
 
 abbrev Inv-loop : tie.InvT-loop
-Inv-loop table₀ at bytes i₀ table i = (i ≤ 16) × (length table ≡ length table₀)
+Inv-loop file₀ at bytes i₀ file i = (i ≤ length bytes) × (length file ≡ length file₀)
 
 abbrev μ-loop : tie.MeasureT-loop
-μ-loop table₀ at bytes i₀ table i = 16 - i
+μ-loop file₀ at bytes i₀ file i = length bytes - i
 
 loop-holds : tie.Need-loop-holds Inv-loop μ-loop
 loop-holds c = omega arith
 
-array-read-table : tie.Need-array-read-table Inv-loop μ-loop
-array-read-table c = omega arith
+shared-slice-read-file : tie.Need-shared-slice-read-file Inv-loop μ-loop
+shared-slice-read-file c = omega arith
 
-add-table : tie.Need-add-table Inv-loop μ-loop
-add-table c = search needs
+add-file : tie.Need-add-file Inv-loop μ-loop
+add-file c = omega arith
 
-slice-write-table : tie.Need-slice-write-table Inv-loop μ-loop
-slice-write-table c = omega arith
+slice-write-file : tie.Need-slice-write-file Inv-loop μ-loop
+slice-write-file c = omega arith
 
 add-i : tie.Need-add-i Inv-loop μ-loop
-add-i c = search needs
+add-i c = omega arith
 
 loop-less : tie.Need-loop-less Inv-loop μ-loop
 loop-less c = omega arith
@@ -47,9 +46,9 @@ put-spec =
     Inv-loop
     μ-loop
     loop-holds
-    array-read-table
-    add-table
-    slice-write-table
+    shared-slice-read-file
+    add-file
+    slice-write-file
     add-i
     loop-less
     loop-again
