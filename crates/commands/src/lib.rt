@@ -10,6 +10,9 @@ ghost use Rattle.commands.specs.Kinds.{kindOf};
 ghost use Rattle.commands.specs.Lengths.{fixedLength, innerLength};
 ghost use Rattle.commands.specs.Reading.{readAnswer, readAt};
 
+// A file longer than this is refused
+pub const LONGEST_FILE: usize = 16777216;
+
 // What a command is, by its range of opcodes
 pub enum Kind {
     SetCharacter,

@@ -39,7 +39,7 @@ pub enum CommandRead {
 pub fn read_command(file: &[u8], at: usize) -> CommandRead
     ensures { λ r. ⌜ commandAnswer r ≡ commandRead (now (file .entry)) at ⌝ }
 {
-    if 16777216 < file.len() {
+    if commands::LONGEST_FILE < file.len() {
         return CommandRead::Refused {
             number: refusals::FILE_TOO_LONG,
             place: 0,

@@ -13,7 +13,7 @@ use Rattle.refusals.specs.Answer.{refused}
 use Rattle.commands.specs.declared.Kind.the-variants.{Define, PostPost}
 use Rattle.commands.specs.Kinds.{is}
 use Rattle.commands.specs.Commands.{Command, form, kindOfCommand, Front, cut, undefined, whole, front}
-use Rattle.commands.specs.Reading.{reading, readAt}
+use Rattle.commands.specs.Reading.{reading, readAt, longestFile}
 use Rattle.commands.proofs.Fronts.{front-sound, front-length}
 use Rattle.volume.specs.declared.Stage.{Stage}
 use Rattle.volume.specs.declared.Stage.the-variants.{OnPage}
@@ -40,7 +40,7 @@ lawful-number past c clean t = first (isA Define c) t (lawfulDefinition past c) 
 
 -- ---- the start
 
-pub starting : (file : List ℕ) (page : ℕ) → length file ≤ 16777216 → Going file page (stateOf page []) (replicate 256 0) (replicate 256 0)
+pub starting : (file : List ℕ) (page : ℕ) → length file ≤ longestFile → Going file page (stateOf page []) (replicate 256 0) (replicate 256 0)
 unfolding judged history
 starting file page h =
     record {
@@ -54,7 +54,7 @@ starting file page h =
             standing = λ n. tt;
             lawfully = λ number l. refl;
           };
-      judgement = rw (le-ltb 16777216 (length file) h);
+      judgement = rw (le-ltb longestFile (length file) h);
       told = refl;
       enough = omega arith;
       inside = omega arith;

@@ -15,6 +15,7 @@ use Rattle.commands.specs.declared.Kind.the-variants.{SetCharacter, SetRule, Pu
 use Rattle.commands.specs.Kinds.{kindOf, is}
 use Rattle.commands.specs.Commands.{Command, kindOfCommand, whole, front}
 use Rattle.commands.specs.Parameters.{definedFont, selectedFont}
+use Rattle.commands.specs.Reading.{longestFile}
 use Rattle.volume.specs.declared.Stage.{Stage}
 use Rattle.volume.specs.declared.Summary.{Summary}
 use Rattle.volume.specs.declared.Volume.{Volume}
@@ -136,7 +137,7 @@ pub record Going (file : List ℕ) (page : ℕ) (v : Volume) (fonts again : List
   pub told : history file ≡ historyFrom left past (drop (place past) file)
   pub enough : length file < place past + left
   pub inside : place past ≤ length file
-  pub short : length file ≤ 16777216
+  pub short : length file ≤ longestFile
 
 -- ---- what single functions say, of whatever commands the code stands for
 

@@ -48,7 +48,7 @@ pub fn scan(file: &[u8], page: usize, fonts: &mut [u32; 256]) -> Scanned
     ensures { λ r. ⌜ scanAnswer r ≡ judged (now (file .entry)) ⌝ }
     ensures { λ r. ⌜ Kept (now (file .entry)) page (now (fonts .exit)) r ⌝ }
 {
-    if 16777216 < file.len() {
+    if commands::LONGEST_FILE < file.len() {
         return Scanned::Refused(Refusal {
             number: refusals::FILE_TOO_LONG,
             place: 0,

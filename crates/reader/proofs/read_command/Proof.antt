@@ -7,12 +7,12 @@ use lib.ListN.{length}
 use denote.Ref.{now}
 use Rattle.refusals.specs.Numbers.{fileTooLong}
 use Rattle.refusals.specs.Answer.{refuseIf}
-use Rattle.commands.specs.Reading.{readAnswer, readAt, commandRead}
+use Rattle.commands.specs.Reading.{readAnswer, readAt, longestFile, commandRead}
 use Rattle.reader.proofs.read_command.Statement.{statement}
 use Rattle.reader.proofs.read_command.Tie as tie
 
 returns : tie.Need-returns
-returns c = simp (lt-ltb 16777216 (length (now (c .before .before .args .file))) (c .if1 .taken))
+returns c = simp (lt-ltb longestFile (length (now (c .before .before .args .file))) (c .if1 .taken))
 
 read-at-requires : tie.Need-read-at-requires
 read-at-requires c κs = search needs
@@ -28,7 +28,7 @@ read-is : (c : tie.After-read-at) → let a = c .before .before .before .args in
 read-is c =
     let a = c .before .before .before .args in
     c .read-at .ensures
-    ∙ sym (ap (λ (long : Bool). refuseIf long fileTooLong 0 (readAt (now (a .file)) (a .at))) (le-ltb 16777216 (length (now (a .file))) (c .before .if1 .left)))
+    ∙ sym (ap (λ (long : Bool). refuseIf long fileTooLong 0 (readAt (now (a .file)) (a .at))) (le-ltb longestFile (length (now (a .file))) (c .before .if1 .left)))
 
 returns-2 : tie.Need-returns-2
 returns-2 c = ap readAnswer (sym (c .before .reading .given .1)) ∙ read-is (c .before .before .before)
