@@ -1,4 +1,5 @@
-// The page's state: its limits. (What a page holds comes with placing.)
+// The page's state: how a position and its pixel move, and the limits. (What a page holds comes with placing.)
+pub mod moving;
 
 pub struct Page {
     pub depth: usize,

@@ -1,0 +1,39 @@
+-- The starred examples of document 01 on moves. Assumes nothing.
+use Prim.Native.Nat.{ℕ, zero, suc}
+use mathlib.Core.Path.{_≡_, refl}
+use mathlib.Core.List.{List, [], _∷_, map}
+use lib.IntN.{ℤ, pos, negsuc}
+use Rattle.units.specs.Rounding.{nearestWhole}
+use Rattle.state.specs.declared.moving.Direction.the-variants.{Sideways}
+use Rattle.state.specs.declared.moving.Ruler.{Ruler}
+use Rattle.state.specs.declared.moving.Spot.{Spot}
+use Rattle.state.specs.Moving.{moved}
+
+-- how often a move by how much is made, and the h and hh that document 01 prints
+pub record MoveExample : Type 0 where
+  pub times : ℕ
+  pub distance : ℤ
+  pub printed : Spot
+
+-- "K 3/10, D 2, s 100"
+abbrev pub ruler : Ruler
+ruler = record { k = record { p = 3; q = 10 }; drift = 2 }
+
+abbrev pub repeated : ℕ → ℤ → Spot → Spot
+repeated zero n spot = spot
+repeated (suc times) n spot = repeated times n (moved Sideways ruler 100 (spot .position) (spot .pixel) n)
+
+-- "*right 5 six times gives h 30, hh 11; −5 six times, hh −11"
+abbrev pub moveExamples : List MoveExample
+moveExamples =
+    record { times = 6; distance = pos 5; printed = record { position = pos 30; pixel = pos 11 } }
+    ∷ record { times = 6; distance = negsuc 4; printed = record { position = negsuc 29; pixel = negsuc 10 } }
+    ∷ []
+
+-- what the definitions give for an example, from 0
+abbrev pub moveFound : MoveExample → Spot
+moveFound e = repeated (e .times) (e .distance) (record { position = pos 0; pixel = pos 0 })
+
+pub moves-hold : map moveFound moveExamples ≡ map (λ e. e .printed) moveExamples
+unfolding nearestWhole
+moves-hold = refl

@@ -1,0 +1,99 @@
+// Moving a position and its pixel: one move for both directions.
+use units::Ratio;
+ghost use mathlib.Core.Path.{_≡_};
+ghost use Prim.Native.Nat.{_≤_, _^_};
+ghost use lib.IntN.{natAbs, _+ℤ_};
+ghost use Rattle.units.specs.Unit.{Accepted};
+ghost use Rattle.state.specs.Moving.{leaves, near, drifted, settled, moved};
+
+pub enum Direction {
+    Sideways,
+    Down,
+}
+
+// K and D
+pub struct Ruler {
+    pub k: Ratio,
+    pub drift: u64,
+}
+
+// h and hh, or v and vv
+pub struct Spot {
+    pub position: i64,
+    pub pixel: i64,
+}
+
+// Whether a position would leave −2,147,483,647 to 2,147,483,647.
+pub fn leaves_range(position: i64, n: i64) -> bool
+    requires { ⌜ (natAbs position ≤ 2 ^ 31) × (natAbs n ≤ 2 ^ 31) ⌝ }
+    ensures { λ r. ⌜ r ≡ leaves (position +ℤ n) ⌝ }
+{
+    2147483647 < numbers::magnitude(position + n)
+}
+
+// Whether a move is so small that the pixel moves by the rounded distance.
+pub fn is_near(direction: Direction, n: i64, scale: u64) -> bool
+    requires { ⌜ (natAbs n ≤ 2 ^ 31) × (scale ≤ 134217727) ⌝ }
+    ensures { λ r. ⌜ r ≡ near direction n scale ⌝ }
+{
+    let distance = numbers::magnitude(n);
+    match direction {
+        Direction::Sideways => {
+            if n < 0 {
+                10 * distance < 9 * scale
+            } else {
+                5 * distance < scale
+            }
+        }
+        Direction::Down => 5 * distance < 4 * scale,
+    }
+}
+
+// The pixel, brought back to D from the right one if it is further.
+pub fn held_near(drift: u64, right: i64, pixel: i64) -> i64
+    requires { ⌜ (drift ≤ 2) × (natAbs right ≤ 2 ^ 31) × (natAbs pixel ≤ 2 ^ 32) ⌝ }
+    ensures { λ r. ⌜ r ≡ drifted drift right pixel ⌝ }
+{
+    if numbers::magnitude(pixel - right) <= drift {
+        return pixel;
+    }
+    if right < pixel {
+        right + drift as i64
+    } else {
+        right - drift as i64
+    }
+}
+
+// A new position, with the pixel that has moved along.
+pub fn settle(ruler: Ruler, position: i64, pixel: i64) -> Spot
+    requires { ⌜ Accepted (ruler .k) × (ruler .drift ≤ 2) ⌝ }
+    requires { ⌜ (natAbs position ≤ 2 ^ 31) × (natAbs pixel ≤ 2 ^ 32) ⌝ }
+    ensures { λ r. ⌜ r ≡ settled ruler position pixel ⌝ }
+{
+    let right = units::round(ruler.k, position);
+    Spot {
+        position: position,
+        pixel: held_near(ruler.drift, right, pixel),
+    }
+}
+
+// A move by n in a direction.
+pub fn move_by(
+    direction: Direction,
+    ruler: Ruler,
+    scale: u64,
+    position: i64,
+    pixel: i64,
+    n: i64,
+) -> Spot
+    requires { ⌜ Accepted (ruler .k) × (ruler .drift ≤ 2) × (scale ≤ 134217727) ⌝ }
+    requires { ⌜ (natAbs position ≤ 2 ^ 31) × (natAbs pixel ≤ 2 ^ 31) × (natAbs n ≤ 2 ^ 31) × (natAbs (position +ℤ n) ≤ 2 ^ 31) ⌝ }
+    ensures { λ r. ⌜ r ≡ moved direction ruler scale position pixel n ⌝ }
+{
+    let after = position + n;
+    if is_near(direction, n, scale) {
+        settle(ruler, after, pixel + units::round(ruler.k, n))
+    } else {
+        settle(ruler, after, units::round(ruler.k, after))
+    }
+}
