@@ -1,6 +1,6 @@
 -- A pixel stays near its position: within D of the rounded position after every move, whatever the direction. Assumes nothing.
-use Prim.Native.Nat.{ℕ, _+_, _≤_, _^_}
-use mathlib.Core.Path.{_≡_, refl, sym, ap, _∙_, subst}
+use Prim.Native.Nat.{ℕ, _+_, _≤_}
+use mathlib.Core.Path.{_≡_, refl, sym, subst}
 use mathlib.Core.Bool.{Bool, true, false, cond}
 use native.Mathlib.Omega.{arith}
 use borrow.Author.Tests.{ltb-false}
@@ -20,7 +20,8 @@ above right d = same _ _ (omega (arith, sum right (pos d), diff (right +ℤ pos 
 below : (right : ℤ) (d : ℕ) → (right -ℤ pos d) -ℤ right ≡ negℤ (pos d)
 below right d = same _ _ (omega (arith, diff right (pos d), diff (right -ℤ pos d) right, up-neg (pos d), dn-neg (pos d)))
 
-within : (d : ℕ) {z w : ℤ} → z ≡ w → natAbs w ≤ d → natAbs z ≤ d
+-- a number is as small as one that it is equal to
+pub within : (d : ℕ) {z w : ℤ} → z ≡ w → natAbs w ≤ d → natAbs z ≤ d
 within d e h = subst (λ (z : ℤ). natAbs z ≤ d) (sym e) h
 
 held-by : (far side : Bool) (d : ℕ) (right pixel : ℤ) → ltb d (natAbs (pixel -ℤ right)) ≡ far

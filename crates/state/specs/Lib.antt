@@ -1,3 +1,5 @@
 pub mod Limits
 pub mod Moving
+pub mod Registers
+pub mod Steps
 pub mod Starred

@@ -1,8 +1,43 @@
-// The page's state: how a position and its pixel move, and the limits. (What a page holds comes with placing.)
+// The page's state: the eight numbers, the levels that are saved, the font; a fresh one, and how commands change it.
+use moving::Direction;
+use moving::Ruler;
+ghost use mathlib.Core.Path.{_≡_};
+ghost use mathlib.Core.Bool.{false};
+ghost use Prim.Native.Nat.{_+_, _-_, _≤_, _<_, _^_};
+ghost use lib.ListN.{length, getD};
+ghost use lib.IntN.{natAbs, _+ℤ_};
+ghost use Rattle.state.specs.declared.moving.Direction.the-variants.{Sideways, Down};
+ghost use Rattle.state.specs.Moving.{leaves};
+ghost use Rattle.state.specs.Registers.{zeroLevel, freshState, pushed, popped, movedBy, characterMoved, ruleMoved};
+ghost use Rattle.state.specs.Steps.{stateOf, withLevel, Ruled, Bounded};
+
 pub mod moving;
 
+// h, v, w, x, y, z and the pixel pair hh, vv
+pub struct Level {
+    pub h: i64,
+    pub v: i64,
+    pub w: i64,
+    pub x: i64,
+    pub y: i64,
+    pub z: i64,
+    pub hh: i64,
+    pub vv: i64,
+}
+
+// The current font: its number, check sum and scale; the scale is 0 while none is selected
+pub struct Font {
+    pub number: u64,
+    pub checksum: u64,
+    pub scale: u64,
+}
+
+// The state of a page. The array stands last, so that a change of what stands before it copies no array.
 pub struct Page {
+    pub now: Level,
     pub depth: usize,
+    pub font: Font,
+    pub stack: [Level; 100],
 }
 
 impl Page {
@@ -10,4 +45,103 @@ impl Page {
     pub const DEPTH: usize = 100;
     // at most 64 fonts
     pub const FONTS: usize = 64;
+
+    // What bop sets: every register zero, an empty stack, no font.
+    pub fn fresh() -> Self
+        ensures { λ r. ⌜ (stateOf r ≡ freshState) × (r .depth ≡ 0) × (length (r .stack) ≡ 100) ⌝ }
+    {
+        let zero = Level {
+            h: 0,
+            v: 0,
+            w: 0,
+            x: 0,
+            y: 0,
+            z: 0,
+            hh: 0,
+            vv: 0,
+        };
+        let stack = [zero; 100];
+        Page {
+            now: zero,
+            depth: 0,
+            font: Font {
+                number: 0,
+                checksum: 0,
+                scale: 0,
+            },
+            stack: stack,
+        }
+    }
+
+    // Sideways by n.
+    pub fn sideways(mut self, ruler: Ruler, n: i64) -> Self
+        requires { ⌜ Ruled ruler (self .font .scale) × Bounded (self .now) ⌝ }
+        requires { ⌜ (natAbs n ≤ 2 ^ 31) × (leaves (self .now .h +ℤ n) ≡ false) ⌝ }
+        ensures { λ r. ⌜ r ≡ withLevel self (movedBy Sideways ruler (self .font .scale) n (self .now)) ⌝ }
+    {
+        let scale = self.font.scale;
+        let mut level = self.now;
+        let spot = moving::move_by(Direction::Sideways, ruler, scale, level.h, level.hh, n);
+        level.h = spot.position;
+        level.hh = spot.pixel;
+        self.now = level;
+        self
+    }
+
+    // Down by n.
+    pub fn down(mut self, ruler: Ruler, n: i64) -> Self
+        requires { ⌜ Ruled ruler (self .font .scale) × Bounded (self .now) ⌝ }
+        requires { ⌜ (natAbs n ≤ 2 ^ 31) × (leaves (self .now .v +ℤ n) ≡ false) ⌝ }
+        ensures { λ r. ⌜ r ≡ withLevel self (movedBy Down ruler (self .font .scale) n (self .now)) ⌝ }
+    {
+        let scale = self.font.scale;
+        let mut level = self.now;
+        let spot = moving::move_by(Direction::Down, ruler, scale, level.v, level.vv, n);
+        level.v = spot.position;
+        level.vv = spot.pixel;
+        self.now = level;
+        self
+    }
+
+    // Past a character that was set: by its width, and by the table's escapement in pixels.
+    pub fn past_character(mut self, ruler: Ruler, width: i64, escapement: i64) -> Self
+        requires { ⌜ Ruled ruler (self .font .scale) × Bounded (self .now) ⌝ }
+        requires { ⌜ (natAbs width ≤ 2 ^ 31) × (natAbs escapement ≤ 2 ^ 31) × (leaves (self .now .h +ℤ width) ≡ false) ⌝ }
+        ensures { λ r. ⌜ r ≡ withLevel self (characterMoved ruler width escapement (self .now)) ⌝ }
+    {
+        let mut level = self.now;
+        let spot = moving::settle(ruler, level.h + width, level.hh + escapement);
+        level.h = spot.position;
+        level.hh = spot.pixel;
+        self.now = level;
+        self
+    }
+
+    // Past a rule that was set, of so much width.
+    pub fn past_rule(mut self, ruler: Ruler, width: i64) -> Self
+        requires { ⌜ Ruled ruler (self .font .scale) × Bounded (self .now) ⌝ }
+        requires { ⌜ (natAbs width ≤ 2 ^ 31) × (leaves (self .now .h +ℤ width) ≡ false) ⌝ }
+        ensures { λ r. ⌜ r ≡ withLevel self (ruleMoved ruler (self .font .scale) width (self .now)) ⌝ }
+    {
+        self.sideways(ruler, width)
+    }
+
+    // One level deeper: the caller has stored the current level above the saved ones, where it copies no array.
+    pub fn push(mut self) -> Self
+        requires { ⌜ (self .depth < 100) × (getD (self .stack) (self .depth) zeroLevel ≡ self .now) ⌝ }
+        ensures { λ r. ⌜ (stateOf r ≡ pushed (stateOf self)) × (r .depth ≡ self .depth + 1) × (r .stack ≡ self .stack) ⌝ }
+    {
+        self.depth = self.depth + 1;
+        self
+    }
+
+    // Back to the level that was saved last, which the caller has read, where that copies no array.
+    pub fn pop(mut self, last: Level) -> Self
+        requires { ⌜ (0 < self .depth) × (last ≡ getD (self .stack) (self .depth - 1) zeroLevel) ⌝ }
+        ensures { λ r. ⌜ (stateOf r ≡ popped (stateOf self)) × (r .depth ≡ self .depth - 1) × (r .stack ≡ self .stack) ⌝ }
+    {
+        self.now = last;
+        self.depth = self.depth - 1;
+        self
+    }
 }

@@ -1,0 +1,112 @@
+-- What the output area holds after records are put into it. Assumes nothing.
+use Prim.Native.Nat.{ℕ, suc, _+_, _*_, _≤_, _<_}
+use native.Mathlib.Omega.{arith}
+use native.Mathlib.Nat.{add-zero}
+use mathlib.Core.Path.{_≡_, refl, sym, ap, _∙_}
+use mathlib.Core.List.{List, [], _∷_, _++_, append-assoc, append-nil}
+use mathlib.Core.Logic.{⊎-elim}
+use lib.ListN.{length, take, drop, take-append-drop}
+use lib.Seq.{paste, take-paste, drop-paste, length-paste, drop-drop, take-all}
+use borrow.Author.Tests.{le-leb, lt-leb}
+use Rattle.refusals.specs.Answer.{Answer, refused, given, andThen}
+use Rattle.numbers.specs.Bytes.{bytesOf}
+use Rattle.commands.proofs.Ranges.{below-or-not}
+use Rattle.page.specs.declared.Record.{Record}
+use Rattle.page.specs.declared.Counts.{Counts}
+use Rattle.page.specs.Records.{recordSize, recordBytes, allBytes}
+use Rattle.page.specs.Placing.{Added, nothing, placed, missing, special, Placed, adding}
+use Rattle.page.specs.Steps.{putRecord, areaNoted, countNoted, stored, Ending, through, finish}
+
+-- a record has 20 bytes
+pub record-length : (r : Record) → length (recordBytes r) ≡ recordSize
+unfolding recordBytes bytesOf
+record-length r = refl
+
+module _ (out : List ℕ) (index : ℕ) (r : Record) where
+  -- without room a record is not written
+  no-room : length out < recordSize * index + recordSize → putRecord out index r ≡ out
+  no-room h = simp (lt-leb (recordSize * index + recordSize) (length out) h)
+
+  -- with room it is pasted in
+  room : recordSize * index + recordSize ≤ length out → putRecord out index r ≡ paste out (recordSize * index) (recordBytes r) recordSize
+  room h =
+      let whole : take recordSize (recordBytes r) ≡ recordBytes r = take-all recordSize (recordBytes r) (omega (arith, record-length r)) in
+      simp (le-leb (recordSize * index + recordSize) (length out) h, whole)
+
+  -- a record put in its place changes no length
+  pub put-length : length (putRecord out index r) ≡ length out
+  put-length =
+      ⊎-elim
+      (λ short. ap length (no-room short))
+      (λ long. ap length (room long) ∙ length-paste out (recordSize * index) (recordBytes r) recordSize long (omega (arith, record-length r)))
+      (below-or-not (length out) (recordSize * index + recordSize))
+
+-- nor does anything else that a command adds
+pub noted-length : (out : List ℕ) (index : ℕ) (added : Added) → length (areaNoted out index added) ≡ length out
+noted-length out index nothing = refl
+noted-length out index (placed r) = put-length out index r
+noted-length out index missing = refl
+noted-length out index special = refl
+
+-- the end with these three counts
+abbrev ended : List ℕ → ℕ → ℕ → ℕ → Ending
+ended area r m s = through area (record { records = r; missing = m; specials = s })
+
+module _ (out : List ℕ) (counts : Counts) where
+  -- what a command adds is noted, then what follows is finished: the same as to finish both
+  pub finish-adding : (added : Added) (answer : Answer Placed)
+      → finish out counts (andThen answer (λ p. given (adding added p))) ≡ finish (areaNoted out (counts .records) added) (countNoted counts added) answer
+  finish-adding added (refused number place) = refl
+  finish-adding nothing (given p) = refl
+  finish-adding (placed r) (given p) =
+      ap (λ (n : ℕ). ended (stored out (counts .records) (r ∷ p .records)) n (counts .missing + p .missing-characters) (counts .specials + p .specials)) (omega arith)
+  finish-adding missing (given p) =
+      ap (λ (n : ℕ). ended (stored out (counts .records) (p .records)) (counts .records + length (p .records)) n (counts .specials + p .specials)) (omega arith)
+  finish-adding special (given p) =
+      ap (λ (n : ℕ). ended (stored out (counts .records) (p .records)) (counts .records + length (p .records)) (counts .missing + p .missing-characters) n) (omega arith)
+
+-- with no room nothing is written
+pub stored-none : (index : ℕ) (records : List Record) → stored [] index records ≡ []
+stored-none index [] = refl
+stored-none index (r ∷ records) =
+    ap (λ (area : List ℕ). stored area (index + 1) records) (no-room [] index r (omega arith)) ∙ stored-none (index + 1) records
+
+-- before a part that was pasted in, and behind it
+module _ (out bytes : List ℕ) (at more : ℕ) (size : length bytes ≡ recordSize) (h : at + recordSize + more ≤ length out) where
+  front : take (at + recordSize) (paste out at bytes recordSize) ≡ take at out ++ bytes
+  front = take-paste out at bytes recordSize (omega arith) (omega arith) ∙ ap (λ (l : List ℕ). take at out ++ l) (take-all recordSize bytes (omega arith))
+
+  back : drop (at + recordSize + more) (paste out at bytes recordSize) ≡ drop (at + recordSize + more) out
+  back =
+      sym (drop-drop more (at + recordSize) (paste out at bytes recordSize))
+      ∙ ap (λ (l : List ℕ). drop more l) (drop-paste out at bytes recordSize (omega arith) (omega arith))
+      ∙ drop-drop more (at + recordSize) out
+
+-- with room for all, the records' bytes stand one after the other, and the rest is as it was
+pub stored-all : (records : List Record) (out : List ℕ) (index : ℕ) → recordSize * (index + length records) ≤ length out
+    → stored out index records ≡ take (recordSize * index) out ++ allBytes records ++ drop (recordSize * (index + length records)) out
+stored-all [] out index h = simp (append-nil, add-zero, take-append-drop)
+stored-all (r ∷ records) out index h =
+    let at : ℕ = recordSize * index in
+    let more : ℕ = recordSize * length records in
+    let fits : at + recordSize + more ≤ length out = omega arith in
+    let area : List ℕ = paste out at (recordBytes r) recordSize in
+    let put : putRecord out index r ≡ area = room out index r (omega arith) in
+    let long : length area ≡ length out = ap length (sym put) ∙ put-length out index r in
+    let next : recordSize * (index + 1) ≡ at + recordSize = omega arith in
+    let end : recordSize * (index + 1 + length records) ≡ at + recordSize + more = omega arith in
+    let whole : at + recordSize + more ≡ recordSize * (index + suc (length records)) = omega arith in
+    ap (λ (l : List ℕ). stored l (index + 1) records) put
+    ∙ stored-all records area (index + 1) (omega arith)
+    ∙ ap (λ (l : List ℕ). l ++ allBytes records ++ drop (recordSize * (index + 1 + length records)) area)
+    (ap (λ (n : ℕ). take n area) next ∙ front out (recordBytes r) at more (record-length r) fits)
+    ∙ ap (λ (l : List ℕ). take at out ++ recordBytes r ++ allBytes records ++ l)
+    (ap (λ (n : ℕ). drop n area) end ∙ back out (recordBytes r) at more (record-length r) fits ∙ ap (λ (n : ℕ). drop n out) whole)
+    ∙ ap (λ (l : List ℕ). l ++ drop (recordSize * (index + suc (length records))) out) (append-assoc (take at out) (recordBytes r) (allBytes records))
+
+-- from the first on: the records' bytes, and behind them what stood there
+pub stored-whole : (records : List Record) (out : List ℕ) → recordSize * length records ≤ length out
+    → stored out 0 records ≡ allBytes records ++ drop (recordSize * length records) out
+stored-whole records out h =
+    let all : recordSize * (0 + length records) ≡ recordSize * length records = omega arith in
+    stored-all records out 0 (omega arith) ∙ ap (λ (n : ℕ). allBytes records ++ drop n out) all

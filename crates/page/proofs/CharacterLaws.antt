@@ -1,0 +1,76 @@
+-- What a character asks, by what was looked up for it. Assumes nothing.
+use mathlib.Core.Path.{_≡_, sym, ap₂, subst}
+use mathlib.Core.Bool.{Bool, true, false}
+use mathlib.Core.List.{List}
+use Prim.Native.Nat.{ℕ, _≤_, _^_}
+use native.Mathlib.Omega.{arith}
+use lib.IntN.{ℤ, natAbs, _+ℤ_}
+use mir.Syntax.{w64}
+use mir.Val.{toZ, ofZ}
+use Rattle.numbers.proofs.Signed.{read}
+use Rattle.widths.specs.declared.Metric.{Metric}
+use Rattle.widths.specs.Scaling.{scaledBy}
+use Rattle.widths.specs.LookUp.{LookUp, found, absent, codeByte, walk}
+use Rattle.state.specs.declared.Level.{Level}
+use Rattle.state.specs.declared.Font.{Font}
+use Rattle.state.specs.Moving.{leaves}
+use Rattle.state.specs.Steps.{Bounded}
+use Rattle.page.specs.declared.Record.{Record}
+use Rattle.page.specs.declared.Terms.{Terms}
+use Rattle.page.specs.declared.Adds.{Adds}
+use Rattle.page.specs.declared.Adds.the-variants as Adds
+use Rattle.page.specs.declared.Turn.{Turn}
+use Rattle.page.specs.declared.Turn.the-variants as Turn
+use Rattle.page.specs.Records.{characterRecord}
+use Rattle.page.specs.Steps.{InWords, CharacterAsks}
+use Rattle.page.proofs.RecordWords.{ofBits, read-record}
+
+-- a turn and what is added are what the character asks, whatever the hint
+abbrev Asks : Terms → List ℕ → Level → Font → Bool → ℤ → Turn → Adds → Type 0
+Asks terms table level font sets code turn adds = CharacterAsks terms table level font sets code (record { turn = turn; adds = adds; hint = 0 })
+
+abbrev looked : Terms → List ℕ → Font → ℤ → LookUp
+looked terms table font code = walk (terms .records) table (font .checksum) (font .scale) (codeByte code)
+
+-- a missing character asks the same, set or put
+pub absent-asks : (terms : Terms) (table : List ℕ) (level : Level) (font : Font) (sets : Bool) (code : ℤ) → looked terms table font code ≡ absent
+    → Asks terms table level font sets code Turn.Stay Adds.Missing
+absent-asks terms table level font true code is volume = (record { does = λ saved. rw is; safe = tt; words = tt }, tt)
+absent-asks terms table level font false code is volume = (record { does = λ saved. rw is; safe = tt; words = tt }, tt)
+
+-- a character whose record was found
+pub record Present (terms : Terms) (table : List ℕ) (level : Level) (font : Font) (code : ℤ) (m : Metric) : Type 0 where
+  pub is : looked terms table font code ≡ found m
+  pub bounded : Bounded level
+  pub code-small : natAbs code ≤ 2 ^ 31
+  pub escapement-small : natAbs (m .escapement) ≤ 2 ^ 31
+  pub width-small : natAbs (scaledBy (font .scale) (m .width)) ≤ 2 ^ 31
+
+module _ {terms : Terms} {table : List ℕ} {level : Level} {font : Font} {code : ℤ} {m : Metric} (p : Present terms table level font code m) where
+  abbrev here : Record
+  here = characterRecord (terms .page) level font code (m .escapement)
+
+  words : InWords here
+  words = record { hh-in = p .bounded .hh-in; vv-in = p .bounded .vv-in; content-in = p .code-small; extent-in = p .escapement-small }
+
+  -- the turn that adds its record, as the code holds the record
+  abbrev Places : Bool → Turn → Type 0
+  Places sets turn = Asks terms table level font sets code turn (Adds.Placed (ofBits here))
+
+  placing : (sets : Bool) (turn : Turn) → Asks terms table level font sets code turn (Adds.Placed here) → Places sets turn
+  placing sets turn asks = subst (λ (r : Record). Asks terms table level font sets code turn (Adds.Placed r)) (sym (read-record here words)) asks
+
+  pub put-asks : {sets : Bool} → sets ≡ false → Places sets Turn.Stay
+  put-asks {sets} put = placing sets Turn.Stay (λ volume. (record { does = λ saved. rw (p .is, put); safe = tt; words = words }, tt))
+
+  abbrev width : ℤ
+  width = scaledBy (font .scale) (m .width)
+
+  pub leave-asks : {sets : Bool} → sets ≡ true → leaves (level .h +ℤ width) ≡ true → Places sets Turn.Leave
+  leave-asks {sets} set out = placing sets Turn.Leave (λ volume. (record { does = λ saved. rw (p .is, set, out); safe = tt; words = words }, tt))
+
+  -- past the character, by numbers as the code holds them
+  pub set-asks : {sets : Bool} {by : ℤ} → by ≡ width → sets ≡ true → leaves (level .h +ℤ width) ≡ false → Places sets (Turn.PastCharacter by (toZ w64 (ofZ w64 (m .escapement))))
+  set-asks {sets} same set inside =
+      subst (Places sets) (sym (ap₂ Turn.PastCharacter same (read (m .escapement) (omega (arith, p .escapement-small)))))
+      (placing sets (Turn.PastCharacter width (m .escapement)) (λ volume. (record { does = λ saved. rw (p .is, set, inside); safe = (p .width-small, p .escapement-small, inside); words = words }, tt)))

@@ -1,0 +1,12 @@
+pub mod Areas
+pub mod CharacterLaws
+pub mod CountLaws
+pub mod FontLaws
+pub mod Found
+pub mod PageRuns
+pub mod PlaceLaws
+pub mod RecordWords
+pub mod Traces
+pub mod TurnLaws
+pub mod WalkLaws
+pub mod Words

@@ -1,0 +1,216 @@
+-- What two walks over a page show of its placing, and the answer and the area as each judgement falls. Assumes nothing.
+use mathlib.Core.Path.{_≡_, refl, sym, ap, ap₂, _∙_, subst}
+use mathlib.Core.Bool.{Bool, true, false, cond, not, _&&_}
+use mathlib.Core.List.{List, []}
+use Prim.Native.Nat.{ℕ, _*_, _+_, _<_, _≤_}
+use native.Mathlib.Nat.{zero-add}
+use native.Mathlib.Omega.{arith}
+use lib.Dec.{ltb, leb}
+use lib.ListN.{length, getD}
+use borrow.Author.Tests.{lt-ltb, le-ltb, le-leb, lt-leb}
+use Rattle.refusals.specs.Numbers.{noSuchPage, positionOutOfRange, areaTooShort}
+use Rattle.refusals.specs.Answer.{Answer, refused, given, refuseIf, andThen}
+use Rattle.refusals.proofs.Answer.{given-not-refused}
+use Rattle.units.specs.declared.Ratio.{Ratio}
+use Rattle.units.specs.Unit.{Units, unitOf, drift}
+use Rattle.units.proofs.Unit.{accepted}
+use Rattle.widths.specs.Table.{checkedTable}
+use Rattle.commands.specs.Reading.{longestFile}
+use Rattle.volume.specs.declared.Volume.{Volume}
+use Rattle.volume.specs.Past.{num, den, mag, bopOf}
+use Rattle.volume.specs.Judged.{judged}
+use Rattle.volume.specs.Names.{history}
+use Rattle.volume.specs.Steps.{stateOf, summaryOf}
+use Rattle.volume.proofs.Accepts.{accepts-lawful}
+use Rattle.state.specs.Registers.{freshState}
+use Rattle.page.specs.declared.Counts.{Counts}
+use Rattle.page.specs.declared.Terms.{Terms}
+use Rattle.page.specs.declared.Walked.{Walked}
+use Rattle.page.specs.declared.Walked.the-variants as Walked
+use Rattle.page.specs.Records.{recordSize, allBytes}
+use Rattle.page.specs.PageList.{pageOf}
+use Rattle.page.specs.Placing.{Placed, placing}
+use Rattle.page.specs.Answers.{pageOutside, settingOf, withRoom, placedAccepted, countsOf, placedCounts, areaAfter}
+use Rattle.page.specs.Steps.{stored, stopped, through, zeroCounts, finish, endingOf, Runs, Told, Ready, Held}
+use Rattle.page.proofs.Areas.{stored-whole}
+use Rattle.page.proofs.Traces.{accepted-trace, accepted-units, trace-scales}
+use Rattle.page.proofs.PageRuns.{page-runs, bop-inside}
+
+-- ---- the answer and the area
+
+-- what an answer comes to: the counts or the refusal, and the area
+abbrev pub Comes-to : Answer Placed → List ℕ → Answer Counts → List ℕ → Type 0
+Comes-to answer entry said area = (said ≡ placedCounts answer) × (area ≡ areaAfter entry answer)
+
+pub refused-to : {answer : Answer Placed} {number place : ℕ} → answer ≡ refused number place → (entry : List ℕ) → Comes-to answer entry (refused number place) entry
+refused-to e entry = (sym (ap placedCounts e), sym (ap (areaAfter entry) e))
+
+pub placed-to : {answer : Answer Placed} {p : Placed} → answer ≡ given p → (entry area : List ℕ) → area ≡ areaAfter entry (given p) → Comes-to answer entry (given (countsOf p)) area
+placed-to e entry area area-is = (sym (ap placedCounts e), area-is ∙ sym (ap (areaAfter entry) e))
+
+-- ---- what a walk shows
+
+module _ (out : List ℕ) where
+  -- a walk that left the range
+  pub walk-left : (answer : Answer Placed) (number place : ℕ) → stopped number place ≡ finish out zeroCounts answer → answer ≡ refused number place
+  walk-left (refused n p) number place e = let n-is : n ≡ number = cc in let p-is : p ≡ place = cc in ap₂ refused n-is p-is
+  walk-left (given p) number place e = let z : _≡_ {A = ℕ} 0 1 = cc in absurd (omega arith)
+
+  -- one that went through
+  pub record Through (answer : Answer Placed) (area : List ℕ) (counts : Counts) : Type 0 where
+    pub p : Placed
+    pub answer-is : answer ≡ given p
+    pub area-is : area ≡ stored out 0 (p .records)
+    pub counts-are : counts ≡ countsOf p
+
+  pub walk-through : (answer : Answer Placed) (area : List ℕ) (counts : Counts) → through area counts ≡ finish out zeroCounts answer → Through answer area counts
+  walk-through (refused n p) area counts e = let z : _≡_ {A = ℕ} 0 1 = cc in absurd (omega arith)
+  walk-through (given p) area counts e =
+      record {
+        p = p;
+        answer-is = refl;
+        area-is = cc;
+        counts-are =
+            (let same : counts ≡ record { records = 0 + length (p .records); missing = 0 + p .missing-characters; specials = 0 + p .specials } = cc in same)
+            ∙ ap₂ (λ (r m : ℕ). record { records = r; missing = m; specials = 0 + p .specials }) (zero-add (length (p .records))) (zero-add (p .missing-characters))
+            ∙ ap (λ (s : ℕ). record { records = length (p .records); missing = p .missing-characters; specials = s }) (zero-add (p .specials));
+      }
+
+  -- where one walk goes through, so does each other
+  pub walk-again : (r : Walked) (answer : Answer Placed) (area : List ℕ) {p : Placed} → answer ≡ given p → endingOf area r ≡ finish out zeroCounts answer
+      → (counts : Counts) × Through answer area counts
+  walk-again (Walked.Through counts) answer area a e = (counts, walk-through answer area counts e)
+  walk-again (Walked.Left place) answer area {p} a e = absurd (given-not-refused p positionOutOfRange place (sym a ∙ walk-left answer positionOutOfRange place e))
+
+-- ---- 16 and 17, as the walks show
+
+module _ (answer : Answer Placed) (entry : List ℕ) where
+  abbrev judgedRoom : Answer Placed
+  judgedRoom = andThen answer (withRoom (length entry))
+
+  -- 16
+  pub left-to : (place : ℕ) → stopped positionOutOfRange place ≡ finish [] zeroCounts answer → Comes-to judgedRoom entry (refused positionOutOfRange place) entry
+  left-to place e = refused-to (ap (λ (a : Answer Placed). andThen a (withRoom (length entry))) (walk-left [] answer positionOutOfRange place e)) entry
+
+  module _ {area : List ℕ} {counts : Counts} (first : Through [] answer area counts) where
+    records-are : length (first .p .records) ≡ counts .records
+    records-are = sym (ap (λ (c : Counts). c .records) (first .counts-are))
+
+    -- 17
+    pub short-to : length entry < recordSize * counts .records → Comes-to judgedRoom entry (refused areaTooShort 0) entry
+    short-to few =
+        let test : ltb (length entry) (recordSize * length (first .p .records)) ≡ true = lt-ltb (length entry) (recordSize * length (first .p .records)) (omega (arith, few, records-are)) in
+        refused-to (ap (λ (a : Answer Placed). andThen a (withRoom (length entry))) (first .answer-is) ∙ ap (λ (t : Bool). refuseIf t areaTooShort 0 (given (first .p))) test) entry
+
+    -- all placed
+    pub all-to : recordSize * counts .records ≤ length entry → (area′ : List ℕ) (counts′ : Counts) → Through entry answer area′ counts′
+        → Comes-to judgedRoom entry (given counts) area′
+    all-to room area′ counts′ second =
+        let p = first .p in
+        let fits : recordSize * length (p .records) ≤ length entry = omega (arith, room, records-are) in
+        let test : ltb (length entry) (recordSize * length (p .records)) ≡ false = le-ltb (length entry) (recordSize * length (p .records)) fits in
+        let same : given (second .p) ≡ given p = sym (second .answer-is) ∙ first .answer-is in
+        let same-p : second .p ≡ p = cc in
+        let both = placed-to (ap (λ (a : Answer Placed). andThen a (withRoom (length entry))) (first .answer-is) ∙ ap (λ (t : Bool). refuseIf t areaTooShort 0 (given p)) test) entry area′
+        (second .area-is ∙ ap (λ (x : Placed). stored entry 0 (x .records)) same-p ∙ stored-whole (p .records) entry fits) in
+        (ap given (first .counts-are) ∙ both .0, both .1)
+
+-- ---- 12 to 15
+
+module _ (file table : List ℕ) (resolution page room pages : ℕ) where
+  abbrev unit : Answer Ratio
+  unit = unitOf (num (history file)) (den (history file)) (mag (history file)) resolution
+
+  abbrev walked : Ratio → ℕ → Answer Placed
+  walked k records = andThen (placing (settingOf file table k resolution records page) freshState (pageOf page (history file))) (withRoom room)
+
+  abbrev withPage : Ratio → ℕ → Answer Placed
+  withPage k records = refuseIf (pageOutside page pages) noSuchPage 0 (walked k records)
+
+  abbrev withTable : Ratio → Answer Placed
+  withTable k = andThen (checkedTable table) (withPage k)
+
+  pub unit-refused : {number place : ℕ} → unit ≡ refused number place → placedAccepted file table resolution page room pages ≡ refused number place
+  unit-refused e = ap (λ (u : Answer Ratio). andThen u withTable) e
+
+  module _ {k : Ratio} (unit-is : unit ≡ given k) where
+    with-unit : placedAccepted file table resolution page room pages ≡ withTable k
+    with-unit = ap (λ (u : Answer Ratio). andThen u withTable) unit-is
+
+    pub table-refused : {number place : ℕ} → checkedTable table ≡ refused number place → placedAccepted file table resolution page room pages ≡ refused number place
+    table-refused e = with-unit ∙ ap (λ (t : Answer ℕ). andThen t (withPage k)) e
+
+    module _ {records : ℕ} (table-is : checkedTable table ≡ given records) where
+      with-table : placedAccepted file table resolution page room pages ≡ withPage k records
+      with-table = with-unit ∙ ap (λ (t : Answer ℕ). andThen t (withPage k)) table-is
+
+      with-page : {t : Bool} → pageOutside page pages ≡ t → placedAccepted file table resolution page room pages ≡ refuseIf t noSuchPage 0 (walked k records)
+      with-page e = with-table ∙ ap (λ (t : Bool). refuseIf t noSuchPage 0 (walked k records)) e
+
+      -- page 0
+      pub page-zero : page < 1 → placedAccepted file table resolution page room pages ≡ refused noSuchPage 0
+      page-zero h = with-page (ap (λ (t : Bool). not (t && leb page pages)) (lt-leb 1 page h))
+
+      module _ (some : 1 ≤ page) where
+        -- a page after the last
+        pub page-beyond : pages < page → placedAccepted file table resolution page room pages ≡ refused noSuchPage 0
+        page-beyond h = with-page (ap₂ (λ (a b : Bool). not (a && b)) (le-leb 1 page some) (lt-leb page pages h))
+
+        -- a page of the file
+        pub page-there : page ≤ pages → placedAccepted file table resolution page room pages ≡ walked k records
+        page-there h = with-page (ap₂ (λ (a b : Bool). not (a && b)) (le-leb 1 page some) (le-leb page pages h))
+
+-- ---- what a scan holds makes a walk ready
+
+-- D is at most 2
+pub drift-bound : (resolution : ℕ) → drift resolution ≤ 2
+drift-bound resolution = by (leb 200 resolution) (leb 100 resolution)
+  where
+    by : (fine coarse : Bool) → cond fine 2 (cond coarse 1 0) ≤ 2
+    by true coarse = omega arith
+    by false true = omega arith
+    by false false = omega arith
+
+module _ {file : List ℕ} {page : ℕ} {fonts : List ℕ} {v : Volume} (held : Held file page fonts v) where
+  state-is : v ≡ stateOf page (history file)
+  state-is = held .keeps .0
+
+  -- the file's units
+  pub held-units : ((i : ℕ) → getD file i 0 < 256) → Units (v .num) (v .den) (v .mag)
+  held-units bytes = subst (λ (w : Volume). Units (w .num) (w .den) (w .mag)) (sym state-is) (accepted-units file (summaryOf v) bytes (held .judgement))
+
+  pub held-unit : (resolution : ℕ) → unitOf (v .num) (v .den) (v .mag) resolution ≡ unitOf (num (history file)) (den (history file)) (mag (history file)) resolution
+  held-unit resolution = ap (λ (w : Volume). unitOf (w .num) (w .den) (w .mag) resolution) state-is
+
+  module _ (low : 1 ≤ page) (high : page ≤ v .pages) where
+    wanted-is : v .wanted ≡ bopOf page (history file)
+    wanted-is = ap (λ (w : Volume). w .wanted) state-is
+
+    -- the page's commands start within the file
+    pub held-start : v .wanted + 45 ≤ length file
+    held-start = omega (arith, wanted-is, bop-inside file (summaryOf v) page (held .judgement) low high)
+
+    pub held-short : length file ≤ longestFile
+    held-short = accepts-lawful file (summaryOf v) (held .judgement) .0
+
+    -- all that a walk over the page starts from
+    pub held-ready : (table : List ℕ) (terms : Terms) → terms .page ≡ page → checkedTable table ≡ given (terms .records)
+        → (resolution : ℕ) → terms .ruler .drift ≡ drift resolution → ((i : ℕ) → getD file i 0 < 256)
+        → unitOf (v .num) (v .den) (v .mag) resolution ≡ given (terms .ruler .k) → Ready file fonts table terms (v .wanted + 45)
+    held-ready table terms page-is table-is resolution drift-is bytes unit-is =
+        record {
+          short = held-short;
+          right = table-is;
+          unit = accepted (v .num) (v .den) (v .mag) resolution (terms .ruler .k) (held-units bytes) unit-is;
+          drift-small = subst (λ (d : ℕ). d ≤ 2) (sym drift-is) (drift-bound resolution);
+          told =
+              record {
+                tells = held .keeps .1;
+                standing = held .keeps .2;
+                lawfully = held .keeps .3;
+                scales = trace-scales file (history file) (accepted-trace file (summaryOf v) (held .judgement));
+              };
+          runs =
+              subst (λ (p : ℕ). Runs file (v .wanted + 45) 0 (pageOf p (history file))) (sym page-is)
+              (subst (λ (place : ℕ). Runs file (place + 45) 0 (pageOf page (history file))) (sym wanted-is) (page-runs file (summaryOf v) page (held .judgement) low high));
+        }

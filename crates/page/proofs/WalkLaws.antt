@@ -1,0 +1,356 @@
+-- One turn of the walk over a page: what is still to come ends as the whole page does, before a command and after it. Assumes nothing.
+use mathlib.Core.Path.{_≡_, refl, sym, ap, ap₂, _∙_, subst}
+use mathlib.Core.Bool.{Bool, true, false, cond, _||_, true≢false, false≢true}
+use mathlib.Core.List.{List, [], _∷_}
+use Prim.Native.Nat.{ℕ, _+_, _-_, _<_, _≤_}
+use native.Mathlib.Nat.{add-zero}
+use native.Mathlib.Omega.{arith}
+use lib.Dec.{leb, eqb}
+use lib.ListN.{length, drop}
+use borrow.Author.Tests.{leb-false, eqb-false}
+use Rattle.refusals.specs.Numbers.{positionOutOfRange}
+use Rattle.refusals.specs.Answer.{Answer, refused, given, andThen}
+use Rattle.commands.specs.declared.Kind.{Kind}
+use Rattle.commands.specs.declared.Kind.the-variants.{Eop, Push, Pop}
+use Rattle.commands.specs.Kinds.{is}
+use Rattle.commands.specs.Commands.{Command, kindOfCommand, whole, front}
+use Rattle.volume.specs.Past.{isA, depthAfter}
+use Rattle.volume.specs.Rules.{wrongAtDepth}
+use Rattle.volume.specs.Names.{history}
+use Rattle.volume.proofs.Arms.{is-kind}
+use Rattle.volume.proofs.Going.{after-command}
+use Rattle.state.specs.declared.Level.{Level}
+use Rattle.state.specs.declared.Page.{Page}
+use Rattle.state.specs.Registers.{State, freshState, poppedTo}
+use Rattle.state.specs.Steps.{stateOf, savedOf, withLevel, Bounded, AllBounded}
+use Rattle.state.proofs.Levels.{bounded-zero}
+use Rattle.page.specs.declared.Counts.{Counts}
+use Rattle.page.specs.declared.Terms.{Terms}
+use Rattle.page.specs.declared.Turn.{Turn}
+use Rattle.page.specs.declared.Turn.the-variants as Turn
+use Rattle.page.specs.declared.Step.{Step}
+use Rattle.page.specs.PageList.{Located, pageOf}
+use Rattle.page.specs.Placing.{Setting, Added, nothing, placed, missing, special, Outcome, goes, leavesRange, at as place, adding, onOutcome, after, placing}
+use Rattle.page.specs.Steps.{addedOf, AddsInWords, areaNoted, countNoted, finish, stopped, through, zeroCounts, did, Safe, keepsDepth, Suits, settingBy, StepAsks, Known, Runs, ends, onward, Ready}
+use Rattle.page.proofs.Areas.{noted-length, finish-adding}
+use Rattle.page.proofs.FontLaws.{unselected-known}
+use Rattle.page.proofs.TurnLaws.{after-kind}
+
+-- ---- the code's page
+
+-- its numbers are in their ranges, and its stack is that long
+pub record Sound (page : Page) : Type 0 where
+  pub bounded : Bounded (page .now)
+  pub kept : AllBounded (savedOf (page .depth) (page .stack))
+  pub known : Known (page .font)
+  pub shallow : page .depth ≤ 100
+  pub full : length (page .stack) ≡ 100
+
+-- so it is where the state that it stands for has its numbers in their ranges
+pub state-sound : (page : Page) (s : State) → stateOf page ≡ s → Bounded (s .level) → AllBounded (s .saved) → Known (s .font) → page .depth ≤ 100
+    → length (page .stack) ≡ 100 → Sound page
+state-sound page s is-s bounded kept known shallow full =
+    record {
+      bounded = subst (λ (x : State). Bounded (x .level)) (sym is-s) bounded;
+      kept = subst (λ (x : State). AllBounded (x .saved)) (sym is-s) kept;
+      known = subst (λ (x : State). Known (x .font)) (sym is-s) known;
+      shallow = shallow;
+      full = full;
+    }
+
+-- a pop brings back numbers in their ranges
+pub popped-bounded : (s : State) (levels : List Level) → AllBounded levels → Bounded (s .level) → AllBounded (s .saved)
+    → Bounded (poppedTo s levels .level) × AllBounded (poppedTo s levels .saved)
+popped-bounded s [] all bounded kept = (bounded, kept)
+popped-bounded s (l ∷ levels) all bounded kept = (all .0, all .1)
+
+-- and no other font
+pub popped-known : (s : State) (levels : List Level) → Known (s .font) → Known (poppedTo s levels .font)
+popped-known s [] known = known
+popped-known s (l ∷ levels) known = known
+
+-- ---- what is still to come
+
+-- the commands still to come run from here, and end as the whole page does
+pub record Walking (file fonts table : List ℕ) (terms : Terms) (start : ℕ) (out₀ out : List ℕ) (page : Page) (counts : Counts) (at : ℕ) : Type 0 where
+  pub ready : Ready file fonts table terms start
+  pub rest : List Located
+  pub runs : Runs file at (page .depth) rest
+  pub same : finish out counts (placing (settingBy terms table (history file)) (stateOf page) rest)
+      ≡ finish out₀ zeroCounts (placing (settingBy terms table (history file)) freshState (pageOf (terms .page) (history file)))
+  pub sound : Sound page
+  pub few-records : counts .records ≤ at
+  pub few-missing : counts .missing ≤ at
+  pub few-specials : counts .specials ≤ at
+  pub long : length out ≡ length out₀
+
+-- at the start all of the page is to come
+pub starting : {file fonts table : List ℕ} {terms : Terms} {start : ℕ} (ready : Ready file fonts table terms start) (out : List ℕ) (page : Page)
+    → stateOf page ≡ freshState → page .depth ≡ 0 → length (page .stack) ≡ 100 → Walking file fonts table terms start out out page zeroCounts start
+starting {file} {fonts} {table} {terms} {start} ready out page fresh flat full =
+    record {
+      ready = ready;
+      rest = pageOf (terms .page) (history file);
+      runs = subst (λ (depth : ℕ). Runs file start depth (pageOf (terms .page) (history file))) (sym flat) (ready .runs);
+      same = ap (λ (s : State). finish out zeroCounts (placing (settingBy terms table (history file)) s (pageOf (terms .page) (history file)))) fresh;
+      sound = state-sound page freshState fresh bounded-zero tt unselected-known (omega arith) full;
+      few-records = omega arith;
+      few-missing = omega arith;
+      few-specials = omega arith;
+      long = refl;
+    }
+
+-- ---- kinds
+
+-- a kind that keeps the depth is no eop
+keeps-open : (kind : Kind) → keepsDepth kind ≡ true → is kind Eop ≡ false
+keeps-open kind = by (is kind Push) (is kind Pop) (is kind Eop)
+  where
+    by : (push pop eop : Bool) → cond push false (cond pop false (cond eop false true)) ≡ true → eop ≡ false
+    by true pop eop e = absurd (false≢true e)
+    by false true eop e = absurd (false≢true e)
+    by false false true e = absurd (false≢true e)
+    by false false false e = refl
+
+keeps-depth : (kind : Kind) (depth : ℕ) → keepsDepth kind ≡ true → depthAfter kind depth ≡ depth
+keeps-depth kind depth = by (is kind Push) (is kind Pop) (is kind Eop)
+  where
+    by : (push pop eop : Bool) → cond push false (cond pop false (cond eop false true)) ≡ true → cond push (depth + 1) (cond pop (depth - 1) depth) ≡ depth
+    by true pop eop e = absurd (false≢true e)
+    by false true eop e = absurd (false≢true e)
+    by false false eop e = refl
+
+-- what a turn does to the depth
+abbrev pub turnedDepth : Turn → ℕ → ℕ
+turnedDepth Turn.Stay depth = depth
+turnedDepth (Turn.Sideways level n) depth = depth
+turnedDepth (Turn.Down level n) depth = depth
+turnedDepth (Turn.PastCharacter width escapement) depth = depth
+turnedDepth (Turn.PastRule width) depth = depth
+turnedDepth Turn.Push depth = depth + 1
+turnedDepth Turn.Pop depth = depth - 1
+turnedDepth (Turn.Select font) depth = depth
+turnedDepth Turn.End depth = depth
+turnedDepth Turn.Leave depth = depth
+
+-- a turn that goes on
+abbrev pub GoesOn : Turn → Type 0
+GoesOn Turn.Stay = Unit {0}
+GoesOn (Turn.Sideways level n) = Unit {0}
+GoesOn (Turn.Down level n) = Unit {0}
+GoesOn (Turn.PastCharacter width escapement) = Unit {0}
+GoesOn (Turn.PastRule width) = Unit {0}
+GoesOn Turn.Push = Unit {0}
+GoesOn Turn.Pop = Unit {0}
+GoesOn (Turn.Select font) = Unit {0}
+GoesOn Turn.End = ⊥
+GoesOn Turn.Leave = Unit {0}
+
+-- what suits a kind is an eop exactly if the kind is, and changes the depth as the kind does
+module _ (kind : Kind) (depth : ℕ) where
+  suits-open : (turn : Turn) → GoesOn turn → Suits kind turn → is kind Eop ≡ false
+  suits-open Turn.Stay on suits = keeps-open kind suits
+  suits-open (Turn.Sideways level n) on suits = keeps-open kind suits
+  suits-open (Turn.Down level n) on suits = keeps-open kind suits
+  suits-open (Turn.PastCharacter width escapement) on suits = keeps-open kind suits
+  suits-open (Turn.PastRule width) on suits = keeps-open kind suits
+  suits-open Turn.Push on suits = ap (λ (k : Kind). is k Eop) suits
+  suits-open Turn.Pop on suits = ap (λ (k : Kind). is k Eop) suits
+  suits-open (Turn.Select font) on suits = keeps-open kind suits
+  suits-open Turn.End on suits = absurd on
+  suits-open Turn.Leave on suits = keeps-open kind suits
+
+  suits-depth : (turn : Turn) → GoesOn turn → Suits kind turn → turnedDepth turn depth ≡ depthAfter kind depth
+  suits-depth Turn.Stay on suits = sym (keeps-depth kind depth suits)
+  suits-depth (Turn.Sideways level n) on suits = sym (keeps-depth kind depth suits)
+  suits-depth (Turn.Down level n) on suits = sym (keeps-depth kind depth suits)
+  suits-depth (Turn.PastCharacter width escapement) on suits = sym (keeps-depth kind depth suits)
+  suits-depth (Turn.PastRule width) on suits = sym (keeps-depth kind depth suits)
+  suits-depth Turn.Push on suits = ap (λ (k : Kind). depthAfter k depth) (sym suits)
+  suits-depth Turn.Pop on suits = ap (λ (k : Kind). depthAfter k depth) (sym suits)
+  suits-depth (Turn.Select font) on suits = sym (keeps-depth kind depth suits)
+  suits-depth Turn.End on suits = absurd on
+  suits-depth Turn.Leave on suits = sym (keeps-depth kind depth suits)
+
+-- what is added counts for one at most
+module _ (counts : Counts) (at next : ℕ) (forward : at < next) where
+  few-noted : (added : Added) → counts .records ≤ at → counts .missing ≤ at → counts .specials ≤ at
+      → (countNoted counts added .records ≤ next) × (countNoted counts added .missing ≤ next) × (countNoted counts added .specials ≤ next)
+  few-noted nothing r m s = (omega arith, omega arith, omega arith)
+  few-noted (placed x) r m s = (omega arith, omega arith, omega arith)
+  few-noted missing r m s = (omega arith, omega arith, omega arith)
+  few-noted special r m s = (omega arith, omega arith, omega arith)
+
+-- with nothing to come, the area and the counts stay
+finish-none : (out : List ℕ) (counts : Counts) → through out counts ≡ finish out counts (given (record { records = []; missing-characters = 0; specials = 0 }))
+finish-none out counts =
+    sym (ap₂ (λ (r m : ℕ). through out (record { records = r; missing = m; specials = counts .specials + 0 })) (add-zero (counts .records)) (add-zero (counts .missing))
+    ∙ ap (λ (n : ℕ). through out (record { records = counts .records; missing = counts .missing; specials = n })) (add-zero (counts .specials)))
+
+-- neither of two tests
+neither : (a b : Bool) → (a || b) ≡ false → a ≡ false
+neither true b e = e
+neither false b e = refl
+
+-- ---- one turn
+
+module _ {file fonts table : List ℕ} {terms : Terms} {start : ℕ} {out₀ out : List ℕ} {page : Page} {counts : Counts} {at : ℕ}
+    (w : Walking file fonts table terms start out₀ out page counts at) (r : Step)
+    (asks : StepAsks file at (settingBy terms table (history file)) (page .now) (page .font) r) where
+  abbrev setting : Setting
+  setting = settingBy terms table (history file)
+
+  abbrev s : State
+  s = stateOf page
+
+  -- the command that stands here: the page's eop, or the next of its commands
+  data Here : Type 0 where
+    last : (c : Command) (rest : List ℕ) → front (drop at file) ≡ whole c rest → isA Eop c ≡ true → w .rest ≡ [] → Here
+    next : (c : Command) (rest : List ℕ) (later : List Located) → front (drop at file) ≡ whole c rest → isA Eop c ≡ false
+        → wrongAtDepth (kindOfCommand c) (page .depth) ≡ false → w .rest ≡ record { at = at; command = c } ∷ later
+        → Runs file (at + (1 + length (c .params))) (depthAfter (kindOfCommand c) (page .depth)) later
+        → Here
+
+  here : Here
+  here = by (w .runs) refl
+    where
+      by : {cs : List Located} → Runs file at (page .depth) cs → w .rest ≡ cs → Here
+      by (ends c rest stands eop) e = last c rest stands eop e
+      by (onward {cs = later} c rest stands goes-on right runs) e = next c rest later stands goes-on right e runs
+
+  -- the place goes on, within the file
+  pub advances : (at < r .next) × (r .next ≤ length file)
+  advances = by here
+    where
+      forward : (c : Command) (rest : List ℕ) → front (drop at file) ≡ whole c rest → (at < r .next) × (r .next ≤ length file)
+      forward c rest stands = (omega (arith, asks c rest stands .1), omega (arith, asks c rest stands .1, after-command file at c rest stands .1))
+
+      by : Here → (at < r .next) × (r .next ≤ length file)
+      by (last c rest stands eop e) = forward c rest stands
+      by (next c rest later stands goes-on right e runs) = forward c rest stands
+
+  -- what is asked by the command that stands here
+  module _ {c : Command} {rest : List ℕ} (stands : front (drop at file) ≡ whole c rest) (turn : Turn) (turn-is : r .asked .turn ≡ turn) where
+    suits : Suits (kindOfCommand c) turn
+    suits = subst (Suits (kindOfCommand c)) turn-is (asks c rest stands .0 .1)
+
+    does : did (terms .ruler) s turn (r .asked .adds) ≡ after setting s c
+    does =
+        ap (λ (t : Turn). did (terms .ruler) s t (r .asked .adds)) (sym turn-is) ∙ asks c rest stands .0 .0 .does (savedOf (page .depth) (page .stack))
+
+  -- there are fewer records than bytes
+  pub few : (counts′ : Counts) → counts′ ≡ countNoted counts (addedOf (r .asked .adds)) → counts′ .records ≤ length file
+  few counts′ counts-are =
+      omega (arith, ap (λ (n : Counts). n .records) counts-are, few-noted counts at (r .next) (advances .0) (addedOf (r .asked .adds)) (w .few-records) (w .few-missing) (w .few-specials) .0, advances .1)
+
+  -- the record that is added, and the turn, are in their ranges
+  pub in-ranges : AddsInWords (r .asked .adds) × Safe (page .now) (r .asked .turn)
+  in-ranges = by here
+    where
+      both : {c : Command} {rest : List ℕ} → front (drop at file) ≡ whole c rest → AddsInWords (r .asked .adds) × Safe (page .now) (r .asked .turn)
+      both {c} {rest} stands = (asks c rest stands .0 .0 .words, asks c rest stands .0 .0 .safe)
+
+      by : Here → AddsInWords (r .asked .adds) × Safe (page .now) (r .asked .turn)
+      by (last c rest stands eop e) = both stands
+      by (next c rest later stands goes-on right e runs) = both stands
+
+  module _ (turn : Turn) (turn-is : r .asked .turn ≡ turn) where
+    -- a command that leads to a next state
+    pub onwards : GoesOn turn → (s′ : State) → did (terms .ruler) s turn (r .asked .adds) ≡ goes s′ (addedOf (r .asked .adds))
+        → (page′ : Page) → stateOf page′ ≡ s′ → page′ .depth ≡ turnedDepth turn (page .depth) → Sound page′
+        → (out′ : List ℕ) → out′ ≡ areaNoted out (counts .records) (addedOf (r .asked .adds))
+        → (counts′ : Counts) → counts′ ≡ countNoted counts (addedOf (r .asked .adds))
+        → Walking file fonts table terms start out₀ out′ page′ counts′ (r .next)
+    unfolding placing
+    onwards on s′ led page′ state-is depth-is sound out′ out-is counts′ counts-are = by here
+      where
+        added : Added
+        added = addedOf (r .asked .adds)
+
+        by : Here → Walking file fonts table terms start out₀ out′ page′ counts′ (r .next)
+        by (last c rest stands eop e) = absurd (true≢false (sym eop ∙ suits-open (kindOfCommand c) (page .depth) turn on (suits stands turn turn-is)))
+        by (next c rest later stands goes-on right e runs) =
+            let outcome : after setting s c ≡ goes s′ added = sym (does stands turn turn-is) ∙ led in
+            let step : placing setting s (w .rest) ≡ andThen (placing setting s′ later) (λ p. given (adding added p)) =
+            ap (placing setting s) e ∙ ap (λ (o : Outcome). onOutcome at o (λ n. placing setting n later)) outcome in
+            let noted = few-noted counts at (r .next) (advances .0) added (w .few-records) (w .few-missing) (w .few-specials) in
+            record {
+              ready = w .ready;
+              rest = later;
+              runs =
+                  subst (λ (place : ℕ). Runs file place (page′ .depth) later) (sym (asks c rest stands .1))
+                  (subst (λ (depth : ℕ). Runs file (at + (1 + length (c .params))) depth later) (sym (depth-is ∙ suits-depth (kindOfCommand c) (page .depth) turn on (suits stands turn turn-is))) runs);
+              same =
+                  ap (λ (x : State). finish out′ counts′ (placing setting x later)) state-is
+                  ∙ ap₂ (λ (o : List ℕ) (n : Counts). finish o n (placing setting s′ later)) out-is counts-are
+                  ∙ sym (finish-adding out counts added (placing setting s′ later))
+                  ∙ ap (finish out counts) (sym step)
+                  ∙ w .same;
+              sound = sound;
+              few-records = subst (λ (n : Counts). n .records ≤ r .next) (sym counts-are) (noted .0);
+              few-missing = subst (λ (n : Counts). n .missing ≤ r .next) (sym counts-are) (noted .1);
+              few-specials = subst (λ (n : Counts). n .specials ≤ r .next) (sym counts-are) (noted .2);
+              long = ap length out-is ∙ noted-length out (counts .records) added ∙ w .long;
+            }
+
+    -- one that leads to another level only
+    pub leveled : GoesOn turn → (l : Level) → did (terms .ruler) s turn (r .asked .adds) ≡ goes (place s l) (addedOf (r .asked .adds)) → turnedDepth turn (page .depth) ≡ page .depth
+        → (page′ : Page) → page′ ≡ withLevel page l → Bounded l
+        → (out′ : List ℕ) → out′ ≡ areaNoted out (counts .records) (addedOf (r .asked .adds))
+        → (counts′ : Counts) → counts′ ≡ countNoted counts (addedOf (r .asked .adds))
+        → Walking file fonts table terms start out₀ out′ page′ counts′ (r .next)
+    leveled on l led flat page′ page-is bounded out′ out-is counts′ counts-are =
+        let sound = w .sound in
+        onwards on (place s l) led page′ (ap stateOf page-is) (ap (λ (p : Page). p .depth) page-is ∙ sym flat)
+        (subst Sound (sym page-is) (record { bounded = bounded; kept = sound .kept; known = sound .known; shallow = sound .shallow; full = sound .full }))
+        out′ out-is counts′ counts-are
+
+  -- push and pop keep to the depths
+  pub push-room : r .asked .turn ≡ Turn.Push → page .depth < 100
+  push-room turn-is = by here
+    where
+      by : Here → page .depth < 100
+      by (last c rest stands eop e) = absurd (true≢false (sym eop ∙ ap (λ (k : Kind). is k Eop) (suits stands Turn.Push turn-is)))
+      by (next c rest later stands goes-on right e runs) =
+          let pushes : wrongAtDepth Push (page .depth) ≡ false = subst (λ (k : Kind). wrongAtDepth k (page .depth) ≡ false) (suits stands Turn.Push turn-is) right in
+          leb-false 100 (page .depth) (neither (leb 100 (page .depth)) false pushes)
+
+  pub pop-room : r .asked .turn ≡ Turn.Pop → 0 < page .depth
+  pop-room turn-is = by here
+    where
+      by : Here → 0 < page .depth
+      by (last c rest stands eop e) = absurd (true≢false (sym eop ∙ ap (λ (k : Kind). is k Eop) (suits stands Turn.Pop turn-is)))
+      by (next c rest later stands goes-on right e runs) =
+          let pops : wrongAtDepth Pop (page .depth) ≡ false = subst (λ (k : Kind). wrongAtDepth k (page .depth) ≡ false) (suits stands Turn.Pop turn-is) right in
+          omega (arith, eqb-false (page .depth) 0 (neither (eqb (page .depth) 0) false pops))
+
+  -- at eop all has been walked over
+  pub ended : r .asked .turn ≡ Turn.End → (out′ : List ℕ) → out′ ≡ areaNoted out (counts .records) (addedOf (r .asked .adds))
+      → (counts′ : Counts) → counts′ ≡ countNoted counts (addedOf (r .asked .adds))
+      → through out′ counts′ ≡ finish out₀ zeroCounts (placing setting freshState (pageOf (terms .page) (history file)))
+  unfolding placing
+  ended turn-is out′ out-is counts′ counts-are = by here
+    where
+      by : Here → through out′ counts′ ≡ finish out₀ zeroCounts (placing setting freshState (pageOf (terms .page) (history file)))
+      by (last c rest stands eop e) =
+          let same-outcome : goes s (addedOf (r .asked .adds)) ≡ goes s nothing =
+          does stands Turn.End turn-is ∙ sym (after-kind setting (page .now) (savedOf (page .depth) (page .stack)) (page .font) c Eop (is-kind (kindOfCommand c) Eop eop)) in
+          let none : addedOf (r .asked .adds) ≡ nothing = cc in
+          ap₂ through (out-is ∙ ap (areaNoted out (counts .records)) none) (counts-are ∙ ap (countNoted counts) none)
+          ∙ finish-none out counts
+          ∙ ap (λ (cs : List Located). finish out counts (placing setting s cs)) (sym e)
+          ∙ w .same
+      by (next c rest later stands goes-on right e runs) = absurd (true≢false (sym (ap (λ (k : Kind). is k Eop) (suits stands Turn.End turn-is)) ∙ goes-on))
+
+  -- where h or v would leave its range, the page is refused there
+  pub left : r .asked .turn ≡ Turn.Leave → stopped positionOutOfRange at ≡ finish out₀ zeroCounts (placing setting freshState (pageOf (terms .page) (history file)))
+  unfolding placing
+  left turn-is = by here
+    where
+      by : Here → stopped positionOutOfRange at ≡ finish out₀ zeroCounts (placing setting freshState (pageOf (terms .page) (history file)))
+      by (last c rest stands eop e) = absurd (true≢false (sym eop ∙ keeps-open (kindOfCommand c) (suits stands Turn.Leave turn-is)))
+      by (next c rest later stands goes-on right e runs) =
+          let outcome : after setting s c ≡ leavesRange = sym (does stands Turn.Leave turn-is) in
+          let step : placing setting s (w .rest) ≡ refused positionOutOfRange at =
+          ap (placing setting s) e ∙ ap (λ (o : Outcome). onOutcome at o (λ n. placing setting n later)) outcome in
+          ap (finish out counts) (sym step) ∙ w .same

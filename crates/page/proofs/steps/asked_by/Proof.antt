@@ -1,0 +1,212 @@
+-- `page::steps::asked_by` meets its contract: what a command asks, by its kind. Assumes nothing.
+use mathlib.Core.Path.{_≡_, refl, sym, ap, _∙_, subst}
+use mathlib.Core.Bool.{true, false}
+use mathlib.Core.List.{List, [], _∷_}
+use Prim.Native.Nat.{ℕ, _<_, _≤_}
+use native.Mathlib.Omega.{arith}
+use borrow.Author.Needs.{needs, sfits-of}
+use lib.ListN.{length, getD}
+use lib.IntN.{ℤ}
+use denote.Ref.{now}
+use mir.Syntax.{w64}
+use mir.Val.{toZ, ofZ}
+use mir.Facts.{toZ-ofZ}
+use Rattle.commands.specs.declared.Kind.{Kind}
+use Rattle.commands.specs.declared.Kind.the-variants as Kind
+use Rattle.commands.specs.Commands.{Command, kindOfCommand}
+use Rattle.commands.specs.Parameters.{characterCode, selectedFont}
+use Rattle.commands.proofs.Opcodes.{last, kind-range}
+use Rattle.commands.proofs.Lengths.{fixedBy, hasInner, whole-at-most, whole-plain}
+use Rattle.volume.specs.Names.{history}
+use Rattle.volume.proofs.Arms.{kind-others}
+use Rattle.state.specs.declared.Font.{Font}
+use Rattle.state.specs.Registers.{State}
+use Rattle.page.specs.declared.Adds.the-variants as Adds
+use Rattle.page.specs.declared.Turn.{Turn}
+use Rattle.page.specs.declared.Turn.the-variants as Turn
+use Rattle.page.specs.declared.Asked.{Asked}
+use Rattle.page.specs.Placing.{Setting, Outcome, nothing, goes, fontOf, afterKind}
+use Rattle.page.specs.Steps.{stateWith, did, Safe, Suits, settingBy, Comes, CharacterAsks, command, MoveFits, CommandAsks, FontIs}
+use Rattle.page.proofs.TurnLaws.{plain-suits, onlyTurns, move-fits, turn-does, turn-suits, turn-safe, asks-by-kind, rule-sets, rule-puts}
+use Rattle.page.proofs.steps.asked_by.Statement.{statement}
+use Rattle.page.proofs.steps.asked_by.Tie as tie
+
+kind-of-requires : tie.Need-kind-of-requires
+kind-of-requires c κs = search needs
+
+-- what is asked is asked of this command, by this setting
+module _ (k : tie.After-kind-of) where
+  abbrev start : tie.Start
+  start = k .before .before .before .before
+
+  abbrev asking : Command
+  asking = command (start .args .opcode) (now (start .args .params))
+
+  abbrev setting : Setting
+  setting = settingBy (start .args .terms) (now (start .args .widths)) (history (now (start .args .file)))
+
+  kind-is : {kind : Kind} → k .kind-of .result ≡ kind → kindOfCommand asking ≡ kind
+  kind-is told = sym (k .kind-of .ensures) ∙ told
+
+  bytes : (i : ℕ) → getD (now (start .args .params)) i 0 < 256
+  bytes i = omega (arith, k .before .shared-slice-known3 .given i)
+
+  -- what a kind comes to is what the command asks
+  asks : {kind : Kind} → k .kind-of .result ≡ kind → (r : Asked)
+      → Comes (start .args .terms .ruler) (start .args .level) (start .args .font) (λ s. afterKind kind setting s asking) (r .turn) (r .adds) → Suits kind (r .turn)
+      → CommandAsks setting (start .args .level) (start .args .font) asking r
+  asks {kind} told r comes suits = asks-by-kind setting (start .args .level) (start .args .font) asking r kind (kind-is told) comes suits
+
+  -- what a character of the code that was read asks, set or put, it asks of its code
+  code-fits : {kind : Kind} → k .kind-of .result ≡ kind → hasInner kind ≡ false → fixedBy kind (last kind) ≤ 4 → length (now (start .args .params)) ≤ 4
+  code-fits told plain short = omega (arith, whole-at-most asking (start .pre .0 .0) (kind-is told) plain, short)
+
+enum-told : tie.Need-enum-told
+enum-told c = search needs
+
+character-code-requires : tie.Need-character-code-requires
+character-code-requires c κs = code-fits (c .before .before) (c .enum-told .given .1) refl (omega arith)
+
+character-requires : tie.Need-character-requires
+character-requires c κs = search needs
+
+enum-told-2 : tie.Need-enum-told-2
+enum-told-2 c = search needs
+
+character-code-requires-2 : tie.Need-character-code-requires-2
+character-code-requires-2 c κs = code-fits (c .before .before) (c .enum-told2 .given .1) refl (omega arith)
+
+character-requires-2 : tie.Need-character-requires-2
+character-requires-2 c κs = search needs
+
+enum-told-3 : tie.Need-enum-told-3
+enum-told-3 c = search needs
+
+rule-requires : tie.Need-rule-requires
+rule-requires c κs =
+    let k = c .before .before in
+    (start k .pre .1 .1, start k .pre .1 .3, omega (arith, whole-plain (asking k) (start k .pre .0 .0) (kind-is k (c .enum-told3 .given .1)) refl))
+
+enum-told-4 : tie.Need-enum-told-4
+enum-told-4 c = search needs
+
+rule-requires-2 : tie.Need-rule-requires-2
+rule-requires-2 c κs =
+    let k = c .before .before in
+    (start k .pre .1 .1, start k .pre .1 .3, omega (arith, whole-plain (asking k) (start k .pre .0 .0) (kind-is k (c .enum-told4 .given .1)) refl))
+
+enum-told-5 : tie.Need-enum-told-5
+enum-told-5 c = search needs
+
+selected-font-requires : tie.Need-selected-font-requires
+selected-font-requires c κs =
+    let k = c .before .before in
+    let e = kind-is k (c .enum-told5 .given .1) in
+    let between = kind-range (start k .args .opcode) (omega (arith, start k .pre .0 .0 .defined)) e in
+    (between .0, between .1, omega (arith, whole-plain (asking k) (start k .pre .0 .0) e refl))
+
+font-of-requires : tie.Need-font-of-requires
+font-of-requires c κs = search needs
+
+enum-told-6 : tie.Need-enum-told-6
+enum-told-6 c = search needs
+
+turn-of-requires : tie.Need-turn-of-requires
+turn-of-requires c κs =
+    let k = c .before in
+    (start k .pre .1 .3, subst (λ (kind : Kind). MoveFits kind (now (start k .args .params))) (sym (k .kind-of .ensures)) (move-fits (asking k) (start k .pre .0 .0)))
+
+-- the code that was read, as it is handed on
+returns : tie.Need-returns
+returns c =
+    let k = c .before .before .before .before in
+    let s = start k .args in
+    let read = c .before .character-code in
+    let code-is : toZ w64 (ofZ w64 (read .result)) ≡ characterCode (s .opcode) (now (s .params)) = toZ-ofZ (sfits-of (read .ok)) ∙ read .ensures .0 in
+    let both = subst (λ (code : ℤ). CharacterAsks (s .terms) (now (s .widths)) (s .level) (s .font) true code (c .character .result)) code-is (c .character .ensures) (history (now (s .file))) in
+    let comes = both .0 in
+    asks k (c .before .before .enum-told .given .1) (c .character .result) (record { does = comes .does; safe = comes .safe; words = comes .words }) (plain-suits Kind.SetCharacter (c .character .result .turn) refl (both .1))
+
+returns-2 : tie.Need-returns-2
+returns-2 c =
+    let k = c .before .before .before .before in
+    let s = start k .args in
+    let read = c .before .character-code2 in
+    let code-is : toZ w64 (ofZ w64 (read .result)) ≡ characterCode (s .opcode) (now (s .params)) = toZ-ofZ (sfits-of (read .ok)) ∙ read .ensures .0 in
+    let both = subst (λ (code : ℤ). CharacterAsks (s .terms) (now (s .widths)) (s .level) (s .font) false code (c .character2 .result)) code-is (c .character2 .ensures) (history (now (s .file))) in
+    let comes = both .0 in
+    asks k (c .before .before .enum-told2 .given .1) (c .character2 .result) (record { does = comes .does; safe = comes .safe; words = comes .words }) (plain-suits Kind.PutCharacter (c .character2 .result .turn) refl (both .1))
+
+returns-3 : tie.Need-returns-3
+returns-3 c =
+    let k = c .before .before .before in
+    let s = start k .args in
+    let both = rule-sets (s .terms) (now (s .widths)) (history (now (s .file))) (s .level) (s .font) (now (s .params)) (start k .pre .1 .3) (bytes k) (c .rule .result) (c .rule .ensures) in
+    let comes = both .0 in
+    asks k (c .before .enum-told3 .given .1) (c .rule .result) (record { does = comes .does; safe = comes .safe; words = comes .words }) (plain-suits Kind.SetRule (c .rule .result .turn) refl (both .1))
+
+returns-4 : tie.Need-returns-4
+returns-4 c =
+    let k = c .before .before .before in
+    let s = start k .args in
+    let both = rule-puts (s .terms) (now (s .widths)) (history (now (s .file))) (s .level) (s .font) (now (s .params)) (start k .pre .1 .3) (bytes k) (c .rule2 .result) (c .rule2 .ensures) in
+    let comes = both .0 in
+    asks k (c .before .enum-told4 .given .1) (c .rule2 .result) (record { does = comes .does; safe = comes .safe; words = comes .words }) (plain-suits Kind.PutRule (c .rule2 .result .turn) refl (both .1))
+
+returns-5 : tie.Need-returns-5
+returns-5 c =
+    let k = c .before .before .before .before in
+    let s = start k .args in
+    let read = c .before .selected-font in
+    let number-is : toZ w64 (ofZ w64 (read .result)) ≡ selectedFont (s .opcode) (now (s .params)) = toZ-ofZ (sfits-of (read .ok)) ∙ read .ensures .0 in
+    let font-is = subst (λ (number : ℤ). FontIs (now (s .file)) (now (s .fonts)) number (c .font-of .result)) number-is (c .font-of .ensures) (history (now (s .file))) (start k .pre .0 .1) in
+    asks k (c .before .before .enum-told5 .given .1) (record { turn = Turn.Select (c .font-of .result); adds = Adds.Nothing; hint = s .hint })
+    (record { does = λ saved. ap (λ (font : Font). goes (record { level = s .level; saved = saved; font = font }) nothing) (font-is .0); safe = font-is .1; words = tt }) refl
+
+returns-6 : tie.Need-returns-6
+returns-6 c =
+    let k = c .before .before in
+    asks k (c .enum-told6 .given .1) (record { turn = Turn.Stay; adds = Adds.Special; hint = start k .args .hint }) (record { does = λ saved. refl; safe = tt; words = tt }) refl
+
+returns-7 : tie.Need-returns-7
+returns-7 c =
+    let k = c .before .before in
+    let s = start k .args in
+    let kind = k .kind-of .result in
+    let only = kind-others onlyTurns (λ j. true) (Kind.SetCharacter ∷ Kind.PutCharacter ∷ Kind.SetRule ∷ Kind.PutRule ∷ Kind.Select ∷ Kind.Special ∷ []) refl kind (c .before .match .keys7) in
+    let turn-is = c .turn-of .ensures in
+    asks k refl (record { turn = c .turn-of .result; adds = Adds.Nothing; hint = s .hint })
+    (record {
+      does = λ saved. ap (λ (turn : Turn). did (s .terms .ruler) (stateWith (s .level) saved (s .font)) turn Adds.Nothing) turn-is ∙ turn-does (setting k) (s .level) saved (s .font) (asking k) kind only;
+      safe = subst (Safe (s .level)) (sym turn-is) (turn-safe (now (s .params)) (bytes k) (s .level) (start k .pre .1 .3) kind (subst (λ (j : Kind). MoveFits j (now (s .params))) (sym (k .kind-of .ensures)) (move-fits (asking k) (start k .pre .0 .0))));
+      words = tt;
+    })
+    (subst (Suits kind) (sym turn-is) (turn-suits (s .level) (now (s .params)) kind))
+
+pub asked-by-spec : {M : Type 1} → statement M
+asked-by-spec =
+    tie.close
+    (tie.spec
+    kind-of-requires
+    enum-told
+    character-code-requires
+    character-requires
+    enum-told-2
+    character-code-requires-2
+    character-requires-2
+    enum-told-3
+    rule-requires
+    enum-told-4
+    rule-requires-2
+    enum-told-5
+    selected-font-requires
+    font-of-requires
+    enum-told-6
+    turn-of-requires
+    returns
+    returns-2
+    returns-3
+    returns-4
+    returns-5
+    returns-6
+    returns-7)

@@ -1,0 +1,177 @@
+-- `page::steps::character` meets its contract: the search answers as the walk, and a found record is lawful and small. Assumes nothing.
+use mathlib.Core.Path.{_≡_, sym, ap, ap₂, _∙_, subst}
+use mathlib.Core.Bool.{true}
+use Prim.Native.Nat.{ℕ, _≤_, _<_, _^_}
+use native.Mathlib.Omega.{arith}
+use borrow.Author.Needs.{needs, sfits-of}
+use borrow.Author.Tests.{not-true, not-false}
+use lib.IntN.{ℤ, natAbs, _+ℤ_}
+use lib.ListN.{getD}
+use denote.Ref.{now}
+use mir.Syntax.{w64}
+use mir.Val.{toZ, ofZ}
+use mir.Facts.{toZ-ofZ}
+use Rattle.numbers.specs.Signs.{toTwos}
+use Rattle.numbers.proofs.Signed.{to-below, read}
+use Rattle.widths.specs.Scaling.{scaledBy}
+use Rattle.widths.specs.LookUp.{found, codeByte, walk}
+use Rattle.widths.specs.Steps.{foundAt, Among}
+use Rattle.widths.proofs.TableLaws.{record-inside}
+use Rattle.state.specs.Moving.{leaves}
+use Rattle.page.proofs.Found.{Hit, walk-found, found-scale, found-first, found-width, found-escapement}
+use Rattle.page.proofs.CharacterLaws.{absent-asks, Present, put-asks, leave-asks, set-asks}
+use Rattle.page.proofs.steps.character.Statement.{statement}
+use Rattle.page.proofs.steps.character.Tie as tie
+
+to-twos-requires : tie.Need-to-twos-requires
+to-twos-requires c κs = rw (toZ-ofZ (c .before .fits .code)) (omega (arith, c .before .pre .1 .1))
+
+-- the code's byte
+byte-is : (c : tie.After-to-twos) → c .to-twos .result ≡ codeByte (c .before .before .args .code)
+byte-is c = c .to-twos .ensures ∙ ap (toTwos 256) (toZ-ofZ (c .before .before .fits .code))
+
+byte-below : (c : tie.After-to-twos) → c .to-twos .result < 256
+byte-below c = omega (arith, byte-is c, to-below 256 (c .before .before .args .code) (omega arith))
+
+guess-requires : tie.Need-guess-requires
+guess-requires c κs = byte-below c
+
+find-near-requires : tie.Need-find-near-requires
+find-near-requires c κs =
+    let s = c .before .before .before in
+    let known = s .pre .0 .1 in
+    (s .pre .0 .0, (known .checksum-small, omega (arith, known .scale-small), byte-below (c .before)))
+
+enum-told : tie.Need-enum-told
+enum-told c = search needs
+
+enum-known-index : tie.Need-enum-known-index
+enum-known-index c = search needs
+
+-- the search found what the walk finds for the code's byte
+looked-is : (c : tie.After-find-near) → let a = c .before .before .before .before .args in
+    foundAt (now (a .widths)) (c .find-near .result) ≡ walk (a .terms .records) (now (a .widths)) (a .font .checksum) (a .font .scale) (codeByte (a .code))
+looked-is c =
+    let a = c .before .before .before .before .args in
+    subst (λ (byte : ℕ). foundAt (now (a .widths)) (c .find-near .result) ≡ walk (a .terms .records) (now (a .widths)) (a .font .checksum) (a .font .scale) byte)
+    (byte-is (c .before .before))
+    (c .find-near .ensures .0)
+
+index-below : (c : tie.After-index) → c .index .given .0 .0 < c .before .before .before .before .before .before .args .terms .records
+index-below c = subst (Among (c .before .before .before .before .before .before .args .terms .records)) (c .index .given .1) (c .before .before .find-near .ensures .1)
+
+metric-of-requires : tie.Need-metric-of-requires
+metric-of-requires c κs = (c .before .before .before .before .before .before .before .pre .0 .0, index-below (c .before))
+
+-- where a character whose record was found began
+abbrev start : tie.After-metric-of → tie.Start
+start c = c .before .before .before .before .before .before .before .before
+
+add-hint : tie.Need-add-hint
+add-hint c =
+    let k = c .before .before .before .before in
+    let s = start (c .before .before) in
+    omega (arith, s .good .0, record-inside (now (s .args .widths)) (s .args .terms .records) (s .pre .0 .0) (k .index .given .0 .0) (index-below k))
+
+sub-hint : tie.Need-sub-hint
+sub-hint c = omega (arith, byte-below (c .before .before .before .before .before .before .before .before))
+
+-- the walk finds the metric that was read
+found-is : (c : tie.After-metric-of) → let a = start c .args in
+    walk (a .terms .records) (now (a .widths)) (a .font .checksum) (a .font .scale) (codeByte (a .code)) ≡ found (c .metric-of .result)
+found-is c =
+    let k = c .before .before in
+    sym (looked-is (k .before .before)) ∙ ap (foundAt (now (start c .args .widths))) (k .index .given .1) ∙ ap found (sym (c .metric-of .ensures))
+
+hit : (c : tie.After-metric-of) → let a = start c .args in
+    Hit (now (a .widths)) (a .terms .records) (a .font .checksum) (a .font .scale) (codeByte (a .code)) (c .metric-of .result)
+hit c =
+    let a = start c .args in
+    walk-found (now (a .widths)) (a .terms .records) (a .font .checksum) (a .font .scale) (codeByte (a .code)) (c .metric-of .result) (found-is c)
+
+bytes : (c : tie.After-metric-of) (i : ℕ) → getD (now (start c .args .widths)) i 0 < 256
+bytes c i = c .before .before .before .before .before .before .before .shared-slice-known .given i .fits
+
+present : (c : tie.After-metric-of) → let a = start c .args in
+    Present (a .terms) (now (a .widths)) (a .level) (a .font) (a .code) (c .metric-of .result)
+present c =
+    let s = start c in
+    record {
+      is = found-is c;
+      bounded = s .pre .1 .0;
+      code-small = s .pre .1 .1;
+      escapement-small = found-escapement (hit c) (bytes c);
+      width-small = found-width (hit c) (bytes c) (s .args .font .scale) (s .pre .0 .1 .scale-small);
+    }
+
+returns : tie.Need-returns
+returns c =
+    let m = c .before .before .before in
+    put-asks (present m) (not-true (start m .args .sets) (c .if1 .taken))
+
+scale-width-requires : tie.Need-scale-width-requires
+scale-width-requires c κs =
+    let m = c .before .before .before in
+    let judged = start m .pre .0 .0 in
+    (found-scale (hit m) judged, found-first (hit m) judged)
+
+width-is : (c : tie.After-scale-width) → let m = c .before .before .before .before in
+    toZ w64 (ofZ w64 (c .scale-width .result)) ≡ scaledBy (start m .args .font .scale) (m .metric-of .result .width)
+width-is c = toZ-ofZ (sfits-of (c .scale-width .ok)) ∙ c .scale-width .ensures
+
+h-is : (s : tie.Start) → toZ w64 (ofZ w64 (s .args .level .h)) ≡ s .args .level .h
+h-is s = read (s .args .level .h) (omega (arith, s .pre .1 .0 .h-in))
+
+leaves-range-requires : tie.Need-leaves-range-requires
+leaves-range-requires c κs =
+    let m = c .before .before .before .before .before in
+    let s = start m in (
+      subst (λ (z : ℤ). natAbs z ≤ 2 ^ 31) (sym (h-is s)) (omega (arith, s .pre .1 .0 .h-in)),
+      subst (λ (z : ℤ). natAbs z ≤ 2 ^ 31) (sym (width-is (c .before))) (present m .width-small),
+    )
+
+leaves-is : (c : tie.After-leaves-range) → let m = c .before .before .before .before .before .before in
+    c .leaves-range .result ≡ leaves (start m .args .level .h +ℤ scaledBy (start m .args .font .scale) (m .metric-of .result .width))
+leaves-is c =
+    c .leaves-range .ensures
+    ∙ ap₂ (λ (a b : ℤ). leaves (a +ℤ b)) (h-is (start (c .before .before .before .before .before .before))) (width-is (c .before .before))
+
+set : (c : tie.Else1) → start (c .before .before .before) .args .sets ≡ true
+set c = not-false (start (c .before .before .before) .args .sets) (c .if1 .left)
+
+returns-2 : tie.Need-returns-2
+returns-2 c =
+    leave-asks (present (c .before .before .before .before .before .before .before)) (set (c .before .before .before .before)) (sym (leaves-is (c .before)) ∙ c .if2 .taken)
+
+returns-3 : tie.Need-returns-3
+returns-3 c =
+    let f = c .before .before in
+    let s = f .before .before .before .before in
+    absent-asks (s .args .terms) (now (s .args .widths)) (s .args .level) (s .args .font) (s .args .sets) (s .args .code)
+    (sym (looked-is f) ∙ ap (foundAt (now (s .args .widths))) (c .enum-told .given .1))
+
+returns-4 : tie.Need-returns-4
+returns-4 c =
+    set-asks (present (c .before .before .before .before .before .before .before))
+    (width-is (c .before .before .before))
+    (set (c .before .before .before .before))
+    (sym (leaves-is (c .before)) ∙ c .if2 .left)
+
+pub character-spec : {M : Type 1} → statement M
+character-spec =
+    tie.close
+    (tie.spec
+    to-twos-requires
+    guess-requires
+    find-near-requires
+    enum-told
+    enum-known-index
+    metric-of-requires
+    add-hint
+    sub-hint
+    returns
+    scale-width-requires
+    leaves-range-requires
+    returns-2
+    returns-3
+    returns-4)

@@ -1,0 +1,380 @@
+-- `page::walking::walk` meets its contract: each turn keeps what is still to come, and the page's end leaves nothing. Assumes nothing.
+use mathlib.Core.Path.{_≡_, refl, sym, ap, ap₂, _∙_, subst}
+use mathlib.Core.Bool.{false}
+use mathlib.Core.List.{List}
+use Prim.Native.Nat.{ℕ, _-_, _<_, _≤_, _^_}
+use native.Mathlib.Omega.{arith}
+use borrow.Author.Needs.{needs}
+use lib.ListN.{length, getD, set, length-set}
+use lib.IntN.{ℤ, natAbs, _+ℤ_}
+use denote.Ref.{now}
+use mir.Syntax.{w64}
+use mir.Val.{toZ, ofZ}
+use Rattle.volume.specs.Names.{history}
+use Rattle.state.specs.declared.Level.{Level}
+use Rattle.state.specs.declared.Font.{Font}
+use Rattle.state.specs.declared.Page.{Page}
+use Rattle.state.specs.declared.moving.Direction.the-variants as Direction
+use Rattle.state.specs.Moving.{leaves}
+use Rattle.state.specs.Registers.{State, zeroLevel, pushed, popped, movedBy, characterMoved, ruleMoved}
+use Rattle.state.specs.Steps.{stateOf, savedOf, withLevel, Ruled, Bounded}
+use Rattle.state.proofs.Levels.{bounded-moved, bounded-rule, bounded-character, stored}
+use Rattle.page.specs.declared.Counts.{Counts}
+use Rattle.page.specs.declared.Turn.{Turn}
+use Rattle.page.specs.declared.Turn.the-variants as Turn
+use Rattle.page.specs.declared.Step.{Step}
+use Rattle.page.specs.Placing.{goes, at as place}
+use Rattle.page.specs.Steps.{addedOf, did, settingBy, StepAsks, Safe}
+use Rattle.page.proofs.PageRuns.{runs-inside}
+use Rattle.page.proofs.WalkLaws.{Sound, state-sound, popped-bounded, popped-known, turnedDepth, GoesOn, Walking, starting, advances, few, in-ranges, onwards, leveled, push-room, pop-room, ended, left}
+use Rattle.page.proofs.Words.{word, small-word}
+use Rattle.page.proofs.walking.walk.Statement.{statement}
+use Rattle.page.proofs.walking.walk.Tie as tie
+
+abbrev Inv-loop : tie.InvT-loop
+Inv-loop file widths fonts terms start out₀ ruler page₀ counts₀ at₀ hint₀ out page counts at hint = Walking file fonts widths terms start out₀ out page counts at
+
+abbrev μ-loop : tie.MeasureT-loop
+μ-loop file widths fonts terms start out₀ ruler page₀ counts₀ at₀ hint₀ out page counts at hint = length file - at
+
+fresh-requires : tie.Need-fresh-requires Inv-loop μ-loop
+fresh-requires c κs = tt
+
+loop-holds : tie.Need-loop-holds Inv-loop μ-loop
+loop-holds c =
+    let s = c .before .before .before .before .before in
+    starting (s .pre) (now (s .args .out)) (c .fresh .result) (c .fresh .ensures .0) (c .fresh .ensures .1) (c .fresh .ensures .2)
+
+step-at-requires : tie.Need-step-at-requires Inv-loop μ-loop
+step-at-requires c κs =
+    let w = c .before .before .loop .inv in
+    (w .ready .told, (w .ready .right, w .ready .unit, w .sound .known, w .sound .bounded))
+
+-- what holds as a command has been read
+module _ (c : tie.After-step-at Inv-loop μ-loop) where
+  abbrev entry : tie.Start Inv-loop μ-loop
+  entry = c .before .before .before .before .before .before .before .before .before
+
+  abbrev head : tie.At-loop Inv-loop μ-loop
+  head = c .before .before .before
+
+  abbrev step : Step
+  step = c .step-at .result
+
+  abbrev here : Walking (now (entry .args .file)) (now (entry .args .fonts)) (now (entry .args .widths)) (entry .args .terms) (entry .args .start) (now (entry .args .out)) (head .loop .out) (head .loop .page) (head .loop .counts) (head .loop .at)
+  here = head .loop .inv
+
+  asks : StepAsks (now (entry .args .file)) (head .loop .at) (settingBy (entry .args .terms) (now (entry .args .widths)) (history (now (entry .args .file)))) (head .loop .page .now) (head .loop .page .font) step
+  asks = c .step-at .ensures
+
+  ruled : Ruled (entry .args .terms .ruler) (head .loop .page .font .scale)
+  ruled = record { unit = here .ready .unit; drift-small = here .ready .drift-small; scale-small = here .sound .known .scale-small }
+
+  safe : (turn : Turn) → step .asked .turn ≡ turn → Safe (head .loop .page .now) turn
+  safe turn turn-is = subst (Safe (head .loop .page .now)) turn-is (in-ranges here step asks .1)
+
+  less : length (now (entry .args .file)) - step .next < length (now (entry .args .file)) - head .loop .at
+  less = omega (arith, advances here step asks)
+
+  -- counts are small: there is at most one for each byte
+  small : (count : ℕ) → count ≤ head .loop .at → count ≤ 16777216
+  small count at-most = omega (arith, at-most, runs-inside (here .runs), here .ready .short)
+
+note-requires : tie.Need-note-requires Inv-loop μ-loop
+note-requires c κs =
+    let s = c .before .before in
+    let w = here s in
+    (small s (head s .loop .counts .records) (w .few-records), small s (head s .loop .counts .missing) (w .few-missing), small s (head s .loop .counts .specials) (w .few-specials), in-ranges w (step s) (asks s) .0)
+
+-- what holds as what the command adds has been noted
+module _ (n : tie.After-note Inv-loop μ-loop) where
+  abbrev read : tie.After-step-at Inv-loop μ-loop
+  read = n .before .before .before
+
+  -- the next turn starts from this page
+  abbrev Next : Page → Type 0
+  Next page = Walking (now (entry read .args .file)) (now (entry read .args .fonts)) (now (entry read .args .widths)) (entry read .args .terms) (entry read .args .start) (now (entry read .args .out)) (n .note .last .0) page (n .note .result) (step read .next)
+
+  abbrev before : Page
+  before = head read .loop .page
+
+  -- to another level only
+  to-level : (turn : Turn) → step read .asked .turn ≡ turn → GoesOn turn → (l : Level)
+      → did (entry read .args .terms .ruler) (stateOf before) turn (step read .asked .adds) ≡ goes (place (stateOf before) l) (addedOf (step read .asked .adds))
+      → turnedDepth turn (before .depth) ≡ before .depth → (page : Page) → page ≡ withLevel before l → Bounded l → Next page
+  to-level turn turn-is on l led flat page page-is bounded =
+      leveled (here read) (step read) (asks read) turn turn-is on l led flat page page-is bounded (n .note .last .0) (n .note .ensures .1) (n .note .result) (n .note .ensures .0)
+
+  -- to another state
+  to-state : (turn : Turn) → step read .asked .turn ≡ turn → GoesOn turn → (s : State)
+      → did (entry read .args .terms .ruler) (stateOf before) turn (step read .asked .adds) ≡ goes s (addedOf (step read .asked .adds))
+      → (page : Page) → stateOf page ≡ s → page .depth ≡ turnedDepth turn (before .depth) → Sound page → Next page
+  to-state turn turn-is on s led page state-is depth-is sound =
+      onwards (here read) (step read) (asks read) turn turn-is on s led page state-is depth-is sound (n .note .last .0) (n .note .ensures .1) (n .note .result) (n .note .ensures .0)
+
+  -- a distance that is handed on
+  handed : (position z : ℤ) → natAbs z ≤ 2 ^ 31 → leaves (position +ℤ z) ≡ false → leaves (position +ℤ toZ w64 (ofZ w64 z)) ≡ false
+  handed position z small-z stays = subst (λ (y : ℤ). leaves (position +ℤ y) ≡ false) (sym (word z small-z)) stays
+
+enum-told : tie.Need-enum-told Inv-loop μ-loop
+enum-told c = search needs
+
+loop-less : tie.Need-loop-less Inv-loop μ-loop
+loop-less c = less (read (c .before .before .before .before))
+
+loop-again : tie.Need-loop-again Inv-loop μ-loop
+loop-again c =
+    let n = c .before .before .before .before in
+    to-state n Turn.Stay (c .enum-told .given .1) tt (stateOf (before n)) refl (before n) refl refl (here (read n) .sound)
+
+enum-known-turn : tie.Need-enum-known-turn Inv-loop μ-loop
+enum-known-turn c = search needs
+
+sideways-requires : tie.Need-sideways-requires Inv-loop μ-loop
+sideways-requires c κs =
+    let n = c .before .before .before .before .before in
+    let v = c .before .turn .given in
+    let ok = safe (read n) (Turn.Sideways (v .0 .0) (v .0 .1 .0)) (v .1) in
+    ((ruled (read n), ok .0), (small-word (v .0 .1 .0) (ok .1), handed n (v .0 .0 .h) (v .0 .1 .0) (ok .1) (ok .2)))
+
+loop-less-2 : tie.Need-loop-less-2 Inv-loop μ-loop
+loop-less-2 c = less (read (c .before .before .before .before .before .before))
+
+loop-again-2 : tie.Need-loop-again-2 Inv-loop μ-loop
+loop-again-2 c =
+    let n = c .before .before .before .before .before .before in
+    let v = c .before .before .turn .given in
+    let ok = safe (read n) (Turn.Sideways (v .0 .0) (v .0 .1 .0)) (v .1) in
+    let ruler = entry (read n) .args .terms .ruler in
+    let scale = before n .font .scale in
+    to-level n (Turn.Sideways (v .0 .0) (v .0 .1 .0)) (v .1) tt (movedBy Direction.Sideways ruler scale (v .0 .1 .0) (v .0 .0)) refl refl (c .sideways .result)
+    (c .sideways .ensures ∙ ap (λ (z : ℤ). withLevel (before n) (movedBy Direction.Sideways ruler scale z (v .0 .0))) (word (v .0 .1 .0) (ok .1)))
+    (bounded-moved Direction.Sideways ruler scale (v .0 .1 .0) (v .0 .0) (ruled (read n)) (ok .0) (ok .2))
+
+enum-known-turn-2 : tie.Need-enum-known-turn-2 Inv-loop μ-loop
+enum-known-turn-2 c = search needs
+
+down-requires : tie.Need-down-requires Inv-loop μ-loop
+down-requires c κs =
+    let n = c .before .before .before .before .before in
+    let v = c .before .turn2 .given in
+    let ok = safe (read n) (Turn.Down (v .0 .0) (v .0 .1 .0)) (v .1) in
+    ((ruled (read n), ok .0), (small-word (v .0 .1 .0) (ok .1), handed n (v .0 .0 .v) (v .0 .1 .0) (ok .1) (ok .2)))
+
+loop-less-3 : tie.Need-loop-less-3 Inv-loop μ-loop
+loop-less-3 c = less (read (c .before .before .before .before .before .before))
+
+loop-again-3 : tie.Need-loop-again-3 Inv-loop μ-loop
+loop-again-3 c =
+    let n = c .before .before .before .before .before .before in
+    let v = c .before .before .turn2 .given in
+    let ok = safe (read n) (Turn.Down (v .0 .0) (v .0 .1 .0)) (v .1) in
+    let ruler = entry (read n) .args .terms .ruler in
+    let scale = before n .font .scale in
+    to-level n (Turn.Down (v .0 .0) (v .0 .1 .0)) (v .1) tt (movedBy Direction.Down ruler scale (v .0 .1 .0) (v .0 .0)) refl refl (c .down .result)
+    (c .down .ensures ∙ ap (λ (z : ℤ). withLevel (before n) (movedBy Direction.Down ruler scale z (v .0 .0))) (word (v .0 .1 .0) (ok .1)))
+    (bounded-moved Direction.Down ruler scale (v .0 .1 .0) (v .0 .0) (ruled (read n)) (ok .0) (ok .2))
+
+enum-known-turn-3 : tie.Need-enum-known-turn-3 Inv-loop μ-loop
+enum-known-turn-3 c = search needs
+
+past-character-requires : tie.Need-past-character-requires Inv-loop μ-loop
+past-character-requires c κs =
+    let n = c .before .before .before .before .before in
+    let v = c .before .turn3 .given in
+    let ok = safe (read n) (Turn.PastCharacter (v .0 .0) (v .0 .1 .0)) (v .1) in
+    ((ruled (read n), here (read n) .sound .bounded), (small-word (v .0 .0) (ok .0), small-word (v .0 .1 .0) (ok .1), handed n (before n .now .h) (v .0 .0) (ok .0) (ok .2)))
+
+loop-less-4 : tie.Need-loop-less-4 Inv-loop μ-loop
+loop-less-4 c = less (read (c .before .before .before .before .before .before))
+
+loop-again-4 : tie.Need-loop-again-4 Inv-loop μ-loop
+loop-again-4 c =
+    let n = c .before .before .before .before .before .before in
+    let v = c .before .before .turn3 .given in
+    let ok = safe (read n) (Turn.PastCharacter (v .0 .0) (v .0 .1 .0)) (v .1) in
+    let ruler = entry (read n) .args .terms .ruler in
+    let sound = here (read n) .sound in
+    to-level n (Turn.PastCharacter (v .0 .0) (v .0 .1 .0)) (v .1) tt (characterMoved ruler (v .0 .0) (v .0 .1 .0) (before n .now)) refl refl (c .past-character .result)
+    (c .past-character .ensures ∙ ap₂ (λ (width escapement : ℤ). withLevel (before n) (characterMoved ruler width escapement (before n .now))) (word (v .0 .0) (ok .0)) (word (v .0 .1 .0) (ok .1)))
+    (bounded-character ruler (before n .font .scale) (v .0 .0) (v .0 .1 .0) (before n .now) (ruled (read n)) (sound .bounded) (ok .2))
+
+enum-known-turn-4 : tie.Need-enum-known-turn-4 Inv-loop μ-loop
+enum-known-turn-4 c = search needs
+
+past-rule-requires : tie.Need-past-rule-requires Inv-loop μ-loop
+past-rule-requires c κs =
+    let n = c .before .before .before .before .before in
+    let v = c .before .turn4 .given in
+    let ok = safe (read n) (Turn.PastRule (v .0 .0)) (v .1) in
+    ((ruled (read n), here (read n) .sound .bounded), (small-word (v .0 .0) (ok .0), handed n (before n .now .h) (v .0 .0) (ok .0) (ok .1)))
+
+loop-less-5 : tie.Need-loop-less-5 Inv-loop μ-loop
+loop-less-5 c = less (read (c .before .before .before .before .before .before))
+
+loop-again-5 : tie.Need-loop-again-5 Inv-loop μ-loop
+loop-again-5 c =
+    let n = c .before .before .before .before .before .before in
+    let v = c .before .before .turn4 .given in
+    let ok = safe (read n) (Turn.PastRule (v .0 .0)) (v .1) in
+    let ruler = entry (read n) .args .terms .ruler in
+    let scale = before n .font .scale in
+    to-level n (Turn.PastRule (v .0 .0)) (v .1) tt (ruleMoved ruler scale (v .0 .0) (before n .now)) refl refl (c .past-rule .result)
+    (c .past-rule .ensures ∙ ap (λ (width : ℤ). withLevel (before n) (ruleMoved ruler scale width (before n .now))) (word (v .0 .0) (ok .0)))
+    (bounded-rule ruler scale (v .0 .0) (before n .now) (ruled (read n)) (here (read n) .sound .bounded) (ok .1))
+
+enum-told-2 : tie.Need-enum-told-2 Inv-loop μ-loop
+enum-told-2 c = search needs
+
+-- a push finds room
+room : (n : tie.After-note Inv-loop μ-loop) → step (read n) .asked .turn ≡ Turn.Push → before n .depth < 100
+room n turn-is = push-room (here (read n)) (step (read n)) (asks (read n)) turn-is
+
+-- the level that was stored changes nothing of the state
+kept : (n : tie.After-note Inv-loop μ-loop) → step (read n) .asked .turn ≡ Turn.Push
+    → (stateOf (record { now = before n .now; depth = before n .depth; font = before n .font; stack = set (before n .stack) (before n .depth) (before n .now) }) ≡ stateOf (before n))
+    × (getD (set (before n .stack) (before n .depth) (before n .now)) (before n .depth) zeroLevel ≡ before n .now)
+kept n turn-is = stored (before n) (omega (arith, room n turn-is, here (read n) .sound .full))
+
+mul-level : tie.Need-mul-level Inv-loop μ-loop
+mul-level c = let n = c .before .before .before .before in omega (arith, room n (c .enum-told2 .given .1))
+
+element-set-from-level : tie.Need-element-set-from-level Inv-loop μ-loop
+element-set-from-level c = let n = c .before .before .before .before in room n (c .enum-told2 .given .1)
+
+push-requires : tie.Need-push-requires Inv-loop μ-loop
+push-requires c κs = let n = c .before .before .before .before in (room n (c .enum-told2 .given .1), kept n (c .enum-told2 .given .1) .1)
+
+loop-less-6 : tie.Need-loop-less-6 Inv-loop μ-loop
+loop-less-6 c = less (read (c .before .before .before .before .before))
+
+loop-again-6 : tie.Need-loop-again-6 Inv-loop μ-loop
+loop-again-6 c =
+    let n = c .before .before .before .before .before in
+    let turn-is = c .before .enum-told2 .given .1 in
+    let sound = here (read n) .sound in
+    let state-is = c .push .ensures .0 ∙ ap pushed (kept n turn-is .0) in
+    to-state n Turn.Push turn-is tt (pushed (stateOf (before n))) refl (c .push .result) state-is (c .push .ensures .1)
+    (state-sound (c .push .result) (pushed (stateOf (before n))) state-is (sound .bounded) (sound .bounded, sound .kept) (sound .known)
+    (omega (arith, c .push .ensures .1, room n turn-is))
+    (ap length (c .push .ensures .2) ∙ length-set (before n .stack) (before n .depth) (before n .now) ∙ sound .full))
+
+enum-told-3 : tie.Need-enum-told-3 Inv-loop μ-loop
+enum-told-3 c = search needs
+
+-- a pop finds a level
+below : (n : tie.After-note Inv-loop μ-loop) → step (read n) .asked .turn ≡ Turn.Pop → 0 < before n .depth
+below n turn-is = pop-room (here (read n)) (step (read n)) (asks (read n)) turn-is
+
+sub-last : tie.Need-sub-last Inv-loop μ-loop
+sub-last c = let n = c .before .before .before .before in below n (c .enum-told3 .given .1)
+
+mul-last : tie.Need-mul-last Inv-loop μ-loop
+mul-last c = let n = c .before .before .before .before in omega (arith, here (read n) .sound .shallow)
+
+element-copy-out-last : tie.Need-element-copy-out-last Inv-loop μ-loop
+element-copy-out-last c = let n = c .before .before .before .before in omega (arith, below n (c .enum-told3 .given .1), here (read n) .sound .shallow)
+
+pop-requires : tie.Need-pop-requires Inv-loop μ-loop
+pop-requires c κs = let n = c .before .before .before .before .before in (below n (c .before .enum-told3 .given .1), refl)
+
+loop-less-7 : tie.Need-loop-less-7 Inv-loop μ-loop
+loop-less-7 c = less (read (c .before .before .before .before .before .before))
+
+loop-again-7 : tie.Need-loop-again-7 Inv-loop μ-loop
+loop-again-7 c =
+    let n = c .before .before .before .before .before .before in
+    let turn-is = c .before .before .enum-told3 .given .1 in
+    let sound = here (read n) .sound in
+    let s = stateOf (before n) in
+    let back = popped-bounded s (s .saved) (sound .kept) (sound .bounded) (sound .kept) in
+    to-state n Turn.Pop turn-is tt (popped s) refl (c .pop .result) (c .pop .ensures .0) (c .pop .ensures .1)
+    (state-sound (c .pop .result) (popped s) (c .pop .ensures .0) (back .0) (back .1) (popped-known s (s .saved) (sound .known))
+    (omega (arith, c .pop .ensures .1, sound .shallow)) (ap length (c .pop .ensures .2) ∙ sound .full))
+
+enum-known-turn-5 : tie.Need-enum-known-turn-5 Inv-loop μ-loop
+enum-known-turn-5 c = search needs
+
+loop-less-8 : tie.Need-loop-less-8 Inv-loop μ-loop
+loop-less-8 c = less (read (c .before .before .before .before .before))
+
+loop-again-8 : tie.Need-loop-again-8 Inv-loop μ-loop
+loop-again-8 c =
+    let n = c .before .before .before .before .before in
+    let v = c .before .turn5 .given in
+    let sound = here (read n) .sound in
+    to-state n (Turn.Select (v .0 .0)) (v .1) tt (record { level = before n .now; saved = savedOf (before n .depth) (before n .stack); font = v .0 .0 }) refl
+    (record { now = before n .now; depth = before n .depth; font = v .0 .0; stack = before n .stack }) refl refl
+    (record { bounded = sound .bounded; kept = sound .kept; known = safe (read n) (Turn.Select (v .0 .0)) (v .1); shallow = sound .shallow; full = sound .full })
+
+enum-told-4 : tie.Need-enum-told-4 Inv-loop μ-loop
+enum-told-4 c = search needs
+
+same-length : tie.Need-same-length Inv-loop μ-loop
+same-length c = let n = c .before .before .before .before in n .note .kept .0 ∙ here (read n) .long
+
+returns : tie.Need-returns Inv-loop μ-loop
+returns c =
+    let n = c .before .before .before .before in
+    (ended (here (read n)) (step (read n)) (asks (read n)) (c .enum-told4 .given .1) (n .note .last .0) (n .note .ensures .1) (n .note .result) (n .note .ensures .0), few (here (read n)) (step (read n)) (asks (read n)) (n .note .result) (n .note .ensures .0))
+
+enum-told-5 : tie.Need-enum-told-5 Inv-loop μ-loop
+enum-told-5 c = search needs
+
+same-length-2 : tie.Need-same-length-2 Inv-loop μ-loop
+same-length-2 c = let n = c .before .before .before .before in n .note .kept .0 ∙ here (read n) .long
+
+returns-2 : tie.Need-returns-2 Inv-loop μ-loop
+returns-2 c = let n = c .before .before .before .before in (left (here (read n)) (step (read n)) (asks (read n)) (c .enum-told5 .given .1), tt)
+
+pub walk-spec : {M : Type 1} → statement M
+walk-spec =
+    tie.close
+    (tie.spec
+    Inv-loop
+    μ-loop
+    fresh-requires
+    loop-holds
+    step-at-requires
+    note-requires
+    enum-told
+    loop-less
+    loop-again
+    enum-known-turn
+    sideways-requires
+    loop-less-2
+    loop-again-2
+    enum-known-turn-2
+    down-requires
+    loop-less-3
+    loop-again-3
+    enum-known-turn-3
+    past-character-requires
+    loop-less-4
+    loop-again-4
+    enum-known-turn-4
+    past-rule-requires
+    loop-less-5
+    loop-again-5
+    enum-told-2
+    mul-level
+    element-set-from-level
+    push-requires
+    loop-less-6
+    loop-again-6
+    enum-told-3
+    sub-last
+    mul-last
+    element-copy-out-last
+    pop-requires
+    loop-less-7
+    loop-again-7
+    enum-known-turn-5
+    loop-less-8
+    loop-again-8
+    enum-told-4
+    same-length
+    returns
+    enum-told-5
+    same-length-2
+    returns-2)

@@ -1,0 +1,56 @@
+-- "Placing judges 1 to 11 first, then 12 to 17 in order": the answer, and every byte of the output area. Assumes nothing.
+use Prim.Native.Nat.{ℕ, _*_}
+use mathlib.Core.Bool.{Bool, not, _&&_}
+use mathlib.Core.List.{List, _++_}
+use lib.Dec.{ltb, leb}
+use lib.ListN.{length, drop}
+use Rattle.refusals.specs.Numbers.{noSuchPage, areaTooShort}
+use Rattle.refusals.specs.Answer.{Answer, refused, given, refuseIf, andThen}
+use Rattle.units.specs.declared.Ratio.{Ratio}
+use Rattle.units.specs.Unit.{unitOf, drift}
+use Rattle.widths.specs.Table.{checkedTable}
+use Rattle.volume.specs.Past.{num, den, mag}
+use Rattle.volume.specs.Judged.{judged}
+use Rattle.volume.specs.Names.{history}
+use Rattle.state.specs.Registers.{freshState}
+use Rattle.page.specs.declared.Counts.{Counts}
+use Rattle.page.specs.Records.{recordSize, allBytes}
+use Rattle.page.specs.PageList.{pageOf}
+use Rattle.page.specs.Placing.{Setting, Placed, placing}
+
+-- 15: "page number outside 1 to the page count"
+abbrev pub pageOutside : ℕ → ℕ → Bool
+pageOutside page pages = not (leb 1 page && leb page pages)
+
+-- what the pages of a file are placed by, at a resolution
+abbrev pub settingOf : List ℕ → List ℕ → Ratio → ℕ → ℕ → ℕ → Setting
+settingOf file table k resolution records page =
+    record { ruler = record { k = k; drift = drift resolution }; table = table; records = records; volume = history file; page = page }
+
+-- 17: "output area shorter than the bytes to be written (in placing, 20 times the records)"; the whole page is walked for 16 before it is judged
+abbrev pub withRoom : ℕ → Placed → Answer Placed
+withRoom room p = refuseIf (ltb room (recordSize * length (p .records))) areaTooShort 0 (given p)
+
+-- "then 12 to 17 in order": one page of an accepted file of so many pages, by a width table, at a resolution, into an area of so many bytes
+abbrev pub placedAccepted : List ℕ → List ℕ → ℕ → ℕ → ℕ → ℕ → Answer Placed
+placedAccepted file table resolution page room pages =
+    andThen (unitOf (num (history file)) (den (history file)) (mag (history file)) resolution) (λ k.
+    andThen (checkedTable table) (λ records.
+    refuseIf (pageOutside page pages) noSuchPage 0
+    (andThen (placing (settingOf file table k resolution records page) freshState (pageOf page (history file))) (withRoom room))))
+
+-- "Placing judges 1 to 11 first"
+abbrev pub placedPage : List ℕ → List ℕ → ℕ → ℕ → ℕ → Answer Placed
+placedPage file table resolution page room = andThen (judged file) (λ found. placedAccepted file table resolution page room (found .pages))
+
+-- "Placing gives the number of records written, of missing characters and of specials on that page"
+abbrev pub countsOf : Placed → Counts
+countsOf p = record { records = length (p .records); missing = p .missing-characters; specials = p .specials }
+
+abbrev pub placedCounts : Answer Placed → Answer Counts
+placedCounts answer = andThen answer (λ p. given (countsOf p))
+
+-- the area: the records' bytes, then its old bytes; "A refusal leaves every byte of the output area unchanged"
+abbrev pub areaAfter : List ℕ → Answer Placed → List ℕ
+areaAfter entry (refused number place) = entry
+areaAfter entry (given p) = allBytes (p .records) ++ drop (recordSize * length (p .records)) entry

@@ -1,0 +1,94 @@
+-- The commands of a page that make records, are missing characters or specials: what the counts are tied to. Assumes nothing.
+use Prim.Native.Nat.{ℕ, zero, suc}
+use mathlib.Core.Bool.{Bool, true, false, cond, not, _&&_, _||_}
+use mathlib.Core.List.{List, [], _∷_}
+use lib.IntN.{ℤ, pos}
+use Rattle.units.specs.Rounding.{roundedUp}
+use Rattle.widths.specs.LookUp.{LookUp, found, absent}
+use Rattle.commands.specs.declared.Kind.the-variants.{SetCharacter, SetRule, PutCharacter, PutRule, Select, Special}
+use Rattle.commands.specs.Commands.{Command}
+use Rattle.commands.specs.Parameters.{characterCode, ruleHeight, ruleWidth, selectedFont}
+use Rattle.volume.specs.Past.{isA}
+use Rattle.state.specs.declared.Font.{Font}
+use Rattle.page.specs.declared.Record.{Record}
+use Rattle.page.specs.PageList.{Located}
+use Rattle.page.specs.Placing.{Setting, fontOf, lookedFor, isVisible}
+
+-- a command and the font that is current at it
+pub record Seen : Type 0 where
+  pub font : Font
+  pub command : Command
+
+-- each command of a page with its font, from a font on: a selection holds until the next one
+abbrev pub withFonts : Setting → Font → List Located → List Seen
+withFonts setting font [] = []
+withFonts setting font (c ∷ rest) =
+    record { font = font; command = c .command }
+    ∷ withFonts setting (cond (isA Select (c .command)) (fontOf setting (selectedFont (c .command .opcode) (c .command .params))) font) rest
+
+-- ---- which commands count
+
+abbrev pub isCharacter : Command → Bool
+isCharacter c = isA SetCharacter c || isA PutCharacter c
+
+abbrev pub isRule : Command → Bool
+isRule c = isA SetRule c || isA PutRule c
+
+abbrev pub codeOf : Command → ℤ
+codeOf c = characterCode (c .opcode) (c .params)
+
+abbrev pub isFound : LookUp → Bool
+isFound (found m) = true
+isFound absent = false
+
+-- a character that the table has, and one that it has not
+abbrev pub characterFound : Setting → Seen → Bool
+characterFound setting c = isCharacter (c .command) && isFound (lookedFor setting (c .font) (codeOf (c .command)))
+
+abbrev pub characterMissing : Setting → Seen → Bool
+characterMissing setting c = isCharacter (c .command) && not (isFound (lookedFor setting (c .font) (codeOf (c .command))))
+
+-- a rule of which neither side is ≤ 0
+abbrev pub ruleVisible : Seen → Bool
+ruleVisible c = isRule (c .command) && isVisible (ruleHeight (c .command .params)) (ruleWidth (c .command .params))
+
+abbrev pub isSpecial : Seen → Bool
+isSpecial c = isA Special (c .command)
+
+-- those that make a record
+abbrev pub makesRecord : Setting → Seen → Bool
+makesRecord setting c = ruleVisible c || characterFound setting c
+
+-- ---- counting and choosing
+
+abbrev pub countOf : (Seen → Bool) → List Seen → ℕ
+countOf counts [] = zero
+countOf counts (c ∷ rest) = cond (counts c) (suc (countOf counts rest)) (countOf counts rest)
+
+abbrev pub those : (Seen → Bool) → List Seen → List Seen
+those chosen [] = []
+those chosen (c ∷ rest) = cond (chosen c) (c ∷ those chosen rest) (those chosen rest)
+
+-- ---- what a record says beside its place
+
+pub record Said : Type 0 where
+  pub kind : ℕ
+  pub font : ℕ
+  pub page : ℕ
+  pub content : ℤ
+  pub extent : ℤ
+
+abbrev pub saidBy : Record → Said
+saidBy r = record { kind = r .kind; font = r .font; page = r .page; content = r .content; extent = r .extent }
+
+-- the escapement that a look-up found; a character that is absent makes no record
+abbrev pub escapementOf : LookUp → ℤ
+escapementOf (found m) = m .escapement
+escapementOf absent = pos 0
+
+-- what the record of a command says: a rule's sides in pixels, a character's font, full code and escapement
+abbrev pub saidOf : Setting → Seen → Said
+saidOf setting c =
+    cond (isRule (c .command))
+    (record { kind = 2; font = 0; page = setting .page; content = roundedUp (setting .ruler .k) (ruleHeight (c .command .params)); extent = roundedUp (setting .ruler .k) (ruleWidth (c .command .params)) })
+    (record { kind = 1; font = c .font .number; page = setting .page; content = codeOf (c .command); extent = escapementOf (lookedFor setting (c .font) (codeOf (c .command))) })

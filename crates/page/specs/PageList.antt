@@ -1,0 +1,33 @@
+-- A page's own list of commands, from the list of the whole volume. Assumes nothing.
+use Prim.Native.Nat.{ℕ}
+use mathlib.Core.Bool.{Bool, true, false, cond, not, _&&_}
+use mathlib.Core.List.{List, [], _∷_, _++_}
+use lib.Dec.{eqb}
+use Rattle.commands.specs.declared.Kind.the-variants.{Eop}
+use Rattle.commands.specs.Commands.{Command}
+use Rattle.volume.specs.declared.Stage.{Stage}
+use Rattle.volume.specs.declared.Stage.the-variants.{AtStart, BeforePages, OnPage, BetweenPages, AfterPost, AfterEnd}
+use Rattle.volume.specs.Past.{isA, place, stage, pages}
+
+-- a command with the place of its opcode
+pub record Located : Type 0 where
+  pub at : ℕ
+  pub command : Command
+
+-- between a bop and its eop
+abbrev pub isOnPage : Stage → Bool
+isOnPage AtStart = false
+isOnPage BeforePages = false
+isOnPage OnPage = true
+isOnPage BetweenPages = false
+isOnPage AfterPost = false
+isOnPage AfterEnd = false
+
+-- whether a command is one of a page's own: "A page: bop, any of …, then eop"
+abbrev pub isOn : ℕ → List Command → Command → Bool
+isOn page past c = isOnPage (stage past) && (eqb (pages past) page && not (isA Eop c))
+
+-- the commands of a page, counted from 1, in their order: those between its bop and its eop
+abbrev pub pageOf : ℕ → List Command → List Located
+pageOf page [] = []
+pageOf page (c ∷ past) = cond (isOn page past c) (pageOf page past ++ (record { at = place past; command = c } ∷ [])) (pageOf page past)

@@ -1,0 +1,182 @@
+-- What each command of a page does to its state and adds to its records, and what the page's list of commands comes to. Assumes nothing.
+use Prim.Native.Nat.{ℕ, _+_}
+use mathlib.Core.Bool.{Bool, false, cond, _&&_}
+use mathlib.Core.List.{List, [], _∷_}
+use lib.Dec.{eqb}
+use lib.ListN.{length}
+use lib.IntN.{ℤ, pos, natAbs, _+ℤ_}
+use lib.Signed.{ltZ}
+use Rattle.refusals.specs.Numbers.{positionOutOfRange}
+use Rattle.refusals.specs.Answer.{Answer, refused, given, andThen}
+use Rattle.units.specs.Rounding.{roundedUp}
+use Rattle.widths.specs.Scaling.{scaledBy}
+use Rattle.widths.specs.LookUp.{LookUp, found, absent, codeByte, walk}
+use Rattle.commands.specs.declared.Kind.{Kind}
+use Rattle.commands.specs.declared.Kind.the-variants.{SetCharacter, SetRule, PutCharacter, PutRule, Nop, Bop, Eop, Push, Pop, Right, W, X, Down, Y, Z, Select, Special, Define, Pre, Post, PostPost, Undefined}
+use Rattle.commands.specs.Commands.{Command, kindOfCommand}
+use Rattle.commands.specs.Parameters.{characterCode, distance, ruleHeight, ruleWidth, selectedFont, fontChecksum, fontScale}
+use Rattle.volume.specs.Past.{body, Definition, none, stands, definitionOf}
+use Rattle.state.specs.declared.Level.{Level}
+use Rattle.state.specs.declared.Font.{Font}
+use Rattle.state.specs.declared.moving.Direction.{Direction}
+use Rattle.state.specs.declared.moving.Direction.the-variants as Direction
+use Rattle.state.specs.declared.moving.Ruler.{Ruler}
+use Rattle.state.specs.Moving.{leaves}
+use Rattle.state.specs.Registers.{State, unselected, pushed, popped, spotOf, movedBy, characterMoved, ruleMoved}
+use Rattle.page.specs.declared.Record.{Record}
+use Rattle.page.specs.Records.{characterRecord, ruleRecord}
+use Rattle.page.specs.PageList.{Located}
+
+-- what a page is placed by: K and D, the width table and how many records it has, the volume's commands, and the page's number
+pub record Setting : Type 0 where
+  pub ruler : Ruler
+  pub table : List ℕ
+  pub records : ℕ
+  pub volume : List Command
+  pub page : ℕ
+
+-- ---- fonts
+
+-- a font by its definition; "selection of a font not yet defined" is refused by 8
+abbrev pub fontBy : ℤ → Definition → Font
+fontBy number none = unselected
+fontBy number (stands at c) = record { number = natAbs number; checksum = fontChecksum (body c); scale = fontScale (body c) }
+
+-- a font of the volume: its definition before post, with which the one after it agrees
+abbrev pub fontOf : Setting → ℤ → Font
+fontOf setting number = fontBy number (definitionOf false number (setting .volume))
+
+-- "A font finds its records by check sum and s", "by code mod 256 (0 to 255)"
+abbrev pub lookedFor : Setting → Font → ℤ → LookUp
+lookedFor setting font code = walk (setting .records) (setting .table) (font .checksum) (font .scale) (codeByte code)
+
+-- ---- what a command comes to
+
+-- what it adds to the page
+pub data Added : Type 0 where
+  nothing : Added
+  placed : Record → Added
+  missing : Added
+  special : Added
+
+-- the next state and what is added, or that h or v would leave its range
+pub data Outcome : Type 0 where
+  goes : State → Added → Outcome
+  leavesRange : Outcome
+
+-- the state with other numbers
+abbrev pub at : State → Level → State
+at s level = record { level = level; saved = s .saved; font = s .font }
+
+-- "A character absent from the table gives no record, moves nothing and is counted as missing"
+abbrev pub setCharacter : Setting → State → ℤ → LookUp → Outcome
+setCharacter setting s code absent = goes s missing
+setCharacter setting s code (found m) =
+    cond (leaves (s .level .h +ℤ scaledBy (s .font .scale) (m .width))) leavesRange
+    (goes (at s (characterMoved (setting .ruler) (scaledBy (s .font .scale) (m .width)) (m .escapement) (s .level)))
+    (placed (characterRecord (setting .page) (s .level) (s .font) code (m .escapement))))
+
+-- "put forms move nothing"
+abbrev pub putCharacter : Setting → State → ℤ → LookUp → Outcome
+putCharacter setting s code absent = goes s missing
+putCharacter setting s code (found m) = goes s (placed (characterRecord (setting .page) (s .level) (s .font) code (m .escapement)))
+
+-- "A rule with a side ≤ 0 gives no record"
+abbrev pub isVisible : ℤ → ℤ → Bool
+isVisible height width = ltZ (pos 0) height && ltZ (pos 0) width
+
+-- "A rule's sides are K × n rounded up"
+abbrev pub ruleAdded : Setting → State → ℤ → ℤ → Added
+ruleAdded setting s height width =
+    cond (isVisible height width)
+    (placed (ruleRecord (setting .page) (s .level) (roundedUp (setting .ruler .k) height) (roundedUp (setting .ruler .k) width)))
+    nothing
+
+-- "yet set_rule moves"
+abbrev pub setRule : Setting → State → ℤ → ℤ → Outcome
+setRule setting s height width =
+    cond (leaves (s .level .h +ℤ width)) leavesRange
+    (goes (at s (ruleMoved (setting .ruler) (s .font .scale) width (s .level))) (ruleAdded setting s height width))
+
+-- a move sideways or down
+abbrev pub move : Direction → Setting → State → ℤ → Outcome
+move direction setting s n =
+    cond (leaves (spotOf direction (s .level) .position +ℤ n)) leavesRange
+    (goes (at s (movedBy direction (setting .ruler) (s .font .scale) n (s .level))) nothing)
+
+-- w0, x0, y0, z0 move by the register, the others set it first
+abbrev pub distanceOr : ℤ → List ℕ → ℤ
+distanceOr register params = cond (eqb (length params) 0) register (distance params)
+
+abbrev pub withW : ℤ → Level → Level
+withW n l = record { h = l .h; v = l .v; w = n; x = l .x; y = l .y; z = l .z; hh = l .hh; vv = l .vv }
+
+abbrev pub withX : ℤ → Level → Level
+withX n l = record { h = l .h; v = l .v; w = l .w; x = n; y = l .y; z = l .z; hh = l .hh; vv = l .vv }
+
+abbrev pub withY : ℤ → Level → Level
+withY n l = record { h = l .h; v = l .v; w = l .w; x = l .x; y = n; z = l .z; hh = l .hh; vv = l .vv }
+
+abbrev pub withZ : ℤ → Level → Level
+withZ n l = record { h = l .h; v = l .v; w = l .w; x = l .x; y = l .y; z = n; hh = l .hh; vv = l .vv }
+
+-- by its kind, in appendix A's order; bop, eop and what stands outside pages are none of a page's own commands
+abbrev pub afterKind : Kind → Setting → State → Command → Outcome
+afterKind SetCharacter setting s c =
+    setCharacter setting s (characterCode (c .opcode) (c .params)) (lookedFor setting (s .font) (characterCode (c .opcode) (c .params)))
+afterKind SetRule setting s c = setRule setting s (ruleHeight (c .params)) (ruleWidth (c .params))
+afterKind PutCharacter setting s c =
+    putCharacter setting s (characterCode (c .opcode) (c .params)) (lookedFor setting (s .font) (characterCode (c .opcode) (c .params)))
+afterKind PutRule setting s c = goes s (ruleAdded setting s (ruleHeight (c .params)) (ruleWidth (c .params)))
+afterKind Nop setting s c = goes s nothing
+afterKind Bop setting s c = goes s nothing
+afterKind Eop setting s c = goes s nothing
+afterKind Push setting s c = goes (pushed s) nothing
+afterKind Pop setting s c = goes (popped s) nothing
+afterKind Right setting s c = move Direction.Sideways setting s (distance (c .params))
+afterKind W setting s c =
+    let n = distanceOr (s .level .w) (c .params) in move Direction.Sideways setting (at s (withW n (s .level))) n
+afterKind X setting s c =
+    let n = distanceOr (s .level .x) (c .params) in move Direction.Sideways setting (at s (withX n (s .level))) n
+afterKind Down setting s c = move Direction.Down setting s (distance (c .params))
+afterKind Y setting s c =
+    let n = distanceOr (s .level .y) (c .params) in move Direction.Down setting (at s (withY n (s .level))) n
+afterKind Z setting s c =
+    let n = distanceOr (s .level .z) (c .params) in move Direction.Down setting (at s (withZ n (s .level))) n
+afterKind Select setting s c =
+    goes (record { level = s .level; saved = s .saved; font = fontOf setting (selectedFont (c .opcode) (c .params)) }) nothing
+afterKind Special setting s c = goes s special
+afterKind Define setting s c = goes s nothing
+afterKind Pre setting s c = goes s nothing
+afterKind Post setting s c = goes s nothing
+afterKind PostPost setting s c = goes s nothing
+afterKind Undefined setting s c = goes s nothing
+
+-- "Each command takes the page's state and hands back the next"
+unfoldable pub after : Setting → State → Command → Outcome
+after setting s c = afterKind (kindOfCommand c) setting s c
+
+-- ---- what the page's list comes to
+
+-- its records, in the order of their commands, and how many missing characters and specials
+pub record Placed : Type 0 where
+  pub records : List Record
+  pub missing-characters : ℕ
+  pub specials : ℕ
+
+-- with what a command before them adds
+abbrev pub adding : Added → Placed → Placed
+adding nothing p = p
+adding (placed r) p = record { records = r ∷ p .records; missing-characters = p .missing-characters; specials = p .specials }
+adding missing p = record { records = p .records; missing-characters = p .missing-characters + 1; specials = p .specials }
+adding special p = record { records = p .records; missing-characters = p .missing-characters; specials = p .specials + 1 }
+
+-- 16: "h or v would leave −2,147,483,647 to 2,147,483,647; place of that command"
+abbrev pub onOutcome : ℕ → Outcome → (State → Answer Placed) → Answer Placed
+onOutcome place leavesRange next = refused positionOutOfRange place
+onOutcome place (goes s added) next = andThen (next s) (λ p. given (adding added p))
+
+-- the commands one after the other, from a state on
+unfoldable pub placing : Setting → State → List Located → Answer Placed
+placing setting s [] = given (record { records = []; missing-characters = 0; specials = 0 })
+placing setting s (c ∷ rest) = onOutcome (c .at) (after setting s (c .command)) (λ next. placing setting next rest)

@@ -1,0 +1,41 @@
+-- trial
+use Prim.Native.Nat.{ℕ}
+use mathlib.Core.Path.{_≡_, refl}
+use mathlib.Core.List.{List, [], _∷_, _++_}
+use lib.ListN.{replicate}
+use lib.IntN.{ℤ, pos, negsuc}
+use Rattle.refusals.specs.Answer.{Answer, refused, given}
+use Rattle.numbers.specs.Bytes.{unsignedAt, bytesOf}
+use Rattle.units.specs.Rounding.{nearestWhole}
+use Rattle.units.specs.Divisor.{commonDivisor, divisorWithin, lowest}
+use Rattle.widths.specs.Table.{checkedFrom}
+use Rattle.widths.specs.LookUp.{walkFrom}
+use Rattle.commands.specs.Kinds.{kindOf}
+use Rattle.commands.specs.Lengths.{lengths, fixedLength, innerLengthOf, innerLength, sizeOf}
+use Rattle.commands.specs.Commands.{frontAfter}
+use Rattle.volume.specs.Rules.{sameBytes}
+use Rattle.volume.specs.Judged.{tail, judgedFrom, judged}
+use Rattle.volume.specs.Names.{history, historyFrom}
+use Rattle.page.specs.declared.Record.{Record}
+use Rattle.page.specs.Records.{recordBytes}
+use Rattle.page.specs.Placing.{Placed, after, placing}
+use Rattle.page.specs.Answers.{placedPage, placedCounts, areaAfter}
+
+abbrev pub example : List ℕ
+example =
+    (247 ∷ 2 ∷ 0 ∷ 0 ∷ 0 ∷ 254 ∷ 0 ∷ 0 ∷ 0 ∷ 1 ∷ 0 ∷ 0 ∷ 3 ∷ 232 ∷ 0 ∷ [])
+    ++ (139 ∷ []) ++ replicate 40 0 ++ (255 ∷ 255 ∷ 255 ∷ 255 ∷ [])
+    ++ (143 ∷ 5 ∷ 143 ∷ 5 ∷ 143 ∷ 5 ∷ 143 ∷ 5 ∷ 143 ∷ 5 ∷ 143 ∷ 5 ∷ [])
+    ++ (132 ∷ 0 ∷ 0 ∷ 0 ∷ 4 ∷ 0 ∷ 0 ∷ 0 ∷ 7 ∷ [])
+    ++ (137 ∷ 0 ∷ 0 ∷ 0 ∷ 1 ∷ 0 ∷ 0 ∷ 0 ∷ 1 ∷ [])
+    ++ (140 ∷ [])
+    ++ (248 ∷ 0 ∷ 0 ∷ 0 ∷ 15 ∷ 0 ∷ 0 ∷ 0 ∷ 254 ∷ 0 ∷ 0 ∷ 0 ∷ 1 ∷ 0 ∷ 0 ∷ 3 ∷ 232 ∷ []) ++ replicate 8 0 ++ (0 ∷ 0 ∷ 0 ∷ 1 ∷ [])
+    ++ (249 ∷ 0 ∷ 0 ∷ 0 ∷ 91 ∷ 2 ∷ [])
+    ++ replicate 4 223
+
+abbrev pub rule : ℤ → ℤ → ℤ → Record
+rule hh height width = record { kind = 2; font = 0; page = 1; hh = hh; vv = pos 0; content = height; extent = width }
+
+shown : placedPage example [] 300 1 40 ≡ given (record { records = rule (pos 9) (pos 2) (pos 3) ∷ rule (pos 11) (pos 1) (pos 1) ∷ []; missing-characters = 0; specials = 0 })
+unfolding unsignedAt bytesOf nearestWhole commonDivisor divisorWithin lowest checkedFrom walkFrom kindOf lengths fixedLength innerLengthOf innerLength sizeOf frontAfter sameBytes tail judgedFrom judged history historyFrom recordBytes after placing
+shown = refl

@@ -1,0 +1,322 @@
+-- What the code's own steps give and keep; no promise cites this. Assumes nothing.
+use Prim.Native.Nat.{ℕ, _+_, _*_, _<_, _≤_, _^_}
+use mathlib.Core.Path.{_≡_}
+use mathlib.Core.Bool.{Bool, true, false, cond, _||_}
+use mathlib.Core.List.{List, [], _∷_, _++_}
+use lib.Dec.{leb}
+use lib.ListN.{length, take, drop}
+use lib.IntN.{ℤ, natAbs, _+ℤ_}
+use Rattle.refusals.specs.Numbers.{positionOutOfRange}
+use Rattle.refusals.specs.Answer.{Answer, refused, given, refusal}
+use Rattle.units.specs.Unit.{Accepted}
+use Rattle.units.specs.Rounding.{roundedUp}
+use Rattle.widths.specs.LookUp.{LookUp}
+use Rattle.widths.specs.Table.{checkedTable}
+use Rattle.commands.specs.declared.Kind.{Kind}
+use Rattle.commands.specs.declared.Kind.the-variants as Kind
+use Rattle.commands.specs.Kinds.{is}
+use Rattle.commands.specs.Commands.{Command, kindOfCommand, whole, front}
+use Rattle.commands.specs.Parameters.{distance, ruleHeight, ruleWidth, fontScale}
+use Rattle.commands.specs.Reading.{longestFile}
+use Rattle.volume.specs.Past.{isA, depthAfter, body, Definition, none, stands, definitionOf}
+use Rattle.volume.specs.Rules.{wrongAtDepth}
+use Rattle.volume.specs.declared.Volume.{Volume}
+use Rattle.volume.specs.declared.Scanned.the-variants as Scanned
+use Rattle.volume.specs.Judged.{judged}
+use Rattle.volume.specs.Names.{history}
+use Rattle.volume.specs.Steps.{Tells, AllStanding, Lawfully, summaryOf, Kept}
+use Rattle.state.specs.declared.Level.{Level}
+use Rattle.state.specs.declared.Font.{Font}
+use Rattle.state.specs.declared.moving.Direction.the-variants as Direction
+use Rattle.state.specs.declared.moving.Ruler.{Ruler}
+use Rattle.state.specs.Moving.{leaves}
+use Rattle.state.specs.Registers.{State, freshState, pushed, popped, movedBy, characterMoved, ruleMoved}
+use Rattle.state.specs.Steps.{Bounded}
+use Rattle.page.specs.declared.Record.{Record}
+use Rattle.page.specs.declared.Counts.{Counts}
+use Rattle.page.specs.declared.Terms.{Terms}
+use Rattle.page.specs.declared.Adds.{Adds}
+use Rattle.page.specs.declared.Adds.the-variants as Adds
+use Rattle.page.specs.declared.Turn.{Turn}
+use Rattle.page.specs.declared.Turn.the-variants as Turn
+use Rattle.page.specs.declared.Asked.{Asked}
+use Rattle.page.specs.declared.Step.{Step}
+use Rattle.page.specs.declared.Walked.{Walked}
+use Rattle.page.specs.declared.Walked.the-variants as Walked
+use Rattle.page.specs.declared.PagePlaced.{PagePlaced}
+use Rattle.page.specs.declared.PagePlaced.the-variants as PagePlaced
+use Rattle.page.specs.Records.{recordSize, recordBytes, ruleRecord}
+use Rattle.page.specs.PageList.{Located, pageOf}
+use Rattle.page.specs.Placing.{Setting, Added, nothing, placed, missing, special, Outcome, goes, leavesRange, at, fontBy, lookedFor, setCharacter, putCharacter, isVisible, distanceOr, withW, withX, withY, withZ, after, Placed, placing}
+
+-- ---- records
+
+-- a record whose signed numbers are small enough to be taken apart
+pub record InWords (r : Record) : Type 0 where
+  pub hh-in : natAbs (r .hh) ≤ 2 ^ 31
+  pub vv-in : natAbs (r .vv) ≤ 2 ^ 31
+  pub content-in : natAbs (r .content) ≤ 2 ^ 31
+  pub extent-in : natAbs (r .extent) ≤ 2 ^ 31
+
+-- a record of an index in its place, where the area has room for it
+abbrev pub putRecord : List ℕ → ℕ → Record → List ℕ
+putRecord out index r =
+    cond (leb (recordSize * index + recordSize) (length out))
+    (take (recordSize * index) out ++ recordBytes r ++ drop (recordSize * index + recordSize) out)
+    out
+
+-- what the code says that a command adds
+abbrev pub addedOf : Adds → Added
+addedOf Adds.Nothing = nothing
+addedOf (Adds.Placed r) = placed r
+addedOf Adds.Missing = missing
+addedOf Adds.Special = special
+
+abbrev pub AddsInWords : Adds → Type 0
+AddsInWords Adds.Nothing = Unit {0}
+AddsInWords (Adds.Placed r) = InWords r
+AddsInWords Adds.Missing = Unit {0}
+AddsInWords Adds.Special = Unit {0}
+
+-- the area and the counts with what a command adds
+abbrev pub areaNoted : List ℕ → ℕ → Added → List ℕ
+areaNoted out index nothing = out
+areaNoted out index (placed r) = putRecord out index r
+areaNoted out index missing = out
+areaNoted out index special = out
+
+abbrev pub countNoted : Counts → Added → Counts
+countNoted counts nothing = counts
+countNoted counts (placed r) = record { records = counts .records + 1; missing = counts .missing; specials = counts .specials }
+countNoted counts missing = record { records = counts .records; missing = counts .missing + 1; specials = counts .specials }
+countNoted counts special = record { records = counts .records; missing = counts .missing; specials = counts .specials + 1 }
+
+-- the records from an index on, each where there is room
+abbrev pub stored : List ℕ → ℕ → List Record → List ℕ
+stored out index [] = out
+stored out index (r ∷ records) = stored (putRecord out index r) (index + 1) records
+
+-- how a walk ends: with the area and the counts, or with a refusal
+pub data Ending : Type 0 where
+  stopped : ℕ → ℕ → Ending
+  through : List ℕ → Counts → Ending
+
+-- the ending of what is still to come, from an area and counts on
+abbrev pub finish : List ℕ → Counts → Answer Placed → Ending
+finish out counts (refused number place) = stopped number place
+finish out counts (given p) =
+    through (stored out (counts .records) (p .records))
+    (record { records = counts .records + length (p .records); missing = counts .missing + p .missing-characters; specials = counts .specials + p .specials })
+
+abbrev pub zeroCounts : Counts
+zeroCounts = record { records = 0; missing = 0; specials = 0 }
+
+abbrev pub endingOf : List ℕ → Walked → Ending
+endingOf out (Walked.Through counts) = through out counts
+endingOf out (Walked.Left place) = stopped positionOutOfRange place
+
+-- a walk makes at most so many records
+abbrev pub Few : ℕ → Walked → Type 0
+Few most (Walked.Through counts) = counts .records ≤ most
+Few most (Walked.Left place) = Unit {0}
+
+-- ---- what a command asks
+
+-- a font that a selection may leave
+pub record Known (font : Font) : Type 0 where
+  pub checksum-small : font .checksum < 2 ^ 32
+  pub scale-small : font .scale ≤ 134217727
+
+abbrev pub stateWith : Level → List Level → Font → State
+stateWith level saved font = record { level = level; saved = saved; font = font }
+
+-- the outcome of what the code says that a command does and adds
+abbrev pub did : Ruler → State → Turn → Adds → Outcome
+did ruler s Turn.Stay adds = goes s (addedOf adds)
+did ruler s (Turn.Sideways level n) adds = goes (at s (movedBy Direction.Sideways ruler (s .font .scale) n level)) (addedOf adds)
+did ruler s (Turn.Down level n) adds = goes (at s (movedBy Direction.Down ruler (s .font .scale) n level)) (addedOf adds)
+did ruler s (Turn.PastCharacter width escapement) adds = goes (at s (characterMoved ruler width escapement (s .level))) (addedOf adds)
+did ruler s (Turn.PastRule width) adds = goes (at s (ruleMoved ruler (s .font .scale) width (s .level))) (addedOf adds)
+did ruler s Turn.Push adds = goes (pushed s) (addedOf adds)
+did ruler s Turn.Pop adds = goes (popped s) (addedOf adds)
+did ruler s (Turn.Select font) adds = goes (record { level = s .level; saved = s .saved; font = font }) (addedOf adds)
+did ruler s Turn.End adds = goes s (addedOf adds)
+did ruler s Turn.Leave adds = leavesRange
+
+-- what the page's methods need of a turn
+abbrev pub Safe : Level → Turn → Type 0
+Safe now Turn.Stay = Unit {0}
+Safe now (Turn.Sideways level n) = Bounded level × (natAbs n ≤ 2 ^ 31) × (leaves (level .h +ℤ n) ≡ false)
+Safe now (Turn.Down level n) = Bounded level × (natAbs n ≤ 2 ^ 31) × (leaves (level .v +ℤ n) ≡ false)
+Safe now (Turn.PastCharacter width escapement) = (natAbs width ≤ 2 ^ 31) × (natAbs escapement ≤ 2 ^ 31) × (leaves (now .h +ℤ width) ≡ false)
+Safe now (Turn.PastRule width) = (natAbs width ≤ 2 ^ 31) × (leaves (now .h +ℤ width) ≡ false)
+Safe now Turn.Push = Unit {0}
+Safe now Turn.Pop = Unit {0}
+Safe now (Turn.Select font) = Known font
+Safe now Turn.End = Unit {0}
+Safe now Turn.Leave = Unit {0}
+
+-- a turn that neither changes the depth nor ends the page
+abbrev pub Plain : Turn → Type 0
+Plain Turn.Stay = Unit {0}
+Plain (Turn.Sideways level n) = Unit {0}
+Plain (Turn.Down level n) = Unit {0}
+Plain (Turn.PastCharacter width escapement) = Unit {0}
+Plain (Turn.PastRule width) = Unit {0}
+Plain Turn.Push = ⊥
+Plain Turn.Pop = ⊥
+Plain (Turn.Select font) = Unit {0}
+Plain Turn.End = ⊥
+Plain Turn.Leave = Unit {0}
+
+-- whether a kind changes the depth or ends the page
+abbrev pub keepsDepth : Kind → Bool
+keepsDepth kind = cond (is kind Kind.Push) false (cond (is kind Kind.Pop) false (cond (is kind Kind.Eop) false true))
+
+-- a turn is one of its command's kind
+abbrev pub Suits : Kind → Turn → Type 0
+Suits kind Turn.Stay = keepsDepth kind ≡ true
+Suits kind (Turn.Sideways level n) = keepsDepth kind ≡ true
+Suits kind (Turn.Down level n) = keepsDepth kind ≡ true
+Suits kind (Turn.PastCharacter width escapement) = keepsDepth kind ≡ true
+Suits kind (Turn.PastRule width) = keepsDepth kind ≡ true
+Suits kind Turn.Push = kind ≡ Kind.Push
+Suits kind Turn.Pop = kind ≡ Kind.Pop
+Suits kind (Turn.Select font) = keepsDepth kind ≡ true
+Suits kind Turn.End = kind ≡ Kind.Eop
+Suits kind Turn.Leave = keepsDepth kind ≡ true
+
+-- what the code holds, as the setting of the meaning
+abbrev pub settingBy : Terms → List ℕ → List Command → Setting
+settingBy terms table volume = record { ruler = terms .ruler; table = table; records = terms .records; volume = volume; page = terms .page }
+
+-- what is asked comes to an outcome, whatever the levels that are saved
+pub record Comes (ruler : Ruler) (level : Level) (font : Font) (outcome : State → Outcome) (turn : Turn) (adds : Adds) : Type 0 where
+  pub does : (saved : List Level) → did ruler (stateWith level saved font) turn adds ≡ outcome (stateWith level saved font)
+  pub safe : Safe level turn
+  pub words : AddsInWords adds
+
+-- what a character asks, set or put, whatever the volume
+abbrev pub CharacterAsks : Terms → List ℕ → Level → Font → Bool → ℤ → Asked → Type 0
+CharacterAsks terms table level font sets code r =
+    (volume : List Command)
+    → let setting = settingBy terms table volume in
+    Comes (terms .ruler) level font
+    (λ s. cond sets (setCharacter setting s code (lookedFor setting font code)) (putCharacter setting s code (lookedFor setting font code))) (r .turn) (r .adds)
+    × Plain (r .turn)
+
+-- what a command asks
+abbrev pub CommandAsks : Setting → Level → Font → Command → Asked → Type 0
+CommandAsks setting level font c r = Comes (setting .ruler) level font (λ s. after setting s c) (r .turn) (r .adds) × Suits (kindOfCommand c) (r .turn)
+
+-- what a rule adds
+abbrev pub ruleBy : Terms → Level → ℤ → ℤ → Added
+ruleBy terms level height width =
+    cond (isVisible height width)
+    (placed (ruleRecord (terms .page) level (roundedUp (terms .ruler .k) height) (roundedUp (terms .ruler .k) width)))
+    nothing
+
+-- the turn of a move from a level, and of a move past a rule
+abbrev pub sidewaysTurn : Level → ℤ → Turn
+sidewaysTurn level n = cond (leaves (level .h +ℤ n)) Turn.Leave (Turn.Sideways level n)
+
+abbrev pub downTurn : Level → ℤ → Turn
+downTurn level n = cond (leaves (level .v +ℤ n)) Turn.Leave (Turn.Down level n)
+
+abbrev pub ruleTurn : Level → ℤ → Turn
+ruleTurn level width = cond (leaves (level .h +ℤ width)) Turn.Leave (Turn.PastRule width)
+
+-- what a rule asks, set or put
+pub record RuleAsks (terms : Terms) (level : Level) (sets : Bool) (params : List ℕ) (r : Asked) : Type 0 where
+  pub turn-is : r .turn ≡ cond sets (ruleTurn level (ruleWidth params)) Turn.Stay
+  pub adds-are : addedOf (r .adds) ≡ ruleBy terms level (ruleHeight params) (ruleWidth params)
+  pub words : AddsInWords (r .adds)
+
+-- the turn of a command that adds nothing but a turn, by its kind
+abbrev pub turnOf : Kind → Level → List ℕ → Turn
+turnOf Kind.SetCharacter level params = Turn.Stay
+turnOf Kind.SetRule level params = Turn.Stay
+turnOf Kind.PutCharacter level params = Turn.Stay
+turnOf Kind.PutRule level params = Turn.Stay
+turnOf Kind.Nop level params = Turn.Stay
+turnOf Kind.Bop level params = Turn.Stay
+turnOf Kind.Eop level params = Turn.End
+turnOf Kind.Push level params = Turn.Push
+turnOf Kind.Pop level params = Turn.Pop
+turnOf Kind.Right level params = sidewaysTurn level (distance params)
+turnOf Kind.W level params = sidewaysTurn (withW (distanceOr (level .w) params) level) (distanceOr (level .w) params)
+turnOf Kind.X level params = sidewaysTurn (withX (distanceOr (level .x) params) level) (distanceOr (level .x) params)
+turnOf Kind.Down level params = downTurn level (distance params)
+turnOf Kind.Y level params = downTurn (withY (distanceOr (level .y) params) level) (distanceOr (level .y) params)
+turnOf Kind.Z level params = downTurn (withZ (distanceOr (level .z) params) level) (distanceOr (level .z) params)
+turnOf Kind.Select level params = Turn.Stay
+turnOf Kind.Special level params = Turn.Stay
+turnOf Kind.Define level params = Turn.Stay
+turnOf Kind.Pre level params = Turn.Stay
+turnOf Kind.Post level params = Turn.Stay
+turnOf Kind.PostPost level params = Turn.Stay
+turnOf Kind.Undefined level params = Turn.Stay
+
+-- a command of an opcode and its parameters
+abbrev pub command : ℕ → List ℕ → Command
+command opcode params = record { opcode = opcode; params = params }
+
+-- a move's distance has at most four bytes
+abbrev pub isMove : Kind → Bool
+isMove kind = is kind Kind.Right || (is kind Kind.W || (is kind Kind.X || (is kind Kind.Down || (is kind Kind.Y || is kind Kind.Z))))
+
+abbrev pub MoveFits : Kind → List ℕ → Type 0
+MoveFits kind params = isMove kind ≡ true → length params ≤ 4
+
+-- what the command at a place asks, and the place after it
+abbrev pub StepAsks : List ℕ → ℕ → Setting → Level → Font → Step → Type 0
+StepAsks file place setting level font r =
+    (c : Command) (rest : List ℕ) → front (drop place file) ≡ whole c rest
+    → CommandAsks setting level font c (r .asked) × (r .next ≡ place + (1 + length (c .params)))
+
+-- ---- fonts
+
+-- a definition's scale is in its range
+abbrev pub InScale : Definition → Type 0
+InScale none = Unit {0}
+InScale (stands place c) = fontScale (body c) ≤ 134217727
+
+-- the table of the fonts, and the file, tell the definitions before post of the commands so far
+pub record Told (file fonts : List ℕ) (past : List Command) : Type 0 where
+  pub tells : Tells false fonts past
+  pub standing : AllStanding file past
+  pub lawfully : Lawfully past
+  pub scales : (number : ℤ) → InScale (definitionOf false number past)
+
+-- r is the font of a number
+abbrev pub FontIs : List ℕ → List ℕ → ℤ → Font → Type 0
+FontIs file fonts number r = (past : List Command) → Told file fonts past → (r ≡ fontBy number (definitionOf false number past)) × Known r
+
+-- ---- the page's commands in the file
+
+-- from a place on, at a depth, stand the commands of a page up to its eop; pushes and pops keep to the depths
+pub data Runs (file : List ℕ) : ℕ → ℕ → List Located → Type 0 where
+  ends : {place depth : ℕ} (c : Command) (rest : List ℕ) → front (drop place file) ≡ whole c rest → isA Kind.Eop c ≡ true → Runs file place depth []
+  onward : {place depth : ℕ} {cs : List Located} (c : Command) (rest : List ℕ) → front (drop place file) ≡ whole c rest → isA Kind.Eop c ≡ false
+      → wrongAtDepth (kindOfCommand c) depth ≡ false → Runs file (place + (1 + length (c .params))) (depthAfter (kindOfCommand c) depth) cs
+      → Runs file place depth (record { at = place; command = c } ∷ cs)
+
+-- all that a walk over a page starts from
+pub record Ready (file fonts table : List ℕ) (terms : Terms) (start : ℕ) : Type 0 where
+  pub short : length file ≤ longestFile
+  pub right : checkedTable table ≡ given (terms .records)
+  pub unit : Accepted (terms .ruler .k)
+  pub drift-small : terms .ruler .drift ≤ 2
+  pub told : Told file fonts (history file)
+  pub runs : Runs file start 0 (pageOf (terms .page) (history file))
+
+-- ---- answers
+
+-- what a scan holds of an accepted file
+pub record Held (file : List ℕ) (page : ℕ) (fonts : List ℕ) (v : Volume) : Type 0 where
+  pub judgement : judged file ≡ given (summaryOf v)
+  pub keeps : Kept file page fonts (Scanned.Accepted v)
+
+abbrev pub placeAnswer : PagePlaced → Answer Counts
+placeAnswer (PagePlaced.Placed counts) = given counts
+placeAnswer (PagePlaced.Refused r) = refusal r

@@ -1,0 +1,89 @@
+// Placing one page: the records of its commands, their counts, and the output area.
+use refusals::Refusal;
+use state::Font;
+use state::Level;
+use state::moving::Ruler;
+
+pub mod fonts;
+pub mod placing;
+pub mod records;
+pub mod steps;
+pub mod walking;
+
+// One placed character or rule
+pub struct Record {
+    // 1 character, 2 rule
+    pub kind: u64,
+    pub font: u64,
+    pub page: u64,
+    pub hh: i64,
+    pub vv: i64,
+    // a character's full code, or a rule's height in pixels
+    pub content: i64,
+    // a character's escapement, or a rule's width, in pixels
+    pub extent: i64,
+}
+
+// The number of records written, of missing characters and of specials on a page
+pub struct Counts {
+    pub records: usize,
+    pub missing: usize,
+    pub specials: usize,
+}
+
+// What a page is placed by, beside the file and the width table: K and D, how many records the table has, and the page's number
+pub struct Terms {
+    pub ruler: Ruler,
+    pub records: usize,
+    pub page: u64,
+}
+
+// What a command adds to the page
+pub enum Adds {
+    Nothing,
+    Placed(Record),
+    Missing,
+    Special,
+}
+
+// What a command does to the page's state: a move has the level that it starts from and the distance
+pub enum Turn {
+    Stay,
+    Sideways(Level, i64),
+    Down(Level, i64),
+    // by the width, and the escapement in pixels
+    PastCharacter(i64, i64),
+    PastRule(i64),
+    Push,
+    Pop,
+    Select(Font),
+    // eop
+    End,
+    // h or v would leave its range
+    Leave,
+}
+
+// What a command asks, and a hint for the next character's search
+pub struct Asked {
+    pub turn: Turn,
+    pub adds: Adds,
+    pub hint: usize,
+}
+
+// What the command at a place asks, and the place after it
+pub struct Step {
+    pub asked: Asked,
+    pub next: usize,
+}
+
+// What a walk over a page comes to: its counts, or the place of a command by which h or v would leave its range
+pub enum Walked {
+    Through(Counts),
+    Left(usize),
+}
+
+// The answer: counts, or refusal 1 to 17
+pub enum PagePlaced {
+    Placed(Counts),
+    Refused(Refusal),
+}

@@ -1,0 +1,347 @@
+// What a command of a page asks: a turn of the state, and what it adds to the page.
+use crate::Adds;
+use crate::Asked;
+use crate::Record;
+use crate::Step;
+use crate::Terms;
+use crate::Turn;
+use crate::fonts;
+use commands::Kind;
+use commands::Read;
+use commands::parameters;
+use state::Font;
+use state::Level;
+use state::moving;
+use widths::scaling;
+use widths::table;
+use widths::table::Place;
+ghost use mathlib.Core.Path.{_≡_};
+ghost use Prim.Native.Nat.{_≤_, _<_, _^_};
+ghost use lib.ListN.{length};
+ghost use lib.IntN.{natAbs};
+ghost use Rattle.refusals.specs.Answer.{given};
+ghost use Rattle.units.specs.Unit.{Accepted};
+ghost use Rattle.widths.specs.Table.{checkedTable};
+ghost use Rattle.commands.specs.Commands.{Whole};
+ghost use Rattle.volume.specs.Names.{history};
+ghost use Rattle.state.specs.Steps.{Bounded};
+ghost use Rattle.commands.specs.declared.Kind.the-variants.{W, X, Y, Z};
+ghost use Rattle.page.specs.Placing.{distanceOr};
+ghost use Rattle.page.specs.Steps.{addedOf, AddsInWords, Known, Told, settingBy, CharacterAsks, ruleBy, sidewaysTurn, downTurn, ruleTurn, turnOf, command, MoveFits, RuleAsks, CommandAsks, StepAsks};
+
+// Where the search for a character starts: records of one font whose codes follow each other are as far apart as their codes.
+fn guess(hint: usize, byte: u64) -> usize
+    requires { ⌜ byte < 256 ⌝ }
+{
+    if 4294967296 <= hint {
+        return 0;
+    }
+    let sum = hint + byte as usize;
+    if sum < 256 {
+        return 0;
+    }
+    sum - 256
+}
+
+// What a character asks, set or put.
+fn character(
+    widths: &[u8],
+    terms: Terms,
+    level: Level,
+    font: Font,
+    sets: bool,
+    code: i64,
+    hint: usize,
+) -> Asked
+    requires { ⌜ (checkedTable (now widths) ≡ given (terms .records)) × Known font ⌝ }
+    requires { ⌜ Bounded level × (natAbs code ≤ 2 ^ 31) ⌝ }
+    ensures { λ r. ⌜ CharacterAsks terms (now (widths .entry)) level font sets code r ⌝ }
+{
+    let byte = numbers::to_twos(256, code);
+    let near = guess(hint, byte);
+    match table::find_near(widths, terms.records, font.checksum, font.scale, byte, near) {
+        Place::Nowhere => Asked {
+            turn: Turn::Stay,
+            adds: Adds::Missing,
+            hint: hint,
+        },
+        Place::At(index) => {
+            let metric = table::metric_of(widths, terms.records, index);
+            let escapement = metric.escapement;
+            let adds = Adds::Placed(Record {
+                kind: 1,
+                font: font.number,
+                page: terms.page,
+                hh: level.hh,
+                vv: level.vv,
+                content: code,
+                extent: escapement,
+            });
+            let hint = index + 256 - byte as usize;
+            if !sets {
+                return Asked {
+                    turn: Turn::Stay,
+                    adds: adds,
+                    hint: hint,
+                };
+            }
+            let width = scaling::scale_width(font.scale, metric.width);
+            if moving::leaves_range(level.h, width) {
+                return Asked {
+                    turn: Turn::Leave,
+                    adds: adds,
+                    hint: hint,
+                };
+            }
+            Asked {
+                turn: Turn::PastCharacter(width, escapement),
+                adds: adds,
+                hint: hint,
+            }
+        }
+    }
+}
+
+// What a rule adds: a side that is not above 0 gives no record.
+fn rule_adds(terms: Terms, level: Level, height: i64, width: i64) -> Adds
+    requires { ⌜ Accepted (terms .ruler .k) × Bounded level × (natAbs height ≤ 2 ^ 31) × (natAbs width ≤ 2 ^ 31) ⌝ }
+    ensures { λ r. ⌜ (addedOf r ≡ ruleBy terms level height width) × AddsInWords r ⌝ }
+{
+    if height <= 0 {
+        return Adds::Nothing;
+    }
+    if width <= 0 {
+        return Adds::Nothing;
+    }
+    let ruler = terms.ruler;
+    Adds::Placed(Record {
+        kind: 2,
+        font: 0,
+        page: terms.page,
+        hh: level.hh,
+        vv: level.vv,
+        content: units::round_up(ruler.k, height),
+        extent: units::round_up(ruler.k, width),
+    })
+}
+
+// Sideways by n from a level, unless h would leave its range.
+fn sideways_from(level: Level, n: i64) -> Turn
+    requires { ⌜ Bounded level × (natAbs n ≤ 2 ^ 31) ⌝ }
+    ensures { λ r. ⌜ r ≡ sidewaysTurn level n ⌝ }
+{
+    if moving::leaves_range(level.h, n) {
+        return Turn::Leave;
+    }
+    Turn::Sideways(level, n)
+}
+
+// Down by n from a level, unless v would leave its range.
+fn down_from(level: Level, n: i64) -> Turn
+    requires { ⌜ Bounded level × (natAbs n ≤ 2 ^ 31) ⌝ }
+    ensures { λ r. ⌜ r ≡ downTurn level n ⌝ }
+{
+    if moving::leaves_range(level.v, n) {
+        return Turn::Leave;
+    }
+    Turn::Down(level, n)
+}
+
+// Past a rule of so much width, unless h would leave its range.
+fn past_rule(level: Level, width: i64) -> Turn
+    requires { ⌜ Bounded level × (natAbs width ≤ 2 ^ 31) ⌝ }
+    ensures { λ r. ⌜ r ≡ ruleTurn level width ⌝ }
+{
+    if moving::leaves_range(level.h, width) {
+        return Turn::Leave;
+    }
+    Turn::PastRule(width)
+}
+
+// The distance of a move: w0, x0, y0 and z0 have none and take the register.
+fn distance_or(register: i64, params: &[u8]) -> i64
+    requires { ⌜ (natAbs register ≤ 2 ^ 31) × (length (now params) ≤ 4) ⌝ }
+    ensures { λ r. ⌜ (r ≡ distanceOr register (now (params .entry))) × (natAbs r ≤ 2 ^ 31) ⌝ }
+{
+    if params.len() == 0 {
+        return register;
+    }
+    parameters::distance_of(params)
+}
+
+fn w_turn(level: Level, params: &[u8]) -> Turn
+    requires { ⌜ Bounded level × (length (now params) ≤ 4) ⌝ }
+    ensures { λ r. ⌜ r ≡ turnOf W level (now (params .entry)) ⌝ }
+{
+    let n = distance_or(level.w, params);
+    let mut next = level;
+    next.w = n;
+    sideways_from(next, n)
+}
+
+fn x_turn(level: Level, params: &[u8]) -> Turn
+    requires { ⌜ Bounded level × (length (now params) ≤ 4) ⌝ }
+    ensures { λ r. ⌜ r ≡ turnOf X level (now (params .entry)) ⌝ }
+{
+    let n = distance_or(level.x, params);
+    let mut next = level;
+    next.x = n;
+    sideways_from(next, n)
+}
+
+fn y_turn(level: Level, params: &[u8]) -> Turn
+    requires { ⌜ Bounded level × (length (now params) ≤ 4) ⌝ }
+    ensures { λ r. ⌜ r ≡ turnOf Y level (now (params .entry)) ⌝ }
+{
+    let n = distance_or(level.y, params);
+    let mut next = level;
+    next.y = n;
+    down_from(next, n)
+}
+
+fn z_turn(level: Level, params: &[u8]) -> Turn
+    requires { ⌜ Bounded level × (length (now params) ≤ 4) ⌝ }
+    ensures { λ r. ⌜ r ≡ turnOf Z level (now (params .entry)) ⌝ }
+{
+    let n = distance_or(level.z, params);
+    let mut next = level;
+    next.z = n;
+    down_from(next, n)
+}
+
+// The turn of a command that adds nothing else, by its kind.
+fn turn_of(kind: Kind, level: Level, params: &[u8]) -> Turn
+    requires { ⌜ Bounded level × MoveFits kind (now params) ⌝ }
+    ensures { λ r. ⌜ r ≡ turnOf kind level (now (params .entry)) ⌝ }
+{
+    match kind {
+        Kind::Right => sideways_from(level, parameters::distance_of(params)),
+        Kind::W => w_turn(level, params),
+        Kind::X => x_turn(level, params),
+        Kind::Down => down_from(level, parameters::distance_of(params)),
+        Kind::Y => y_turn(level, params),
+        Kind::Z => z_turn(level, params),
+        Kind::Push => Turn::Push,
+        Kind::Pop => Turn::Pop,
+        Kind::Eop => Turn::End,
+        _ => Turn::Stay,
+    }
+}
+
+// What a rule asks, set or put.
+fn rule(terms: Terms, level: Level, sets: bool, params: &[u8], hint: usize) -> Asked
+    requires { ⌜ Accepted (terms .ruler .k) × Bounded level × (8 ≤ length (now params)) ⌝ }
+    ensures { λ r. ⌜ RuleAsks terms level sets (now (params .entry)) r ⌝ }
+{
+    let height = parameters::rule_height(params);
+    let width = parameters::rule_width(params);
+    let adds = rule_adds(terms, level, height, width);
+    if sets {
+        return Asked {
+            turn: past_rule(level, width),
+            adds: adds,
+            hint: hint,
+        };
+    }
+    Asked {
+        turn: Turn::Stay,
+        adds: adds,
+        hint: hint,
+    }
+}
+
+// What a command of a kind asks.
+fn asked_by(
+    file: &[u8],
+    widths: &[u8],
+    fonts: &[u32; 256],
+    terms: Terms,
+    opcode: u8,
+    params: &[u8],
+    level: Level,
+    font: Font,
+    hint: usize,
+) -> Asked
+    requires { ⌜ Whole (command opcode (now params)) × Told (now file) (now fonts) (history (now file)) ⌝ }
+    requires { ⌜ (checkedTable (now widths) ≡ given (terms .records)) × Accepted (terms .ruler .k) × Known font × Bounded level ⌝ }
+    ensures { λ r. ⌜ CommandAsks (settingBy terms (now (widths .entry)) (history (now (file .entry)))) level font (command opcode (now (params .entry))) r ⌝ }
+{
+    let kind = commands::kind_of(opcode);
+    match kind {
+        Kind::SetCharacter => {
+            let code = parameters::character_code(opcode, params);
+            character(widths, terms, level, font, true, code, hint)
+        }
+        Kind::PutCharacter => {
+            let code = parameters::character_code(opcode, params);
+            character(widths, terms, level, font, false, code, hint)
+        }
+        Kind::SetRule => rule(terms, level, true, params, hint),
+        Kind::PutRule => rule(terms, level, false, params, hint),
+        Kind::Select => {
+            let number = parameters::selected_font(opcode, params);
+            Asked {
+                turn: Turn::Select(fonts::font_of(file, fonts, number)),
+                adds: Adds::Nothing,
+                hint: hint,
+            }
+        }
+        Kind::Special => Asked {
+            turn: Turn::Stay,
+            adds: Adds::Special,
+            hint: hint,
+        },
+        _ => Asked {
+            turn: turn_of(kind, level, params),
+            adds: Adds::Nothing,
+            hint: hint,
+        },
+    }
+}
+
+// What the command at a place asks, and the place after it.
+pub fn step_at(
+    file: &[u8],
+    widths: &[u8],
+    fonts: &[u32; 256],
+    terms: Terms,
+    at: usize,
+    level: Level,
+    font: Font,
+    hint: usize,
+) -> Step
+    requires { ⌜ Told (now file) (now fonts) (history (now file)) ⌝ }
+    requires { ⌜ (checkedTable (now widths) ≡ given (terms .records)) × Accepted (terms .ruler .k) × Known font × Bounded level ⌝ }
+    ensures { λ r. ⌜ StepAsks (now (file .entry)) at (settingBy terms (now (widths .entry)) (history (now (file .entry)))) level font r ⌝ }
+{
+    match commands::read_at(file, at) {
+        Read::Refused(_) => Step {
+            asked: Asked {
+                turn: Turn::End,
+                adds: Adds::Nothing,
+                hint: hint,
+            },
+            next: at,
+        },
+        Read::Command(reading) => {
+            let opcode = reading.opcode;
+            let start = reading.start;
+            let next = reading.next;
+            let params = &file[start..next];
+            Step {
+                asked: asked_by(
+                    file,
+                    widths,
+                    fonts,
+                    terms,
+                    opcode,
+                    params,
+                    level,
+                    font,
+                    hint,
+                ),
+                next: next,
+            }
+        }
+    }
+}

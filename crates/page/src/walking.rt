@@ -1,0 +1,77 @@
+// The walk over a page's commands, from the end of its bop to its eop.
+use crate::Counts;
+use crate::Terms;
+use crate::Turn;
+use crate::Walked;
+use crate::records;
+use crate::steps;
+use state::Page;
+ghost use mathlib.Core.Path.{_≡_};
+ghost use lib.ListN.{length};
+ghost use Rattle.volume.specs.Names.{history};
+ghost use Rattle.state.specs.Registers.{freshState};
+ghost use Rattle.page.specs.PageList.{pageOf};
+ghost use Rattle.page.specs.Placing.{placing};
+ghost use Rattle.page.specs.Steps.{Ready, settingBy, zeroCounts, finish, endingOf, Few};
+
+// Walks over the page whose commands start at a place, counts what they add, and writes each record that the area has room for.
+pub fn walk(
+    file: &[u8],
+    widths: &[u8],
+    fonts: &[u32; 256],
+    terms: Terms,
+    start: usize,
+    out: &mut [u8],
+) -> Walked
+    requires { ⌜ Ready (now file) (now fonts) (now widths) terms start ⌝ }
+    ensures { λ r. ⌜ endingOf (now (out .exit)) r ≡ finish (now (out .entry)) zeroCounts (placing (settingBy terms (now (widths .entry)) (history (now (file .entry)))) freshState (pageOf (terms .page) (history (now (file .entry))))) ⌝ }
+    ensures { λ r. ⌜ Few (length (now (file .entry))) r ⌝ }
+{
+    let ruler = terms.ruler;
+    let mut page = Page::fresh();
+    let mut counts = Counts {
+        records: 0,
+        missing: 0,
+        specials: 0,
+    };
+    let mut at = start;
+    let mut hint: usize = 0;
+    loop {
+        let level = page.now;
+        let depth = page.depth;
+        let step = steps::step_at(file, widths, fonts, terms, at, level, page.font, hint);
+        let asked = step.asked;
+        let adds = asked.adds;
+        let turn = asked.turn;
+        let place = at;
+        at = step.next;
+        hint = asked.hint;
+        counts = records::note(&mut *out, counts, adds);
+        match turn {
+            Turn::Stay => {}
+            Turn::Sideways(from, n) => {
+                page.now = from;
+                page = page.sideways(ruler, n);
+            }
+            Turn::Down(from, n) => {
+                page.now = from;
+                page = page.down(ruler, n);
+            }
+            Turn::PastCharacter(width, escapement) => {
+                page = page.past_character(ruler, width, escapement);
+            }
+            Turn::PastRule(width) => page = page.past_rule(ruler, width),
+            Turn::Push => {
+                page.stack[depth] = level;
+                page = page.push();
+            }
+            Turn::Pop => {
+                let last = page.stack[depth - 1];
+                page = page.pop(last);
+            }
+            Turn::Select(font) => page.font = font,
+            Turn::End => return Walked::Through(counts),
+            Turn::Leave => return Walked::Left(place),
+        }
+    }
+}

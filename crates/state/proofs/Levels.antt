@@ -1,0 +1,126 @@
+-- Levels stay in their ranges, and push and pop give back what they saved. Assumes nothing.
+use Prim.Native.Nat.{ℕ, zero, suc, _+_, _-_, _≤_, _<_, _^_}
+use mathlib.Core.Path.{_≡_, refl, ap, ap₂, subst}
+use mathlib.Core.Bool.{false, cond}
+use mathlib.Core.List.{List, _∷_}
+use native.Mathlib.Numerals.{add-one, sub-one}
+use native.Mathlib.Omega.{arith}
+use borrow.Author.Tests.{ltb-false}
+use lib.ListN.{length, getD, set}
+use lib.Seq.{getD-set-same, getD-set-other}
+use lib.IntN.{ℤ, natAbs, _+ℤ_}
+use Rattle.units.specs.Rounding.{rounded}
+use Rattle.state.specs.declared.Font.{Font}
+use Rattle.state.specs.declared.Level.{Level}
+use Rattle.state.specs.declared.Page.{Page}
+use Rattle.state.specs.declared.moving.Direction.{Direction}
+use Rattle.state.specs.declared.moving.Direction.the-variants.{Sideways, Down}
+use Rattle.state.specs.declared.moving.Ruler.{Ruler}
+use Rattle.state.specs.declared.moving.Spot.{Spot}
+use Rattle.state.specs.Moving.{leaves, near, settled}
+use Rattle.state.specs.Registers.{State, zeroLevel, pushed, popped, spotOf, atSpot, movedBy, characterMoved, ruleMoved}
+use Rattle.state.specs.Steps.{savedOf, stateOf, Ruled, Bounded, AllBounded}
+use Rattle.state.proofs.Nearness.{settled-small}
+
+-- ---- ranges
+
+-- a fresh page's level is in its ranges
+pub bounded-zero : Bounded zeroLevel
+bounded-zero =
+    record { h-in = omega arith; v-in = omega arith; w-in = omega arith; x-in = omega arith; y-in = omega arith; z-in = omega arith; hh-in = omega arith; vv-in = omega arith }
+
+-- a position that does not leave its range
+pub position-in : (position : ℤ) → leaves position ≡ false → natAbs position ≤ 2147483647
+position-in position stays = ltb-false 2147483647 (natAbs position) stays
+
+-- the pixel that moved along with such a position
+pub pixel-in : (ruler : Ruler) (scale : ℕ) (position pixel : ℤ) → Ruled ruler scale → leaves position ≡ false → natAbs (settled ruler position pixel .pixel) ≤ 2 ^ 31
+pixel-in ruler scale position pixel ruled stays =
+    omega (arith, settled-small ruler (ruled .unit) position pixel, position-in position stays, ruled .drift-small)
+
+-- a level is in its ranges where what moved in it is
+bounded-at : (direction : Direction) (spot : Spot) (l : Level) → Bounded l
+    → natAbs (spot .position) ≤ 2147483647 → natAbs (spot .pixel) ≤ 2 ^ 31 → Bounded (atSpot direction spot l)
+bounded-at Sideways spot l b position pixel =
+    record { h-in = position; v-in = b .v-in; w-in = b .w-in; x-in = b .x-in; y-in = b .y-in; z-in = b .z-in; hh-in = pixel; vv-in = b .vv-in }
+bounded-at Down spot l b position pixel =
+    record { h-in = b .h-in; v-in = position; w-in = b .w-in; x-in = b .x-in; y-in = b .y-in; z-in = b .z-in; hh-in = b .hh-in; vv-in = pixel }
+
+-- so is one where a position and its pixel have settled
+bounded-settled : (direction : Direction) (ruler : Ruler) (scale : ℕ) (position pixel : ℤ) (l : Level) → Ruled ruler scale → Bounded l
+    → leaves position ≡ false → Bounded (atSpot direction (settled ruler position pixel) l)
+bounded-settled direction ruler scale position pixel l ruled b stays =
+    bounded-at direction (settled ruler position pixel) l b (position-in position stays) (pixel-in ruler scale position pixel ruled stays)
+
+-- the pixel that moves along with a position, before it is held near the right one
+abbrev pub along : Direction → Ruler → ℕ → ℤ → ℤ → ℤ → ℤ
+along direction ruler scale position pixel n = cond (near direction n scale) (pixel +ℤ rounded (ruler .k) n) (rounded (ruler .k) (position +ℤ n))
+
+-- a move keeps a level in its ranges, in either direction
+pub bounded-moved : (direction : Direction) (ruler : Ruler) (scale : ℕ) (n : ℤ) (l : Level) → Ruled ruler scale → Bounded l
+    → leaves (spotOf direction l .position +ℤ n) ≡ false
+    → Bounded (movedBy direction ruler scale n l)
+bounded-moved direction ruler scale n l ruled b stays =
+    let spot = spotOf direction l in
+    bounded-settled direction ruler scale (spot .position +ℤ n) (along direction ruler scale (spot .position) (spot .pixel) n) l ruled b stays
+
+-- so does the move after a rule
+pub bounded-rule : (ruler : Ruler) (scale : ℕ) (width : ℤ) (l : Level) → Ruled ruler scale → Bounded l → leaves (l .h +ℤ width) ≡ false → Bounded (ruleMoved ruler scale width l)
+bounded-rule ruler scale width l ruled b stays = bounded-moved Sideways ruler scale width l ruled b stays
+
+-- so does the move after a character
+pub bounded-character : (ruler : Ruler) (scale : ℕ) (width escapement : ℤ) (l : Level) → Ruled ruler scale → Bounded l → leaves (l .h +ℤ width) ≡ false
+    → Bounded (characterMoved ruler width escapement l)
+bounded-character ruler scale width escapement l ruled b stays =
+    bounded-settled Sideways ruler scale (l .h +ℤ width) (l .hh +ℤ escapement) l ruled b stays
+
+-- ---- the levels that are saved
+
+-- one more is saved where it was stored above the others
+pub saved-one-more : (depth : ℕ) (stack : List Level) (l : Level) → getD stack depth zeroLevel ≡ l → savedOf (depth + 1) stack ≡ l ∷ savedOf depth stack
+saved-one-more depth stack l e = rw add-one (ap (λ (top : Level). top ∷ savedOf depth stack) e)
+
+-- the one that was saved last stands above the others
+pub saved-last : (depth : ℕ) (stack : List Level) → 0 < depth → savedOf depth stack ≡ getD stack (depth - 1) zeroLevel ∷ savedOf (depth - 1) stack
+saved-last zero stack some = absurd (omega arith)
+saved-last (suc depth) stack some = rw sub-one
+
+-- as many levels are saved as the depth says
+pub saved-depth : (depth : ℕ) (stack : List Level) → length (savedOf depth stack) ≡ depth
+saved-depth zero stack = refl
+saved-depth (suc depth) stack = ap suc (saved-depth depth stack)
+
+-- a store above the levels that are saved does not change them
+saved-kept : (depth at : ℕ) (stack : List Level) (l : Level) → depth ≤ at → savedOf depth (set stack at l) ≡ savedOf depth stack
+saved-kept zero at stack l below = refl
+saved-kept (suc depth) at stack l below =
+    ap₂ _∷_ (getD-set-other stack at depth l zeroLevel (λ same. omega arith)) (saved-kept depth at stack l (omega arith))
+
+-- the caller's store before a push changes no state, and leaves the level where push asks it
+pub stored : (p : Page) → p .depth < length (p .stack)
+    → (stateOf (record { now = p .now; depth = p .depth; font = p .font; stack = set (p .stack) (p .depth) (p .now) }) ≡ stateOf p)
+    × (getD (set (p .stack) (p .depth) (p .now)) (p .depth) zeroLevel ≡ p .now)
+stored p room = (
+  ap (λ (levels : List Level). record { level = p .now; saved = levels; font = p .font }) (saved-kept (p .depth) (p .depth) (p .stack) (p .now) (omega arith)),
+  getD-set-same (p .stack) (p .depth) (p .now) zeroLevel room,
+)
+
+-- what pop goes back to is in its ranges where all that is saved is
+pub bounded-last : (depth : ℕ) (stack : List Level) → 0 < depth → AllBounded (savedOf depth stack) → Bounded (getD stack (depth - 1) zeroLevel)
+bounded-last depth stack some all = subst AllBounded (saved-last depth stack some) all .0
+
+-- ---- push and pop
+
+-- pop brings back the level that push saved, whatever the level and the font have become since, and leaves the font as it is
+pub level-comes-back : (s : State) (l : Level) (f : Font)
+    → popped (record { level = l; saved = s .level ∷ s .saved; font = f }) ≡ record { level = s .level; saved = s .saved; font = f }
+level-comes-back s l f = refl
+
+-- push, another font, pop: the level is back, the font stays
+pub font-not-saved : (s : State) (f : Font)
+    → popped (record { level = s .level; saved = s .level ∷ s .saved; font = f }) ≡ record { level = s .level; saved = s .saved; font = f }
+font-not-saved s f = level-comes-back s (s .level) f
+
+-- push, pop: all eight numbers come back
+pub push-pop : (s : State) → popped (pushed s) ≡ s
+push-pop s = level-comes-back s (s .level) (s .font)
