@@ -48,6 +48,11 @@ refused-to e entry = (sym (ap placedCounts e), sym (ap (areaAfter entry) e))
 pub placed-to : {answer : Answer Placed} {p : Placed} → answer ≡ given p → (entry area : List ℕ) → area ≡ areaAfter entry (given p) → Comes-to answer entry (given (countsOf p)) area
 placed-to e entry area area-is = (sym (ap placedCounts e), area-is ∙ sym (ap (areaAfter entry) e))
 
+-- a refusal leaves every byte
+pub refused-kept : (answer : Answer Placed) (entry : List ℕ) (number place : ℕ) → placedCounts answer ≡ refused number place → areaAfter entry answer ≡ entry
+refused-kept (refused n p) entry number place e = refl
+refused-kept (given p) entry number place e = absurd (given-not-refused (countsOf p) number place e)
+
 -- ---- what a walk shows
 
 module _ (out : List ℕ) where

@@ -7,6 +7,7 @@ use Rattle.widths.specs.LookUp.{LookUp, found, absent}
 use Rattle.commands.specs.declared.Reading.{Reading}
 use Rattle.volume.specs.declared.Summary.{Summary}
 use Rattle.volume.specs.declared.Part.{Part}
+use Rattle.page.specs.declared.Counts.{Counts}
 use Rattle.reader.specs.declared.CommandRead.{CommandRead}
 use Rattle.reader.specs.declared.CommandRead.the-variants as CommandRead
 use Rattle.reader.specs.declared.FileChecked.{FileChecked}
@@ -21,6 +22,8 @@ use Rattle.reader.specs.declared.LookedUp.{LookedUp}
 use Rattle.reader.specs.declared.LookedUp.the-variants as LookedUp
 use Rattle.reader.specs.declared.Rounded.{Rounded}
 use Rattle.reader.specs.declared.Rounded.the-variants as Rounded
+use Rattle.reader.specs.declared.Placed.{Placed}
+use Rattle.reader.specs.declared.Placed.the-variants as Placed
 
 -- read_command: the opcode, where its parameters start, and the place after them
 abbrev pub commandAnswer : CommandRead → Answer Reading
@@ -62,3 +65,13 @@ lookedAnswer (LookedUp.Refused number place) = refused number place
 abbrev pub roundedAnswer : Rounded → Answer ℤ
 roundedAnswer (Rounded.To n) = given n
 roundedAnswer (Rounded.Refused number place) = refused number place
+
+-- place_page: "the number of records written, of missing characters and of specials on that page"
+abbrev pub placedAnswer : Placed → Answer Counts
+placedAnswer (Placed.Records records missing specials) = given (record { records = records; missing = missing; specials = specials })
+placedAnswer (Placed.Refused number place) = refused number place
+
+-- placing is refused
+abbrev pub Refuses : Placed → Type 0
+Refuses (Placed.Records records missing specials) = ⊥
+Refuses (Placed.Refused number place) = Unit {0}

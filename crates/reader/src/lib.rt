@@ -1,5 +1,7 @@
 // The front door: every public entry, and nothing else. None has a `requires`: what an input breaks is refused, by number and place.
 use commands::Read;
+use page::PagePlaced;
+use page::placing;
 use units::UnitFound;
 use volume::Checked;
 use volume::Named;
@@ -12,6 +14,7 @@ use widths::table::Place;
 use widths::table::Table;
 ghost use mathlib.Core.Path.{_≡_};
 ghost use mathlib.Core.Logic.{_↔_};
+ghost use lib.ListN.{length};
 ghost use Rattle.commands.specs.Reading.{commandRead};
 ghost use Rattle.volume.specs.Lawful.{Lawful};
 ghost use Rattle.volume.specs.Judged.{judged};
@@ -20,7 +23,8 @@ ghost use Rattle.units.specs.Rounding.{roundedDistance};
 ghost use Rattle.widths.specs.Scaling.{fixWord, scaledWidth};
 ghost use Rattle.widths.specs.Table.{checkedTable};
 ghost use Rattle.widths.specs.LookUp.{lookedUp};
-ghost use Rattle.reader.specs.Answers.{commandAnswer, fileAnswer, Accepts, nameAnswer, roundedAnswer, scaledAnswer, tableAnswer, lookedAnswer};
+ghost use Rattle.page.specs.Answers.{placedPage, placedCounts, areaAfter};
+ghost use Rattle.reader.specs.Answers.{commandAnswer, fileAnswer, Accepts, nameAnswer, roundedAnswer, scaledAnswer, tableAnswer, lookedAnswer, placedAnswer, Refuses};
 
 // A command's opcode, where its parameters start and the place after them, or refusal 1, 2 or 3
 pub enum CommandRead {
@@ -237,5 +241,44 @@ pub fn look_up(table: &[u8], checksum: u32, scale: u32, code: i32) -> LookedUp
                 }
             }
         }
+    }
+}
+
+// The number of records written, of missing characters and of specials, or refusal 1 to 17
+pub enum Placed {
+    Records {
+        records: usize,
+        missing: usize,
+        specials: usize,
+    },
+    Refused {
+        number: u8,
+        place: usize,
+    },
+}
+
+// One page of a file, counted from 1, by a width table, at a resolution in dots per inch: its records are written into the output area, 20 bytes each. A
+// refusal leaves every byte of the area.
+pub fn place_page(
+    file: &[u8],
+    widths: &[u8],
+    resolution: u32,
+    page: u32,
+    out: &mut [u8],
+) -> Placed
+    ensures { λ r. ⌜ placedAnswer r ≡ placedCounts (placedPage (now (file .entry)) (now (widths .entry)) resolution page (length (now (out .entry)))) ⌝ }
+    ensures { λ _. ⌜ now (out .exit) ≡ areaAfter (now (out .entry)) (placedPage (now (file .entry)) (now (widths .entry)) resolution page (length (now (out .entry)))) ⌝ }
+    ensures { λ r. ⌜ (Refuses r → now (out .exit) ≡ now (out .entry)) ⌝ }
+{
+    match placing::place_page(file, widths, resolution as u64, page as usize, out) {
+        PagePlaced::Placed(counts) => Placed::Records {
+            records: counts.records,
+            missing: counts.missing,
+            specials: counts.specials,
+        },
+        PagePlaced::Refused(refusal) => Placed::Refused {
+            number: refusal.number,
+            place: refusal.place,
+        },
     }
 }
