@@ -1,15 +1,14 @@
--- trial
+-- The printed example of document 01: its file, what placing its page gives, and the bytes of its two records. Assumes nothing.
 use Prim.Native.Nat.{ℕ}
 use mathlib.Core.Path.{_≡_, refl}
 use mathlib.Core.List.{List, [], _∷_, _++_}
 use lib.ListN.{replicate}
-use lib.IntN.{ℤ, pos, negsuc}
-use Rattle.refusals.specs.Answer.{Answer, refused, given}
+use lib.IntN.{ℤ, pos}
+use Rattle.refusals.specs.Answer.{given}
 use Rattle.numbers.specs.Bytes.{unsignedAt, bytesOf}
 use Rattle.units.specs.Rounding.{nearestWhole}
 use Rattle.units.specs.Divisor.{commonDivisor, divisorWithin, lowest}
 use Rattle.widths.specs.Table.{checkedFrom}
-use Rattle.widths.specs.LookUp.{walkFrom}
 use Rattle.commands.specs.Kinds.{kindOf}
 use Rattle.commands.specs.Lengths.{lengths, fixedLength, innerLengthOf, innerLength, sizeOf}
 use Rattle.commands.specs.Commands.{frontAfter}
@@ -17,10 +16,11 @@ use Rattle.volume.specs.Rules.{sameBytes}
 use Rattle.volume.specs.Judged.{tail, judgedFrom, judged}
 use Rattle.volume.specs.Names.{history, historyFrom}
 use Rattle.page.specs.declared.Record.{Record}
-use Rattle.page.specs.Records.{recordBytes}
+use Rattle.page.specs.Records.{recordBytes, allBytes}
 use Rattle.page.specs.Placing.{Placed, after, placing}
-use Rattle.page.specs.Answers.{placedPage, placedCounts, areaAfter}
+use Rattle.page.specs.Answers.{placedPage}
 
+-- "M with six right1 5, set_rule 4 7, put_rule 1 1 put before eop (pointers mended)"
 abbrev pub example : List ℕ
 example =
     (247 ∷ 2 ∷ 0 ∷ 0 ∷ 0 ∷ 254 ∷ 0 ∷ 0 ∷ 0 ∷ 1 ∷ 0 ∷ 0 ∷ 3 ∷ 232 ∷ 0 ∷ [])
@@ -33,9 +33,25 @@ example =
     ++ (249 ∷ 0 ∷ 0 ∷ 0 ∷ 91 ∷ 2 ∷ [])
     ++ replicate 4 223
 
+-- a rule of page 1 with vv 0, "r 1 0 hh 0 height width"
 abbrev pub rule : ℤ → ℤ → ℤ → Record
 rule hh height width = record { kind = 2; font = 0; page = 1; hh = hh; vv = pos 0; content = height; extent = width }
 
-shown : placedPage example [] 300 1 40 ≡ given (record { records = rule (pos 9) (pos 2) (pos 3) ∷ rule (pos 11) (pos 1) (pos 1) ∷ []; missing-characters = 0; specials = 0 })
-unfolding unsignedAt bytesOf nearestWhole commonDivisor divisorWithin lowest checkedFrom walkFrom kindOf lengths fixedLength innerLengthOf innerLength sizeOf frontAfter sameBytes tail judgedFrom judged history historyFrom recordBytes after placing
-shown = refl
+-- "r 1 0 9 0 2 3", "r 1 0 11 0 1 1", "end 2 0 0"
+abbrev pub printed : Placed
+printed = record { records = rule (pos 9) (pos 2) (pos 3) ∷ rule (pos 11) (pos 1) (pos 1) ∷ []; missing-characters = 0; specials = 0 }
+
+-- "empty table, R 300, page 1, prints in whole": into an area that just holds it
+pub printed-placed : placedPage example [] 300 1 40 ≡ given printed
+unfolding unsignedAt nearestWhole commonDivisor divisorWithin lowest checkedFrom kindOf lengths fixedLength innerLengthOf innerLength sizeOf frontAfter sameBytes tail judgedFrom judged history historyFrom after placing
+printed-placed = refl
+
+-- the two records as bytes
+abbrev pub printedBytes : List ℕ
+printedBytes =
+    (2 ∷ 0 ∷ 0 ∷ 1 ∷ 0 ∷ 0 ∷ 0 ∷ 9 ∷ 0 ∷ 0 ∷ 0 ∷ 0 ∷ 0 ∷ 0 ∷ 0 ∷ 2 ∷ 0 ∷ 0 ∷ 0 ∷ 3 ∷ [])
+    ++ (2 ∷ 0 ∷ 0 ∷ 1 ∷ 0 ∷ 0 ∷ 0 ∷ 11 ∷ 0 ∷ 0 ∷ 0 ∷ 0 ∷ 0 ∷ 0 ∷ 0 ∷ 1 ∷ 0 ∷ 0 ∷ 0 ∷ 1 ∷ [])
+
+pub printed-bytes : allBytes (printed .records) ≡ printedBytes
+unfolding recordBytes bytesOf
+printed-bytes = refl

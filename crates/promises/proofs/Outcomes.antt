@@ -4,6 +4,7 @@ use Prim.Native.Nat.{ℕ}
 use contract.Lifetimes.{Lfts}
 use Rattle.refusals.specs.Answer.{Answer, refused, given}
 use Rattle.widths.specs.LookUp.{LookUp, found, absent}
+use Rattle.page.specs.declared.Counts.{Counts}
 use denote.Ref.{now}
 use Rattle.reader.specs.declared.CommandRead.{CommandRead}
 use Rattle.reader.specs.declared.CommandRead.the-variants as CommandRead
@@ -19,7 +20,9 @@ use Rattle.reader.specs.declared.TableChecked.{TableChecked}
 use Rattle.reader.specs.declared.TableChecked.the-variants as TableChecked
 use Rattle.reader.specs.declared.LookedUp.{LookedUp}
 use Rattle.reader.specs.declared.LookedUp.the-variants as LookedUp
-use Rattle.reader.specs.Answers.{commandAnswer, fileAnswer, nameAnswer, roundedAnswer, scaledAnswer, tableAnswer, lookedAnswer}
+use Rattle.reader.specs.declared.Placed.{Placed}
+use Rattle.reader.specs.declared.Placed.the-variants as Placed
+use Rattle.reader.specs.Answers.{commandAnswer, fileAnswer, nameAnswer, roundedAnswer, scaledAnswer, tableAnswer, lookedAnswer, placedAnswer}
 use Rattle.reader.proofs.read_command.Reads as read-command
 use Rattle.reader.proofs.check_file.Reads as check-file
 use Rattle.reader.proofs.font_name_place.Reads as font-name-place
@@ -28,6 +31,7 @@ use Rattle.reader.proofs.round_distance.Reads as round-distance
 use Rattle.reader.proofs.scale_width.Reads as scale-width
 use Rattle.reader.proofs.check_table.Reads as check-table
 use Rattle.reader.proofs.look_up.Reads as look-up
+use Rattle.reader.proofs.place_page.Reads as place-page
 
 -- ---- what an answer says, it is
 
@@ -75,6 +79,14 @@ name-back : (r : NamePlace) → outcome NamePlace.Refused (λ part. NamePlace.At
 name-back (NamePlace.At start end) = refl
 name-back (NamePlace.Refused number place) = refl
 
+placed-back : (r : Placed) → outcome Placed.Refused (λ c. Placed.Records (c .records) (c .missing) (c .specials)) (placedAnswer r) ≡ r
+placed-back (Placed.Records records missing specials) = refl
+placed-back (Placed.Refused number place) = refl
+
+-- so one answer is that of one outcome
+pub placed-one : (meant : Answer Counts) (r s : Placed) → placedAnswer r ≡ meant → placedAnswer s ≡ meant → r ≡ s
+placed-one = one placedAnswer (outcome Placed.Refused (λ c. Placed.Records (c .records) (c .missing) (c .specials))) placed-back
+
 -- ---- the entries
 
 pub read-command-outcomes : (κs : Lfts 1) → (a : _) → (r s : CommandRead) → (x y : _) → read-command.Post κs a r x → read-command.Post κs a s y → r ≡ s
@@ -103,3 +115,8 @@ check-table-outcomes κs a r s x y p q = one tableAnswer (outcome TableChecked.R
 
 pub look-up-outcomes : (κs : Lfts 1) → (a : _) → (r s : LookedUp) → (x y : _) → look-up.Post κs a r x → look-up.Post κs a s y → r ≡ s
 look-up-outcomes κs a r s x y p q = one lookedAnswer (outcome LookedUp.Refused looked) looked-back _ r s p q
+
+-- of one page: the counts or the refusal, and every byte of the output area
+pub place-page-outcomes : (κs : Lfts 3) → (a : _) → (r s : Placed) → (x y : _) → place-page.Post κs a r x → place-page.Post κs a s y
+    → (r ≡ s) × (now (x .1 .1 .1 .1 .0) ≡ now (y .1 .1 .1 .1 .0))
+place-page-outcomes κs a r s x y p q = (placed-one _ r s (p .0) (q .0), p .1 .0 ∙ sym (q .1 .0))

@@ -259,13 +259,7 @@ pub enum Placed {
 
 // One page of a file, counted from 1, by a width table, at a resolution in dots per inch: its records are written into the output area, 20 bytes each. A
 // refusal leaves every byte of the area.
-pub fn place_page(
-    file: &[u8],
-    widths: &[u8],
-    resolution: u32,
-    page: u32,
-    out: &mut [u8],
-) -> Placed
+pub fn place_page(file: &[u8], widths: &[u8], resolution: u32, page: u32, out: &mut [u8]) -> Placed
     ensures { λ r. ⌜ placedAnswer r ≡ placedCounts (placedPage (now (file .entry)) (now (widths .entry)) resolution page (length (now (out .entry)))) ⌝ }
     ensures { λ _. ⌜ now (out .exit) ≡ areaAfter (now (out .entry)) (placedPage (now (file .entry)) (now (widths .entry)) resolution page (length (now (out .entry)))) ⌝ }
     ensures { λ r. ⌜ (Refuses r → now (out .exit) ≡ now (out .entry)) ⌝ }
@@ -276,9 +270,9 @@ pub fn place_page(
             missing: counts.missing,
             specials: counts.specials,
         },
-        PagePlaced::Refused(refusal) => Placed::Refused {
-            number: refusal.number,
-            place: refusal.place,
+        PagePlaced::Refused(why) => Placed::Refused {
+            number: why.number,
+            place: why.place,
         },
     }
 }

@@ -19,8 +19,8 @@ place-page-requires c κs = search needs
 enum-known-counts : tie.Need-enum-known-counts
 enum-known-counts c = search needs
 
-enum-known-refusal : tie.Need-enum-known-refusal
-enum-known-refusal c = search needs
+enum-known-why : tie.Need-enum-known-why
+enum-known-why c = search needs
 
 -- what the room answered
 module _ (p : tie.After-place-page) where
@@ -47,7 +47,7 @@ same-length-2 c = search needs
 returns-2 : tie.Need-returns-2
 returns-2 c =
     let p = c .before .before .before .before .before in
-    let r = c .before .refusal .given in
+    let r = c .before .why .given in
     let said = answer-is p _ (r .1) in
     (said, (p .place-page .ensures .1, λ refuses. p .place-page .ensures .1 ∙ refused-kept (meant p) (now (start p .args .out)) (r .0 .0 .number) (r .0 .0 .place) (sym said)))
 
@@ -57,7 +57,7 @@ place-page-spec =
     (tie.spec
     place-page-requires
     enum-known-counts
-    enum-known-refusal
+    enum-known-why
     same-length
     returns
     same-length-2

@@ -1,0 +1,297 @@
+-- What an answer of place_page says of the page and of the output area. Stated of the contract itself. Assumes nothing.
+use Prim.Native.Nat.{ℕ, zero, suc, _+_, _*_, _≤_}
+use mathlib.Core.Path.{_≡_, refl, sym, ap, ap₂, _∙_, subst}
+use mathlib.Core.Bool.{Bool, true, false, cond, not}
+use mathlib.Core.List.{List, [], _∷_, _++_, map}
+use mathlib.Core.Logic.{⊎-elim}
+use native.Mathlib.Omega.{arith}
+use lib.Dec.{ltb, leb}
+use lib.ListN.{length, take, drop, length-append, length-drop}
+use lib.Seq.{take-at, drop-at}
+use borrow.Author.Tests.{ltb-false}
+use contract.Lifetimes.{Lfts}
+use denote.Ref.{RefT, now}
+use Rattle.refusals.specs.Numbers.{wrongPreamble, misplacedCommand, wrongDepth, wrongFontDefinition, noFont, wrongPointer, wrongPostamble, wrongResolution, unitOutOfRange, wrongWidthTable, noSuchPage, positionOutOfRange, areaTooShort}
+use Rattle.refusals.specs.Answer.{Answer, refused, given, refuseIf, andThen}
+use Rattle.refusals.proofs.Answer.{given-not-refused, given-next, given-same}
+use Rattle.units.specs.declared.Ratio.{Ratio}
+use Rattle.units.specs.Unit.{ratioOf, outOfRange, resolutionOutside, unitOf}
+use Rattle.widths.specs.Table.{rightRecord, checkedFrom, checkedTable}
+use Rattle.widths.specs.Table as table-of
+use Rattle.commands.specs.Commands.{Command}
+use Rattle.volume.specs.declared.Summary.{Summary}
+use Rattle.volume.specs.Past.{num, den, mag}
+use Rattle.volume.specs.Rules.{preambleWrong, misplaced, depthWrong, definitionWrong, fontMissing, pointerWrong, postambleWrong, fault}
+use Rattle.volume.specs.Judged.{judged}
+use Rattle.volume.specs.Names.{history}
+use Rattle.volume.proofs.Refused.{ends-early, strange, breaks, other-byte, too-few, later, file-refuses}
+use Rattle.volume.proofs.Refused as check
+use Rattle.state.specs.Registers.{unselected, freshState}
+use Rattle.page.specs.declared.Record.{Record}
+use Rattle.page.specs.declared.Counts.{Counts}
+use Rattle.page.specs.Records.{recordSize, recordBytes, allBytes}
+use Rattle.page.specs.PageList.{Located, pageOf}
+use Rattle.page.specs.Placing.{Setting, placing}
+use Rattle.page.specs.Placing as meaning
+use Rattle.page.specs.Counting.{Seen, withFonts, characterFound, characterMissing, ruleVisible, isSpecial, makesRecord, countOf, those, saidBy, saidOf}
+use Rattle.page.specs.Answers.{pageOutside, settingOf, withRoom, placedPage, countsOf, placedCounts, areaAfter}
+use Rattle.page.proofs.Areas.{record-length}
+use Rattle.page.proofs.CountLaws.{LeavesAt, records-counted, missing-counted, specials-counted, refused-place}
+use Rattle.page.proofs.CountLaws as counting
+use Rattle.reader.specs.declared.Placed.{Placed}
+use Rattle.reader.specs.declared.Placed.the-variants as Placed
+use Rattle.reader.specs.Answers.{Refuses}
+use Rattle.reader.proofs.place_page.Reads as place-page
+use Rattle.promises.proofs.Outcomes.{placed-one}
+
+-- ---- what an answer was made from
+
+-- what is given in the end went on from a result
+then-given : {A B : Type 0} (answer : Answer A) (next : A → Answer B) (b : B) → andThen answer next ≡ given b → (a : A) × (answer ≡ given a) × (next a ≡ given b)
+then-given (refused n place) next b e = absurd (given-not-refused b n place (sym e))
+then-given (given a) next b e = (a, refl, e)
+
+-- so did a refusal that the first answer is not
+then-refused : {A B : Type 0} (answer : Answer A) (next : A → Answer B) (n place : ℕ) → (answer ≡ refused n place → ⊥) → andThen answer next ≡ refused n place
+    → (a : A) × (answer ≡ given a) × (next a ≡ refused n place)
+then-refused (refused number there) next n place passed e = absurd (passed (ap₂ refused (cc) (cc)))
+then-refused (given a) next n place passed e = (a, refl, e)
+
+-- and one with another number than the test before it
+refused-next : {A : Type 0} (t : Bool) (number there n place : ℕ) (next : Answer A) → (number ≡ n → ⊥) → refuseIf t number there next ≡ refused n place
+    → (t ≡ false) × (next ≡ refused n place)
+refused-next true number there n place next other e = absurd (other (cc))
+refused-next false number there n place next other e = (refl, e)
+
+-- records have 20 bytes each
+all-length : (records : List Record) → length (allBytes records) ≡ recordSize * length records
+all-length [] = refl
+all-length (r ∷ records) = omega (arith, length-append (recordBytes r) (allBytes records), record-length r, all-length records)
+
+-- ---- the numbers of the judgements before 16
+
+-- 4 to 10
+fault-low : (past : List Command) (c : Command) → fault past c ≤ 10
+fault-low past c =
+    by (preambleWrong past c) (misplaced past c) (depthWrong past c) (definitionWrong past c) (fontMissing past c) (pointerWrong past c) (postambleWrong past c)
+  where
+    by : (a b c d e f g : Bool)
+        → cond a wrongPreamble (cond b misplacedCommand (cond c wrongDepth (cond d wrongFontDefinition (cond e noFont (cond f wrongPointer (cond g wrongPostamble 0))))))
+        ≤ 10
+    by true b c d e f g = omega arith
+    by false true c d e f g = omega arith
+    by false false true d e f g = omega arith
+    by false false false true e f g = omega arith
+    by false false false false true f g = omega arith
+    by false false false false false true g = omega arith
+    by false false false false false false true = omega arith
+    by false false false false false false false = omega arith
+
+refuses-low : {past : List Command} {bytes : List ℕ} {number at : ℕ} → check.Refuses past bytes number at → number ≤ 11
+refuses-low (ends-early none low) = omega arith
+refuses-low (strange opcode rest high) = omega arith
+refuses-low (breaks {past = past} c rest w broken positive) = omega (arith, broken, fault-low past c)
+refuses-low (other-byte c n byte rest w allowed last h) = omega arith
+refuses-low (too-few c n w allowed last few) = omega arith
+refuses-low (later c rest w allowed not-last r) = refuses-low r
+
+-- 1 to 11
+file-low : (file : List ℕ) (n place : ℕ) → judged file ≡ refused n place → n ≤ 11
+file-low file n place e = ⊎-elim (λ long. omega (arith, long .1)) (λ short. refuses-low (short .1)) (file-refuses file n place e)
+
+-- 12 and 13
+unit-low : (num den mag resolution n place : ℕ) → unitOf num den mag resolution ≡ refused n place → n ≤ 13
+unit-low num den mag resolution n place e = by (ratioOf num den mag resolution) (resolutionOutside resolution) (outOfRange (ratioOf num den mag resolution)) e
+  where
+    by : (k : Ratio) (outside out : Bool) → refuseIf outside wrongResolution 0 (refuseIf out unitOutOfRange 0 (given k)) ≡ refused n place → n ≤ 13
+    by k true out e = let same : wrongResolution ≡ n = cc in omega (arith, same)
+    by k false true e = let same : unitOutOfRange ≡ n = cc in omega (arith, same)
+    by k false false e = absurd (given-not-refused k n place e)
+
+-- 14
+table-low : (left : ℕ) (table : List ℕ) (index n place : ℕ) → checkedFrom left table index ≡ refused n place → n ≡ wrongWidthTable
+unfolding checkedFrom
+table-low zero table index n place e = absurd (given-not-refused index n place e)
+table-low (suc left) table index n place e =
+    by (leb (length table) (index * table-of.recordSize)) (not (rightRecord table index)) e (table-low left table (suc index) n place)
+  where
+    by : (end wrong : Bool)
+        → cond end (given index) (refuseIf wrong wrongWidthTable (index * table-of.recordSize) (checkedFrom left table (suc index))) ≡ refused n place
+        → (checkedFrom left table (suc index) ≡ refused n place → n ≡ wrongWidthTable) → n ≡ wrongWidthTable
+    by true wrong e onward = absurd (given-not-refused index n place e)
+    by false true e onward = cc
+    by false false e onward = onward e
+
+-- ---- a call
+
+-- the arguments, as they are before the call or after it
+abbrev pub Arguments : Type 0
+Arguments = RefT (List ℕ) × (RefT (List ℕ) × (ℕ × (ℕ × (RefT (List ℕ) × Unit {0}))))
+
+module _ (a : Arguments) where
+  -- the bytes of the file
+  abbrev pub file : List ℕ
+  file = now (a .0)
+
+  -- of the width table
+  abbrev pub table : List ℕ
+  table = now (a .1 .0)
+
+  abbrev pub resolution : ℕ
+  resolution = a .1 .1 .0
+
+  abbrev pub page : ℕ
+  page = a .1 .1 .1 .0
+
+  -- the bytes of the output area
+  abbrev pub area : List ℕ
+  area = now (a .1 .1 .1 .1 .0)
+
+  -- what the contract says of them
+  abbrev pub meant : Answer meaning.Placed
+  meant = placedPage file table resolution page (length area)
+
+  -- K, by the file's units
+  abbrev pub unitHere : Answer Ratio
+  unitHere = unitOf (num (history file)) (den (history file)) (mag (history file)) resolution
+
+  -- the page's own commands
+  abbrev pub own : List Located
+  own = pageOf page (history file)
+
+  -- what a page is placed by: the file is accepted, K is in range, the table is right, and the page is one of the file's
+  pub record Grounds : Type 0 where
+    pub found : Summary
+    pub unit : Ratio
+    pub width-records : ℕ
+    pub accepted : judged file ≡ given found
+    pub unit-is : unitHere ≡ given unit
+    pub table-is : checkedTable table ≡ given width-records
+    pub there : pageOutside page (found .pages) ≡ false
+
+  -- K, D, the table, the volume's commands and the page's number
+  abbrev pub settingBy : Grounds → Setting
+  settingBy g = settingOf file table (g .unit) resolution (g .width-records) page
+
+  -- the page's own commands, each with the font that is current at it, from "no font" on
+  abbrev pub seenBy : Grounds → List Seen
+  seenBy g = withFonts (settingBy g) unselected own
+
+  -- a page that is given was placed, and there is room
+  placed-by : (p : meaning.Placed) → meant ≡ given p
+      → (g : Grounds) × (placing (settingBy g) freshState own ≡ given p) × (recordSize * length (p .records) ≤ length area)
+  placed-by p e =
+      let (found, accepted, e1) = then-given (judged file) _ p e in
+      let (k, unit-is, e2) = then-given unitHere _ p e1 in
+      let (n, table-is, e3) = then-given (checkedTable table) _ p e2 in
+      let (there, e4) = given-next (pageOutside page (found .pages)) _ _ _ p e3 in
+      let g : Grounds = record { found = found; unit = k; width-records = n; accepted = accepted; unit-is = unit-is; table-is = table-is; there = there } in
+      let (q, placing-is, e5) = then-given (placing (settingBy g) freshState own) (withRoom (length area)) p e4 in
+      let (fits, e6) = given-next (ltb (length area) (recordSize * length (q .records))) _ _ _ p e5 in
+      let same : q ≡ p = given-same q p e6 in
+      (g, placing-is ∙ ap given same, subst (λ (o : meaning.Placed). recordSize * length (o .records) ≤ length area) same (ltb-false (length area) _ fits))
+
+  -- a page that is refused by 16 passed all that is judged before
+  left-by : (place : ℕ) → meant ≡ refused positionOutOfRange place
+      → (g : Grounds) × (placing (settingBy g) freshState own ≡ refused positionOutOfRange place)
+  left-by place e =
+      let (found, accepted, e1) = then-refused (judged file) _ positionOutOfRange place (λ early. omega (arith, file-low file _ place early)) e in
+      let (k, unit-is, e2) = then-refused unitHere _ positionOutOfRange place (λ early. omega (arith, unit-low _ _ _ resolution _ place early)) e1 in
+      let (n, table-is, e3) = then-refused (checkedTable table) _ positionOutOfRange place (λ early. omega (arith, table-low _ table 0 _ place early)) e2 in
+      let (there, e4) = refused-next (pageOutside page (found .pages)) noSuchPage 0 positionOutOfRange place _ (λ z. omega arith) e3 in
+      let g : Grounds = record { found = found; unit = k; width-records = n; accepted = accepted; unit-is = unit-is; table-is = table-is; there = there } in
+      (g, before (placing (settingBy g) freshState own) e4)
+    where
+      before : (answer : Answer meaning.Placed) → andThen answer (withRoom (length area)) ≡ refused positionOutOfRange place → answer ≡ refused positionOutOfRange place
+      before (refused n at) e = ap₂ refused (cc) (cc)
+      before (given q) e =
+          let (fits, e1) = refused-next (ltb (length area) (recordSize * length (q .records))) areaTooShort 0 positionOutOfRange place (given q) (λ z. omega arith) e in
+          absurd (given-not-refused q positionOutOfRange place e1)
+
+-- ---- what the contract of a call says
+
+module _ (κs : Lfts 3) (a x : Arguments) where
+  -- "A refusal leaves every byte of the output area unchanged"
+  pub refused-leaves-area : (r : Placed) → place-page.Post κs a r x → Refuses r → area x ≡ area a
+  refused-leaves-area r post refuses = post .1 .1 refuses
+
+  -- "h or v would leave …; place of that command": 16 is given only where all before it passed, and its place is that of the first of the page's own
+  -- commands at which h or v would leave its range
+  pub sixteen-is-the-pages : (place : ℕ) → place-page.Post κs a (Placed.Refused positionOutOfRange place) x
+      → (g : Grounds a) × LeavesAt (settingBy a g) place freshState (own a)
+  sixteen-is-the-pages place post =
+      let (g, left) = left-by a place (before (meant a) (sym (post .0))) in
+      (g, refused-place (settingBy a g) freshState (own a) positionOutOfRange place left .1)
+    where
+      before : (answer : Answer meaning.Placed) → placedCounts answer ≡ refused positionOutOfRange place → answer ≡ refused positionOutOfRange place
+      before (refused n at) e = ap₂ refused (cc) (cc)
+      before (given p) e = absurd (given-not-refused (countsOf p) positionOutOfRange place e)
+
+  module _ (records missing specials : ℕ) (post : place-page.Post κs a (Placed.Records records missing specials) x) where
+    -- the page that was placed
+    placed-page : (p : meaning.Placed) × (meant a ≡ given p) × (countsOf p ≡ record { records = records; missing = missing; specials = specials })
+    placed-page =
+        let (p, is, e) = then-given (meant a) (λ p. given (countsOf p)) _ (sym (post .0)) in
+        (p, is, given-same (countsOf p) _ e)
+
+    -- "20 bytes" a record: the area's first bytes are those of the page's records, as many as the answer says, and all bytes after them are as they were
+    pub accepted-writes-only-records :
+        (p : meaning.Placed)
+        × (meant a ≡ given p)
+        × (length (p .records) ≡ records)
+        × (take (recordSize * records) (area x) ≡ allBytes (p .records))
+        × (drop (recordSize * records) (area x) ≡ drop (recordSize * records) (area a))
+        × (length (area x) ≡ length (area a))
+    accepted-writes-only-records =
+        let (p, is, counts) = placed-page in
+        let many : length (p .records) ≡ records = ap (λ (c : Counts). c .records) counts in
+        let written = allBytes (p .records) in
+        let rest = drop (recordSize * records) (area a) in
+        let area-is : area x ≡ written ++ rest = post .1 .0 ∙ ap (areaAfter (area a)) is ∙ ap (λ (n : ℕ). written ++ drop (recordSize * n) (area a)) many in
+        let size : length written ≡ recordSize * records = all-length (p .records) ∙ ap (λ (n : ℕ). recordSize * n) many in (
+          p,
+          is,
+          many,
+          ap (take (recordSize * records)) area-is ∙ take-at written rest (recordSize * records) size,
+          ap (drop (recordSize * records)) area-is ∙ drop-at written rest (recordSize * records) size,
+          ap length area-is ∙ omega (arith, length-append written rest, length-drop (recordSize * records) (area a), size, placed-by a p is .2, many),
+        )
+
+    -- "invented counts": they are the numbers of the page's own commands that make a record, are missing characters, are specials
+    pub counts-are-the-pages-own :
+        (g : Grounds a)
+        × (records ≡ countOf ruleVisible (seenBy a g) + countOf (characterFound (settingBy a g)) (seenBy a g))
+        × (missing ≡ countOf (characterMissing (settingBy a g)) (seenBy a g))
+        × (specials ≡ countOf isSpecial (seenBy a g))
+    counts-are-the-pages-own =
+        let (p, is, counts) = placed-page in
+        let (g, placing-is, fits) = placed-by a p is in (
+          g,
+          sym (ap (λ (c : Counts). c .records) counts) ∙ records-counted (settingBy a g) freshState (own a) p placing-is,
+          sym (ap (λ (c : Counts). c .missing) counts) ∙ missing-counted (settingBy a g) freshState (own a) p placing-is,
+          sym (ap (λ (c : Counts). c .specials) counts) ∙ specials-counted (settingBy a g) freshState (own a) p placing-is,
+        )
+
+    -- "placing the first command and only skipping through the others": the area's records say, in order, what the page's commands that make one say
+    pub records-in-order :
+        (g : Grounds a)
+        × (written : List Record)
+        × (length written ≡ records)
+        × (take (recordSize * records) (area x) ≡ allBytes written)
+        × (map saidBy written ≡ map (saidOf (settingBy a g)) (those (makesRecord (settingBy a g)) (seenBy a g)))
+    records-in-order =
+        let (p, is, many, bytes, rest, long) = accepted-writes-only-records in
+        let (g, placing-is, fits) = placed-by a p is in
+        (g, p .records, many, bytes, counting.records-in-order (settingBy a g) freshState (own a) p placing-is)
+
+-- "Carrying a font, or a width, from one page or file into the next": answer and area are settled by the arguments' bytes and numbers, wherever they stand
+-- in memory, and by nothing else
+pub depends-on-arguments : (κs κs′ : Lfts 3) (a b x y : Arguments) (r s : Placed) → file a ≡ file b → table a ≡ table b → resolution a ≡ resolution b
+    → page a ≡ page b
+    → area a ≡ area b
+    → place-page.Post κs a r x
+    → place-page.Post κs′ b s y
+    → (r ≡ s) × (area x ≡ area y)
+depends-on-arguments κs κs′ a b x y r s files tables resolutions pages areas p q =
+    let same : meant a ≡ meant b = cc in
+    (placed-one (placedCounts (meant b)) r s (p .0 ∙ ap placedCounts same) (q .0), p .1 .0 ∙ ap₂ areaAfter areas same ∙ sym (q .1 .0))

@@ -1,0 +1,737 @@
+//! The examples of "Examples to hold it to", and cases beside them.
+
+use crate::check::check;
+use crate::fonts::name_of_font;
+use crate::lines::{answer, DESK, LONG};
+use crate::placing::{place, record_line};
+use crate::units::{round_distance, Unit};
+use crate::widths::{scale_width, Table};
+
+// ---- building files ----
+
+fn four(number: i64) -> [u8; 4] {
+    (number as u32).to_be_bytes()
+}
+
+/// A font definition; the number in `bytes` bytes.
+fn font(bytes: u8, number: i64, check_sum: u32, s: i64, d: i64, area: &str, name: &str) -> Vec<u8> {
+    let mut out = vec![242 + bytes];
+    out.extend(&four(number)[4 - usize::from(bytes)..]);
+    out.extend(check_sum.to_be_bytes());
+    out.extend(four(s));
+    out.extend(four(d));
+    out.extend([area.len() as u8, name.len() as u8]);
+    out.extend(area.bytes());
+    out.extend(name.bytes());
+    out
+}
+
+struct Parts {
+    first: Vec<u8>,          // between pre and the first bop
+    pages: Vec<Vec<u8>>,     // the insides of the pages
+    last: Vec<u8>,           // between post and post_post
+    units: [i64; 3],
+    depth: u16,
+}
+
+fn parts() -> Parts {
+    Parts { first: vec![], pages: vec![vec![]], last: vec![], units: [254, 1, 1000], depth: 0 }
+}
+
+impl Parts {
+    fn build(&self) -> Vec<u8> {
+        let units: Vec<u8> = self.units.iter().flat_map(|unit| four(*unit)).collect();
+        let mut out = vec![247, 2];
+        out.extend(&units);
+        out.push(0);
+        out.extend(&self.first);
+        let mut previous = -1;
+        for page in &self.pages {
+            let at = out.len() as i64;
+            out.push(139);
+            out.extend([0; 40]);
+            out.extend(four(previous));
+            out.extend(page);
+            out.push(140);
+            previous = at;
+        }
+        let post = out.len() as i64;
+        out.push(248);
+        out.extend(four(previous));
+        out.extend(&units);
+        out.extend([0; 8]);
+        out.extend(self.depth.to_be_bytes());
+        out.extend((self.pages.len() as u16).to_be_bytes());
+        out.extend(&self.last);
+        out.push(249);
+        out.extend(four(post));
+        out.push(2);
+        out.extend([223; 4]);
+        out
+    }
+
+    fn with_font(definition: Vec<u8>, page: Vec<u8>) -> Parts {
+        Parts { first: definition.clone(), pages: vec![page], last: definition, ..parts() }
+    }
+}
+
+fn m() -> Vec<u8> {
+    parts().build()
+}
+
+fn changed(mut file: Vec<u8>, at: usize, byte: u8) -> Vec<u8> {
+    file[at] = byte;
+    file
+}
+
+fn checked(file: &[u8]) -> String {
+    match check(file) {
+        Ok(s) => format!("{} {} {} {}", s.pages.len(), s.fonts.len(), s.greatest_depth, s.post),
+        Err(refusal) => refusal.to_string(),
+    }
+}
+
+fn placed(file: &[u8], table: &[u8], resolution: u32, page: u32, area: u64) -> Vec<String> {
+    match place(file, table, resolution, page, area) {
+        Ok(placed) => {
+            let mut lines: Vec<String> = placed.records.iter().map(record_line).collect();
+            let (missing, specials) = (placed.missing, placed.specials);
+            lines.push(format!("end {} {missing} {specials}", placed.records.len()));
+            lines
+        }
+        Err(refusal) => vec![refusal.to_string()],
+    }
+}
+
+fn width_record(check_sum: u32, scale: i64, code: u8, escapement: i16, width: [u8; 4]) -> Vec<u8> {
+    let mut out = check_sum.to_be_bytes().to_vec();
+    out.extend(four(scale));
+    out.extend([code, 0]);
+    out.extend(escapement.to_be_bytes());
+    out.extend(width);
+    out
+}
+
+fn tabled(table: &[u8]) -> String {
+    match Table::check(table) {
+        Ok(table) => format!("right {}", table.count()),
+        Err(refusal) => refusal.to_string(),
+    }
+}
+
+// ---- the examples of the document ----
+
+// "M is: [...]; 100 bytes."
+#[test]
+fn m_itself() {
+    let file = m();
+    assert_eq!(file.len(), 100);
+    assert_eq!([file[0], file[15], file[60], file[61], file[90]], [247, 139, 140, 248, 249]);
+    assert_eq!(file[96..], [223; 4]);
+}
+
+// "*M: 1 page, 0 fonts, depth 0, post 61. With five 223s: accepted."
+#[test]
+fn m_accepted() {
+    assert_eq!(checked(&m()), "1 0 0 61");
+    assert_eq!(checked(&[m(), vec![223]].concat()), "1 0 0 61");
+}
+
+// "*M less its last byte: 11 at 99. *First 95 bytes: 2 at 90. *Empty: 2 at 0."
+#[test]
+fn m_cut() {
+    assert_eq!(checked(&m()[..99]), "refused 11 at 99");
+    assert_eq!(checked(&m()[..95]), "refused 2 at 90");
+    assert_eq!(checked(&[]), "refused 2 at 0");
+}
+
+// "*Byte 60 made 142: 6 at 60. t made 2: 10 at 61. q made 60: 9 at 90. *bop* pointing to 0:
+// 9 at 15."
+#[test]
+fn m_changed() {
+    assert_eq!(checked(&changed(m(), 60, 142)), "refused 6 at 60");
+    assert_eq!(checked(&changed(m(), 89, 2)), "refused 10 at 61");
+    assert_eq!(checked(&changed(m(), 94, 60)), "refused 9 at 90");
+    let mut file = m();
+    file[56..60].copy_from_slice(&[0; 4]);
+    assert_eq!(checked(&file), "refused 9 at 15");
+}
+
+// "*pre* then a whole *post*: 5 at 15. Identification 3 in *pre*: 4 at 0."
+#[test]
+fn post_without_a_page_and_identification() {
+    assert_eq!(checked(&[&m()[..15], &m()[61..90]].concat()), "refused 5 at 15");
+    assert_eq!(checked(&Parts { pages: vec![], ..parts() }.build()), "refused 5 at 15");
+    assert_eq!(checked(&changed(m(), 1, 3)), "refused 4 at 0");
+}
+
+// "*M's units, R 500: K is 1/2, accepted; *R 501: 13. At 1/2, *1, -1, 3, -3 round to 1, -1,
+// 2, -2."
+#[test]
+fn one_half() {
+    assert_eq!(Unit::new(254, 1, 1000, 500).unwrap(), Unit { p: 1, q: 2 });
+    assert_eq!(Unit::new(254, 1, 1000, 501).unwrap_err().to_string(), "refused 13 at 0");
+    for (n, rounded) in [(1, 1), (-1, -1), (3, 2), (-3, -2), (0, 0)] {
+        assert_eq!(round_distance(254, 1, 1000, 500, n), Ok(rounded));
+    }
+    assert_eq!(placed(&m(), &[], 500, 1, 0), ["end 0 0 0"]);
+    assert_eq!(placed(&m(), &[], 501, 1, 0), ["refused 13 at 0"]);
+}
+
+// "*TeX's num 25,400,000, den 473,628,672, mag 1000, R 300: P/Q is 625/9,867,264."
+#[test]
+fn tex_units() {
+    let unit = Unit::new(25_400_000, 473_628_672, 1000, 300).unwrap();
+    assert_eq!(unit, Unit { p: 625, q: 9_867_264 });
+}
+
+// "K 3/10, D 2, s 100: [...]": the moves themselves are tried beside them, in placing; here
+// the same through a whole file.
+#[test]
+fn six_moves_in_a_file() {
+    for (step, hh) in [(5u8, 11), (251, -11)] {
+        let definition = font(1, 0, 1, 100, 100, "", "f");
+        let mut page = vec![171];
+        page.extend([143, step].repeat(6));
+        page.extend([vec![137], four(1).to_vec(), four(1).to_vec()].concat());
+        page.extend([157, step].repeat(6));
+        page.extend([vec![137], four(1).to_vec(), four(1).to_vec()].concat());
+        let file = Parts::with_font(definition, page).build();
+        let lines = placed(&file, &[], 300, 1, 40);
+        assert_eq!(lines, [format!("r 1 0 {hh} 0 1 1"), format!("r 1 0 {hh} {hh} 1 1"), "end 2 0 0".into()]);
+    }
+}
+
+// "*Width 0,9,199,28 at s 655,360: 400,497. *255,255,255,255 at 100: -1. *0,16,0,0 at
+// 8,388,609: 8,388,608."
+#[test]
+fn widths() {
+    assert_eq!(scale_width(655_360, [0, 9, 199, 28]), Ok(400_497));
+    assert_eq!(scale_width(100, [255, 255, 255, 255]), Ok(-1));
+    assert_eq!(scale_width(8_388_609, [0, 16, 0, 0]), Ok(8_388_608));
+    for (s, first) in [(0, 0), (134_217_728, 0), (1, 1), (1, 254)] {
+        assert_eq!(scale_width(s, [first, 0, 0, 0]).unwrap_err().to_string(), "refused 14 at 0");
+    }
+    // 134,217,727 four times halved is 8,388,607, alpha 256, beta 1.
+    assert_eq!(scale_width(134_217_727, [255, 0, 0, 0]), Ok(-256 * 8_388_607));
+    // 255 z is 2,139,094,785; / 256 is 8,355,839; plus 255 z is 2,147,450,624; / 256 is
+    // 8,388,479; plus 255 z:
+    assert_eq!(scale_width(134_217_727, [0, 255, 255, 255]), Ok(2_147_483_264));
+}
+
+/// A file of this test run alone.
+fn written(name: &str, bytes: &[u8]) -> String {
+    let folder = concat!(env!("CARGO_MANIFEST_DIR"), "/target/tried");
+    std::fs::create_dir_all(folder).unwrap();
+    let path = format!("{folder}/{name}");
+    std::fs::write(&path, bytes).unwrap();
+    path
+}
+
+fn printed_example() -> Vec<u8> {
+    let mut page = [143, 5].repeat(6);
+    page.push(132);
+    page.extend(four(4));
+    page.extend(four(7));
+    page.push(137);
+    page.extend(four(1));
+    page.extend(four(1));
+    Parts { pages: vec![page], ..parts() }.build()
+}
+
+// "M with six *right1* 5, *set_rule* 4 7, *put_rule* 1 1 put before *eop* (pointers mended),
+// empty table, R 300, page 1, prints in whole:"
+#[test]
+fn the_printed_example() {
+    let file = written("printed.dvi", &printed_example());
+    let table = written("empty.table", &[]);
+    let line = format!("place {file} {table} 300 1 60000");
+    let whole = "r 1 0 9 0 2 3\nr 1 0 11 0 1 1\nend 2 0 0";
+    assert_eq!(answer(line.as_bytes(), DESK), whole);
+    assert_eq!(answer(line.as_bytes(), LONG), whole);
+}
+
+// ---- beside the document's examples ----
+
+#[test]
+fn order_at_one_command() {
+    // 2 before 4: the first command is not pre and does not fit.
+    assert_eq!(checked(&[139]), "refused 2 at 0");
+    // 3 before 4.
+    assert_eq!(checked(&[250]), "refused 3 at 0");
+    assert_eq!(checked(&[138]), "refused 4 at 0");
+    assert_eq!(checked(&m()[..14]), "refused 2 at 0");
+    assert_eq!(checked(&m()[..15]), "refused 2 at 15");
+    assert_eq!(checked(&m()[..60]), "refused 2 at 60");
+    assert_eq!(checked(&m()[..90]), "refused 2 at 90");
+    assert_eq!(checked(&changed(m(), 60, 255)), "refused 3 at 60");
+    // 4: each unit, zero and negative.
+    for at in [2, 6, 10] {
+        let mut file = m();
+        file[at..at + 4].copy_from_slice(&[0; 4]);
+        assert_eq!(checked(&file), "refused 4 at 0");
+        file[at..at + 4].copy_from_slice(&[128, 0, 0, 1]);
+        assert_eq!(checked(&file), "refused 4 at 0");
+    }
+    // 5 before 6 and 8: pop, eop, a selection and a character outside a page.
+    for opcode in [142, 141, 140, 171, 65, 143, 147, 248, 249] {
+        let mut file = m();
+        file[15] = opcode;
+        assert_eq!(checked(&file), "refused 5 at 15", "opcode {opcode}");
+    }
+    // A special outside a page; bop, pre, post and post_post inside.
+    let special = Parts { first: vec![239, 0], ..parts() };
+    assert_eq!(checked(&special.build()), "refused 5 at 15");
+    for opcode in [139, 247, 248, 249] {
+        let inside = Parts { pages: vec![[vec![opcode], vec![0; 44]].concat()], ..parts() };
+        assert_eq!(checked(&inside.build()), "refused 5 at 60", "opcode {opcode}");
+    }
+    // 9 before 10 at post and post_post.
+    assert_eq!(checked(&changed(changed(m(), 65, 16), 89, 2)), "refused 9 at 61");
+    assert_eq!(checked(&changed(changed(m(), 94, 60), 95, 3)), "refused 9 at 90");
+    assert_eq!(checked(&changed(m(), 95, 3)), "refused 10 at 90");
+    for at in [69, 73, 77, 87] {
+        assert_eq!(checked(&changed(m(), at, 77)), "refused 10 at 61");
+    }
+    // l, u and the ten counts are free.
+    for at in (16..56).chain(78..86) {
+        assert_eq!(checked(&changed(m(), at, 77)), "1 0 0 61");
+    }
+    // 7 before 9 before 10 at post_post.
+    let left_out = Parts { first: font(1, 7, 1, 1, 1, "", "n"), ..parts() }.build();
+    let end = left_out.len() - 10;
+    assert_eq!(checked(&left_out), format!("refused 7 at {end}"));
+    assert_eq!(checked(&changed(left_out, end + 5, 3)), format!("refused 7 at {end}"));
+}
+
+#[test]
+fn the_tail() {
+    assert_eq!(checked(&m()[..96]), "refused 11 at 96");
+    assert_eq!(checked(&changed(m(), 96, 0)), "refused 11 at 96");
+    assert_eq!(checked(&changed(m(), 99, 222)), "refused 11 at 99");
+    assert_eq!(checked(&[m(), vec![0]].concat()), "refused 11 at 100");
+    assert_eq!(checked(&changed(m(), 97, 0)[..98]), "refused 11 at 97");
+    // The length, before all.
+    let mut long = m();
+    long.resize(16_777_216, 223);
+    assert_eq!(checked(&long), "1 0 0 61");
+    long.push(223);
+    assert_eq!(checked(&long), "refused 1 at 0");
+    assert_eq!(checked(&vec![0; 16_777_217]), "refused 1 at 0");
+}
+
+#[test]
+fn the_stack() {
+    let deep = |pushes: usize, pops: usize, depth: u16| {
+        let page = [vec![141; pushes], vec![142; pops]].concat();
+        checked(&Parts { pages: vec![page], depth, ..parts() }.build())
+    };
+    assert_eq!(deep(100, 100, 100), "1 0 100 261");
+    assert_eq!(deep(101, 101, 101), "refused 6 at 160");
+    assert_eq!(deep(2, 1, 2), "refused 6 at 63");
+    assert_eq!(deep(1, 2, 1), "refused 6 at 62");
+    assert_eq!(deep(1, 1, 0), "refused 10 at 63");
+    assert_eq!(deep(1, 1, 2), "refused 10 at 63");
+    // The greatest depth is of all pages.
+    let two = Parts { pages: vec![vec![141, 141, 142, 142], vec![141, 142]], depth: 2, ..parts() };
+    assert_eq!(checked(&two.build()), "2 0 2 113");
+}
+
+#[test]
+fn many_pages() {
+    let most = Parts { pages: vec![vec![]; 65_535], ..parts() };
+    assert_eq!(checked(&most.build()), format!("65535 0 0 {}", 15 + 46 * 65_535));
+    let more = Parts { pages: vec![vec![]; 65_536], ..parts() };
+    assert_eq!(checked(&more.build()), format!("refused 10 at {}", 15 + 46 * 65_536));
+}
+
+#[test]
+fn font_rules() {
+    let given = |first: Vec<u8>, last: Vec<u8>| checked(&Parts { first, last, ..parts() }.build());
+    let n = |bytes, number| font(bytes, number, 9, 100, 100, "a", "bc");
+    // 19 bytes in the first form.
+    assert_eq!(given(n(1, 255), n(1, 255)), "1 1 0 80");
+    assert_eq!(given(n(4, 255), n(1, 255)), "1 1 0 83");
+    assert_eq!(given(n(1, 255), n(3, 255)), "1 1 0 80");
+    assert_eq!(given(n(2, 256), n(2, 256)), "refused 7 at 15");
+    assert_eq!(given(n(4, -1), n(4, -1)), "refused 7 at 15");
+    for size in [0, -1, 134_217_728] {
+        let wrong = font(1, 1, 9, size, 100, "", "");
+        assert_eq!(given(wrong.clone(), wrong), "refused 7 at 15");
+        let wrong = font(1, 1, 9, 100, size, "", "");
+        assert_eq!(given(wrong.clone(), wrong), "refused 7 at 15");
+    }
+    let greatest = font(1, 1, 9, 134_217_727, 134_217_727, "", "");
+    assert_eq!(given(greatest.clone(), greatest), "1 1 0 77");
+    // Twice before post; twice after; new after.
+    assert_eq!(given([n(1, 1), n(1, 1)].concat(), n(1, 1)), "refused 7 at 34");
+    assert_eq!(given(n(1, 1), [n(1, 1), n(1, 1)].concat()), "refused 7 at 128");
+    assert_eq!(given(n(1, 1), n(1, 2)), "refused 7 at 109");
+    assert_eq!(given(vec![], n(1, 2)), "refused 7 at 90");
+    // Unlike after post.
+    for unlike in [
+        font(1, 1, 8, 100, 100, "a", "bc"),
+        font(1, 1, 9, 101, 100, "a", "bc"),
+        font(1, 1, 9, 100, 101, "a", "bc"),
+        font(1, 1, 9, 100, 100, "ab", "c"),
+        font(1, 1, 9, 100, 100, "a", "b"),
+        font(1, 1, 9, 100, 100, "a", "bd"),
+    ] {
+        assert_eq!(given(n(1, 1), unlike), "refused 7 at 109");
+    }
+    // 64 and 65 fonts; the order after post may differ.
+    let many = |count: i64| -> Vec<u8> { (0..count).flat_map(|k| n(1, k)).collect() };
+    let back: Vec<u8> = (0..64).rev().flat_map(|k| n(1, k)).collect();
+    assert_eq!(given(many(64), back), format!("1 64 0 {}", 61 + 64 * 19));
+    assert_eq!(given(many(65), many(65)), format!("refused 7 at {}", 15 + 64 * 19));
+    // Between pages and inside a page, nop too.
+    let inside = Parts { pages: vec![[vec![138], n(1, 3), vec![174, 65]].concat(), vec![]], last: n(2, 3), ..parts() };
+    assert_eq!(checked(&inside.build()), "2 1 0 129");
+}
+
+#[test]
+fn selection_and_characters() {
+    let definition = font(1, 200, 9, 100, 100, "", "");
+    let given = |page: Vec<u8>| checked(&Parts::with_font(definition.clone(), page).build());
+    // The page's inside begins at 15 + 16 + 45 = 76.
+    assert_eq!(given(vec![235, 200, 0]), "1 1 0 80");
+    assert_eq!(given(vec![238, 0, 0, 0, 200, 127]), "1 1 0 83");
+    assert_eq!(given(vec![238, 255, 255, 255, 200]), "refused 8 at 76");
+    assert_eq!(given(vec![236, 1, 200]), "refused 8 at 76");
+    assert_eq!(given(vec![171]), "refused 8 at 76");
+    assert_eq!(given(vec![0]), "refused 8 at 76");
+    assert_eq!(given(vec![133, 0]), "refused 8 at 76");
+    // Defined only later; selected only on the page before.
+    let late = Parts {
+        pages: vec![[vec![235, 200], definition.clone()].concat()],
+        last: definition.clone(),
+        ..parts()
+    };
+    assert_eq!(checked(&late.build()), "refused 8 at 60");
+    let before = Parts {
+        pages: vec![vec![235, 200, 65], vec![65]],
+        ..Parts::with_font(definition.clone(), vec![])
+    };
+    assert_eq!(checked(&before.build()), "refused 8 at 125");
+}
+
+#[test]
+fn names() {
+    let first = font(2, 5, 9, 100, 100, "area:", "name");
+    let file = Parts { last: font(1, 5, 9, 100, 100, "area:", "name"), ..Parts::with_font(first, vec![]) }.build();
+    let part = name_of_font(&file, 5).unwrap();
+    assert_eq!(part, 32..41);
+    assert_eq!(&file[part], b"area:name");
+    assert_eq!(name_of_font(&file, 4).unwrap_err().to_string(), "refused 8 at 0");
+    assert_eq!(name_of_font(&file, -251).unwrap_err().to_string(), "refused 8 at 0");
+    assert_eq!(name_of_font(&file[..20], 5).unwrap_err().to_string(), "refused 2 at 15");
+}
+
+#[test]
+fn rounding_refusals() {
+    let refused = |num, den, mag, r| round_distance(num, den, mag, r, 1).unwrap_err().to_string();
+    assert_eq!(refused(0, 1, 1, 0), "refused 4 at 0");
+    assert_eq!(refused(1, -1, 1, 1), "refused 4 at 0");
+    assert_eq!(refused(1, 1, i32::MIN, 1), "refused 4 at 0");
+    assert_eq!(refused(i32::MAX, 1, i32::MAX, 0), "refused 12 at 0");
+    assert_eq!(refused(1, 1, 1, 10_001), "refused 12 at 0");
+    assert_eq!(refused(i32::MAX, 1, i32::MAX, 10_000), "refused 13 at 0");
+    // P too great, though K is small enough: num is a prime.
+    assert_eq!(refused(2_147_483_647, 2_147_483_646, 1, 1), "refused 13 at 0");
+    // The greatest P allowed and one more.
+    assert!(Unit::new(1_073_741_823, 2_147_483_647, 1, 1).is_ok());
+    assert!(Unit::new(1_073_741_827, 2_147_483_647, 1, 1).is_err());
+    assert_eq!(round_distance(254, 1, 1000, 500, i32::MIN), Ok(-1_073_741_824));
+    assert_eq!(round_distance(254, 1, 1000, 500, i32::MAX), Ok(1_073_741_824));
+}
+
+#[test]
+fn tables() {
+    let good = |code| width_record(1, 100, code, -3, [0, 16, 0, 0]);
+    assert_eq!(tabled(&[]), "right 0");
+    assert_eq!(tabled(&good(1)), "right 1");
+    assert_eq!(tabled(&[good(1), good(2)].concat()), "right 2");
+    assert_eq!(tabled(&[good(1), good(1)].concat()), "refused 14 at 16");
+    assert_eq!(tabled(&[good(2), good(1)].concat()), "refused 14 at 16");
+    assert_eq!(tabled(&good(1)[..15]), "refused 14 at 0");
+    assert_eq!(tabled(&[good(1), vec![0]].concat()), "refused 14 at 16");
+    assert_eq!(tabled(&changed(good(1), 9, 1)), "refused 14 at 0");
+    assert_eq!(tabled(&changed(good(1), 12, 1)), "refused 14 at 0");
+    assert_eq!(tabled(&changed(good(1), 12, 255)), "right 1");
+    assert_eq!(tabled(&width_record(1, 0, 1, 0, [0; 4])), "refused 14 at 0");
+    assert_eq!(tabled(&width_record(1, 134_217_728, 1, 0, [0; 4])), "refused 14 at 0");
+    // As bytes: a check sum of 255... is above 127...
+    let rising = [width_record(0x7fff_ffff, 5, 9, 0, [0; 4]), width_record(0xffff_ffff, 1, 0, 0, [0; 4])];
+    assert_eq!(tabled(&rising.concat()), "right 2");
+
+    let table = [good(1), good(255), width_record(2, 100, 1, 7, [255, 1, 2, 3])].concat();
+    let table = Table::check(&table).unwrap();
+    assert_eq!(table.look_up(1, 100, 1).unwrap().escapement, -3);
+    assert_eq!(table.look_up(1, 100, -1).unwrap().width, [0, 16, 0, 0]);
+    assert_eq!(table.look_up(2, 100, 257).unwrap().width, [255, 1, 2, 3]);
+    assert_eq!(table.look_up(2, 100, -255).unwrap().escapement, 7);
+    assert_eq!(table.look_up(1, 100, 2), None);
+    assert_eq!(table.look_up(1, 101, 1), None);
+    assert_eq!(table.look_up(3, 100, 1), None);
+}
+
+fn character_table() -> Vec<u8> {
+    // At s 100: widths 100, -100 and 50.
+    [
+        width_record(9, 100, 65, 31, [0, 16, 0, 0]),
+        width_record(9, 100, 66, -30, [255, 240, 0, 0]),
+        width_record(9, 100, 200, 40, [0, 8, 0, 0]),
+    ]
+    .concat()
+}
+
+fn page_of_font_3(page: Vec<u8>) -> Vec<u8> {
+    Parts::with_font(font(1, 3, 9, 100, 100, "", ""), page).build()
+}
+
+#[test]
+fn characters_placed() {
+    let page = vec![
+        174, // font 3
+        65, // hh 0; then h 100, hh 31
+        65, // hh 31; then h 200, hh 62
+        128, 200, // hh 62; then h 250, hh 102, held to 75 + 2
+        67, // missing
+        133, 66, // put at hh 77
+        66, // hh 77; then h 150, hh 47 (45 + 2)
+        239, 2, 1, 2, // special
+        136, 255, 255, 255, 65, // put4 of a negative code
+        129, 1, 65, // set2 of 321; then h 250, hh 78, held to 77
+        135, 255, 255, 200, // put3
+        240, 0, 0, 138, // special, nop
+        134, 0, 67, // missing
+    ];
+    let lines = [
+        "c 1 3 0 0 65 31",
+        "c 1 3 31 0 65 31",
+        "c 1 3 62 0 200 40",
+        "c 1 3 77 0 66 -30",
+        "c 1 3 77 0 66 -30",
+        "c 1 3 47 0 -191 31",
+        "c 1 3 47 0 321 31",
+        "c 1 3 77 0 16777160 40",
+        "end 8 2 2",
+    ];
+    let file = page_of_font_3(page);
+    assert_eq!(placed(&file, &character_table(), 300, 1, 160), lines);
+    assert_eq!(placed(&file, &character_table(), 300, 1, 159), ["refused 17 at 0"]);
+    assert_eq!(placed(&file, &[], 300, 1, 0), ["end 0 10 2"]);
+}
+
+fn put_rule() -> Vec<u8> {
+    [vec![137], four(1).to_vec(), four(1).to_vec()].concat()
+}
+
+#[test]
+fn registers_and_stack_placed() {
+    let rule = put_rule();
+    let page = [
+        &[148, 10][..], // w 10, h 10
+        &[153, 30],     // x 30, h 40
+        &[147],         // h 50
+        &[152],         // h 80, hh 24
+        &[162, 20],     // y 20, v 20
+        &[167, 226],    // z -30, v -10
+        &[161],         // v 10
+        &[166],         // v -20, vv -6
+        &rule,
+        &[141],
+        &[148, 0, 167, 0, 147, 166], // w 0, z 0
+        &[143, 20, 157, 20],         // h 100, hh 30; v 0, vv 0
+        &rule,
+        &[142],
+        &rule,
+        &[147, 166], // h 90, hh 27; v -50, vv -15
+        &rule,
+    ]
+    .concat();
+    let file = Parts { pages: vec![vec![], page], depth: 1, ..parts() }.build();
+    let lines = ["r 2 0 24 -6 1 1", "r 2 0 30 0 1 1", "r 2 0 24 -6 1 1", "r 2 0 27 -15 1 1", "end 4 0 0"];
+    assert_eq!(placed(&file, &[], 300, 2, 80), lines);
+    assert_eq!(placed(&file, &[], 300, 1, 0), ["end 0 0 0"]);
+}
+
+// "*push* saves all eight numbers. [...] The font is not saved."
+#[test]
+fn the_pixel_pair_is_saved() {
+    let mut page = vec![174];
+    page.extend([143, 5].repeat(6)); // h 30, hh 11
+    page.push(141);
+    page.extend([143, 100]); // far: h 130, hh 39
+    page.push(142);
+    page.extend(put_rule());
+    let file = Parts { depth: 1, ..Parts::with_font(font(1, 3, 9, 100, 100, "", ""), page) };
+    assert_eq!(placed(&file.build(), &[], 300, 1, 20), ["r 1 0 11 0 1 1", "end 1 0 0"]);
+    let page = [vec![141, 174, 142], vec![65]].concat();
+    let file = Parts { depth: 1, ..Parts::with_font(font(1, 3, 9, 100, 100, "", ""), page) };
+    assert_eq!(placed(&file.build(), &character_table(), 300, 1, 20), ["c 1 3 0 0 65 31", "end 1 0 0"]);
+}
+
+#[test]
+fn rules_without_area_and_far_sides() {
+    let rule = |opcode: u8, a: i64, b: i64| [vec![opcode], four(a).to_vec(), four(b).to_vec()].concat();
+    let page = [
+        rule(132, 0, 10),  // h 10
+        rule(132, 5, -20), // h -10
+        rule(137, -1, 5),
+        rule(137, 5, 0),
+        rule(137, 2_147_483_647, 3), // at hh -3
+    ]
+    .concat();
+    let file = Parts { pages: vec![page], ..parts() }.build();
+    let lines = ["r 1 0 -3 0 644245095 1", "end 1 0 0"];
+    assert_eq!(placed(&file, &[], 300, 1, 20), lines);
+}
+
+#[test]
+fn order_of_placing() {
+    // h leaves the range at 60 + 9 + 5; one record before it.
+    let far = [put_rule(), vec![151, 127, 255, 255, 255], vec![147]].concat();
+    let file = Parts { pages: vec![far], ..parts() }.build();
+    let wrong = [0; 3];
+    assert_eq!(placed(&file[..99], &wrong, 0, 0, 0), ["refused 2 at 76"]);
+    assert_eq!(placed(&file, &wrong, 0, 0, 0), ["refused 12 at 0"]);
+    assert_eq!(placed(&file, &wrong, 10_001, 0, 0), ["refused 12 at 0"]);
+    assert_eq!(placed(&file, &wrong, 501, 0, 0), ["refused 13 at 0"]);
+    assert_eq!(placed(&file, &wrong, 300, 0, 0), ["refused 14 at 0"]);
+    assert_eq!(placed(&file, &[], 300, 0, 0), ["refused 15 at 0"]);
+    assert_eq!(placed(&file, &[], 300, 2, 0), ["refused 15 at 0"]);
+    assert_eq!(placed(&file, &[], 300, u32::MAX, 0), ["refused 15 at 0"]);
+    assert_eq!(placed(&file, &[], 300, 1, 0), ["refused 16 at 74"]);
+    // w may hold -2,147,483,648; h may not.
+    let lowest = |h: u8| {
+        let page = vec![143, h, 151, 128, 0, 0, 0];
+        placed(&Parts { pages: vec![page], ..parts() }.build(), &[], 300, 1, 0)
+    };
+    assert_eq!(lowest(0), ["refused 16 at 62"]);
+    assert_eq!(lowest(1), ["end 0 0 0"]);
+    // A set character that leaves the range.
+    let page = [vec![174, 146], four(2_147_483_600).to_vec(), vec![133, 65, 65]].concat();
+    assert_eq!(placed(&page_of_font_3(page), &character_table(), 300, 1, 0), ["refused 16 at 84"]);
+}
+
+// ---- lines ----
+
+#[test]
+fn lines_answered() {
+    let file = written("m.dvi", &m());
+    let with_font = written("font.dvi", &page_of_font_3(vec![174, 65]));
+    let table = written("three.table", &character_table());
+    let ask = |line: &str| {
+        let line = line.replace("FONT.DVI", &with_font).replace("M.DVI", &file).replace("TABLE", &table);
+        answer(line.as_bytes(), DESK)
+    };
+    for (line, wanted) in [
+        ("read M.DVI 0", "command 247 1 15"),
+        ("read M.DVI 15", "command 139 16 60"),
+        ("read M.DVI 60", "command 140 61 61"),
+        ("read M.DVI 90", "command 249 91 96"),
+        ("read M.DVI 96", "command 223 97 97"),
+        ("read M.DVI 100", "refused 2 at 100"),
+        ("read M.DVI 18446744073709551615", "refused 2 at 18446744073709551615"),
+        ("read M.DVI 18446744073709551616", "no input"),
+        ("read M.DVI -1", "no input"),
+        ("read M.DVI", "no input"),
+        ("check M.DVI", "accepted 1 0 0 61"),
+        ("check M.DVI ", "no input"),
+        ("check  M.DVI", "no input"),
+        (" check M.DVI", "no input"),
+        ("check", "no input"),
+        ("", "no input"),
+        ("CHECK M.DVI", "no input"),
+        ("check M.DVI\r", "no input"),
+        ("check /nowhere/at/all", "no input"),
+        ("check /", "no input"),
+        ("name FONT.DVI 3", "name 31 31"),
+        ("name FONT.DVI 4", "refused 8 at 0"),
+        ("name FONT.DVI -2147483648", "refused 8 at 0"),
+        ("name FONT.DVI 2147483648", "no input"),
+        ("name FONT.DVI -2147483649", "no input"),
+        ("round 254 1 1000 500 -3", "rounded -2"),
+        ("round 254 1 1000 500 3", "rounded 2"),
+        ("round 254 1 1000 500 -0", "rounded 0"),
+        ("round 254 1 1000 500 +3", "no input"),
+        ("round 254 1 1000 500 3.0", "no input"),
+        ("round 254 1 1000 501 3", "refused 13 at 0"),
+        ("round 254 1 1000 4294967295 3", "refused 12 at 0"),
+        ("round 254 1 1000 4294967296 3", "no input"),
+        ("round -254 1 1000 0 3", "refused 4 at 0"),
+        ("scale 655360 0 9 199 28", "width 400497"),
+        ("scale 100 255 255 255 255", "width -1"),
+        ("scale 0 0 0 0 0", "refused 14 at 0"),
+        ("scale 1 256 0 0 0", "no input"),
+        ("scale 1 0 0 0", "no input"),
+        ("table TABLE", "right 3"),
+        ("table M.DVI", "refused 14 at 0"),
+        ("look TABLE 9 100 65", "found 31 0 16 0 0"),
+        ("look TABLE 9 100 -191", "found 31 0 16 0 0"),
+        ("look TABLE 9 100 66", "found -30 255 240 0 0"),
+        ("look TABLE 9 0 66", "absent"),
+        ("look TABLE 9 100 67", "absent"),
+        ("look TABLE -9 100 67", "no input"),
+        ("look M.DVI 9 100 67", "refused 14 at 0"),
+        ("place FONT.DVI TABLE 300 1 20", "c 1 3 0 0 65 31\nend 1 0 0"),
+        ("place FONT.DVI TABLE 300 1 19", "refused 17 at 0"),
+        ("place FONT.DVI TABLE 300 1 60000", "c 1 3 0 0 65 31\nend 1 0 0"),
+        ("place FONT.DVI TABLE 300 1 60001", "no input"),
+        ("place FONT.DVI TABLE 300 2 20", "refused 15 at 0"),
+        ("place FONT.DVI nowhere 300 1 20", "no input"),
+    ] {
+        assert_eq!(ask(line), wanted, "{line:?}");
+    }
+}
+
+#[test]
+fn lengths_of_files() {
+    let mut long = m();
+    long.resize(262_144, 223);
+    let path = written("desk.dvi", &long);
+    let line = format!("check {path}");
+    assert_eq!(answer(line.as_bytes(), DESK), "accepted 1 0 0 61");
+    long.push(223);
+    std::fs::write(&path, &long).unwrap();
+    assert_eq!(answer(line.as_bytes(), DESK), "no input");
+    assert_eq!(answer(line.as_bytes(), LONG), "accepted 1 0 0 61");
+    long.resize(16_777_217, 223);
+    std::fs::write(&path, &long).unwrap();
+    assert_eq!(answer(line.as_bytes(), LONG), "refused 1 at 0");
+    assert_eq!(answer(format!("read {path} 99999999").as_bytes(), LONG), "refused 1 at 0");
+    std::fs::remove_file(&path).unwrap();
+
+    let path = written("desk.table", &vec![255; 65_537]);
+    let line = format!("table {path}");
+    assert_eq!(answer(line.as_bytes(), DESK), "no input");
+    assert_eq!(answer(line.as_bytes(), LONG), "refused 14 at 0");
+}
+
+// Files changed at a few bytes by chance are answered, whatever the answer.
+#[test]
+fn changed_by_chance() {
+    let page = vec![
+        174, 65, 128, 200, 141, 143, 5, 66, 148, 10, 147, 162, 20, 161, 142, 239, 1, 0, 131, 0, 0, 0, 65, 170, 0,
+        0, 1, 0, 146, 0, 1, 0, 0,
+    ];
+    let base = Parts { depth: 1, ..Parts::with_font(font(1, 3, 9, 100, 100, "a", "b"), page) }.build();
+    assert_eq!(placed(&base, &character_table(), 300, 1, 60_000).last().unwrap(), "end 4 0 1");
+    let mut seed: u64 = 1;
+    let mut chance = |below: usize| {
+        seed = seed.wrapping_mul(6_364_136_223_846_793_005).wrapping_add(1_442_695_040_888_963_407);
+        (seed >> 33) as usize % below
+    };
+    for _ in 0..100_000 {
+        let mut file = base.clone();
+        for _ in 0..1 + chance(3) {
+            let at = if chance(2) == 0 { chance(file.len()) } else { 77 + chance(34) };
+            file[at] = chance(256) as u8;
+        }
+        if chance(10) == 0 {
+            file.truncate(chance(file.len()));
+        }
+        placed(&file, &character_table(), 1 + chance(500) as u32, 1, 60_000);
+    }
+}

@@ -1,0 +1,76 @@
+//! Font definitions and the rules for one of them.
+
+use crate::check::check;
+use crate::numbers::{signed_if_four, unsigned};
+use crate::refusal::{refusal, Refusal};
+use std::ops::Range;
+
+/// "Fonts: number 0 to 255, at most 64 of them".
+pub const MOST_FONTS: usize = 64;
+
+/// "scale s and design size d each 1 to 134,217,727".
+pub const GREATEST_SCALE: u32 = 134_217_727;
+
+/// k, c[4] s[4] d[4] a[1] l[1] n[a+l].
+#[derive(Debug, Clone, PartialEq, Eq)]
+pub struct FontDefinition {
+    pub number: i32,
+    pub check_sum: u32,
+    pub scale: u32,
+    pub design_size: u32,
+    pub area_length: u8,
+    pub name_length: u8,
+    /// The part of the file that holds the name, area first.
+    pub name: Range<usize>,
+}
+
+impl FontDefinition {
+    /// From a definition's parameter bytes, the first of which stands at `place` in the file.
+    pub fn read(parameters: &[u8], bytes_of_number: usize, place: usize) -> FontDefinition {
+        let (number, rest) = parameters.split_at(bytes_of_number);
+        FontDefinition {
+            number: signed_if_four(number),
+            check_sum: unsigned(&rest[0..4]),
+            scale: unsigned(&rest[4..8]),
+            design_size: unsigned(&rest[8..12]),
+            area_length: rest[12],
+            name_length: rest[13],
+            name: place + bytes_of_number + 14..place + parameters.len(),
+        }
+    }
+
+    /// "number 0 to 255 [...] scale s and design size d each 1 to 134,217,727."
+    pub fn in_range(&self) -> bool {
+        (0..=255).contains(&self.number)
+            && (1..=GREATEST_SCALE).contains(&self.scale)
+            && (1..=GREATEST_SCALE).contains(&self.design_size)
+    }
+
+    /// "with equal check sum, s, d, a, l and name; the form (one to four bytes for the
+    /// number) may differ."
+    pub fn same_font(&self, other: &FontDefinition, file: &[u8]) -> bool {
+        self.number == other.number
+            && self.check_sum == other.check_sum
+            && self.scale == other.scale
+            && self.design_size == other.design_size
+            && self.area_length == other.area_length
+            && self.name_length == other.name_length
+            && file[self.name.clone()] == file[other.name.clone()]
+    }
+}
+
+/// The definition of this number among those given.
+pub fn find(fonts: &[FontDefinition], number: i32) -> Option<&FontDefinition> {
+    fonts.iter().find(|font| font.number == number)
+}
+
+/// "The name is given back as the part of the caller's file that holds it, area first, not
+/// as a copy; of a font's two definitions the one before *post* is meant."
+/// "the name of an undefined font number is 8 with place 0, after 1 to 11".
+pub fn name_of_font(file: &[u8], number: i32) -> Result<Range<usize>, Refusal> {
+    let survey = check(file)?;
+    match find(&survey.fonts, number) {
+        Some(font) => Ok(font.name.clone()),
+        None => Err(refusal(8, 0)),
+    }
+}

@@ -1,0 +1,151 @@
+//! The lines asked and the lines answered.
+
+use crate::check::check;
+use crate::commands::read_command;
+use crate::fonts::name_of_font;
+use crate::placing::{place, record_line};
+use crate::refusal::Refusal;
+use crate::units::round_distance;
+use crate::widths::{scale_width, Table};
+use std::ffi::OsStr;
+use std::fs::File;
+use std::io::Read;
+use std::os::unix::ffi::OsStrExt;
+
+const NO_INPUT: &str = "no input";
+const GREATEST_AREA: u64 = 60_000;
+
+/// How long the files may be; none when any length will do.
+#[derive(Clone, Copy)]
+pub struct Limits {
+    pub dvi: Option<u64>,
+    pub table: Option<u64>,
+}
+
+pub const DESK: Limits = Limits { dvi: Some(262_144), table: Some(65_536) };
+pub const LONG: Limits = Limits { dvi: None, table: None };
+
+/// The line could not be understood, or a file not be read.
+struct NoInput;
+
+/// The answer to one line (without its line end); no line end stands after the last line.
+pub fn answer(line: &[u8], limits: Limits) -> String {
+    match asked(line, limits) {
+        Ok(Ok(lines)) => lines,
+        Ok(Err(refusal)) => refusal.to_string(),
+        Err(NoInput) => NO_INPUT.to_string(),
+    }
+}
+
+fn asked(line: &[u8], limits: Limits) -> Result<Result<String, Refusal>, NoInput> {
+    let words: Vec<&[u8]> = line.split(|byte| *byte == b' ').collect();
+    let dvi = |name: &[u8]| contents(name, limits.dvi);
+    let table = |name: &[u8]| contents(name, limits.table);
+    match words[..] {
+        [b"read", file, at] => {
+            let at = plain(at, u64::MAX)?;
+            let file = dvi(file)?;
+            Ok(read_command(&file, at)
+                .map(|c| format!("command {} {} {}", c.opcode, c.before, c.after)))
+        }
+        [b"check", file] => {
+            let file = dvi(file)?;
+            Ok(check(&file).map(|survey| {
+                let (pages, fonts) = (survey.pages.len(), survey.fonts.len());
+                format!("accepted {pages} {fonts} {} {}", survey.greatest_depth, survey.post)
+            }))
+        }
+        [b"name", file, font] => {
+            let font = signed_word(font)?;
+            let file = dvi(file)?;
+            Ok(name_of_font(&file, font).map(|part| format!("name {} {}", part.start, part.end)))
+        }
+        [b"round", num, den, mag, resolution, n] => {
+            let (num, den, mag) = (signed_word(num)?, signed_word(den)?, signed_word(mag)?);
+            let (resolution, n) = (unsigned_word(resolution)?, signed_word(n)?);
+            Ok(round_distance(num, den, mag, resolution, n).map(|n| format!("rounded {n}")))
+        }
+        [b"scale", s, b0, b1, b2, b3] => {
+            let s = unsigned_word(s)?;
+            let width = [byte(b0)?, byte(b1)?, byte(b2)?, byte(b3)?];
+            Ok(scale_width(s, width).map(|n| format!("width {n}")))
+        }
+        [b"table", file] => {
+            let file = table(file)?;
+            Ok(Table::check(&file).map(|table| format!("right {}", table.count())))
+        }
+        [b"look", file, check_sum, scale, code] => {
+            let (check_sum, scale) = (unsigned_word(check_sum)?, unsigned_word(scale)?);
+            let code = signed_word(code)?;
+            let file = table(file)?;
+            Ok(Table::check(&file).map(|table| match table.look_up(check_sum, scale, code) {
+                Some(found) => {
+                    let [b0, b1, b2, b3] = found.width;
+                    format!("found {} {b0} {b1} {b2} {b3}", found.escapement)
+                }
+                None => "absent".to_string(),
+            }))
+        }
+        [b"place", file, widths, resolution, page, area] => {
+            let (resolution, page) = (unsigned_word(resolution)?, unsigned_word(page)?);
+            let area = plain(area, GREATEST_AREA)?;
+            let (file, widths) = (dvi(file)?, table(widths)?);
+            Ok(place(&file, &widths, resolution, page, area).map(|placed| {
+                let mut lines: Vec<String> = placed.records.iter().map(record_line).collect();
+                // "then `end` with records, missing, specials"
+                let records = placed.records.len();
+                lines.push(format!("end {records} {} {}", placed.missing, placed.specials));
+                lines.join("\n")
+            }))
+        }
+        _ => Err(NoInput),
+    }
+}
+
+/// The bytes of a file, if it can be read and is not longer than the limit.
+fn contents(name: &[u8], limit: Option<u64>) -> Result<Vec<u8>, NoInput> {
+    let file = File::open(OsStr::from_bytes(name)).map_err(|_| NoInput)?;
+    // One byte more than the limit shows that the file is longer.
+    let most = limit.map_or(u64::MAX, |limit| limit + 1);
+    let mut bytes = Vec::new();
+    file.take(most).read_to_end(&mut bytes).map_err(|_| NoInput)?;
+    match limit {
+        Some(limit) if bytes.len() as u64 > limit => Err(NoInput),
+        _ => Ok(bytes),
+    }
+}
+
+/// Decimal digits alone, one at least, for a number from 0 to `greatest`.
+fn plain(word: &[u8], greatest: u64) -> Result<u64, NoInput> {
+    if word.is_empty() {
+        return Err(NoInput);
+    }
+    let mut number: u128 = 0;
+    for digit in word {
+        if !digit.is_ascii_digit() {
+            return Err(NoInput);
+        }
+        number = number * 10 + u128::from(digit - b'0');
+        if number > u128::from(greatest) {
+            return Err(NoInput);
+        }
+    }
+    Ok(number as u64)
+}
+
+fn unsigned_word(word: &[u8]) -> Result<u32, NoInput> {
+    plain(word, u32::MAX.into()).map(|number| number as u32)
+}
+
+fn byte(word: &[u8]) -> Result<u8, NoInput> {
+    plain(word, u8::MAX.into()).map(|number| number as u8)
+}
+
+/// A signed 32-bit number: decimal digits, a minus sign before them or not.
+fn signed_word(word: &[u8]) -> Result<i32, NoInput> {
+    let number = match word {
+        [b'-', digits @ ..] => -(plain(digits, 2_147_483_648)? as i64),
+        digits => plain(digits, 2_147_483_647)? as i64,
+    };
+    Ok(number as i32)
+}

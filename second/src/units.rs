@@ -1,0 +1,80 @@
+//! The unit K and rounding by it.
+
+use crate::refusal::{refusal, Refusal};
+
+/// K = P/Q in lowest terms.
+#[derive(Debug, Clone, Copy, PartialEq, Eq)]
+pub struct Unit {
+    pub p: u128,
+    pub q: u128,
+}
+
+/// "of a and b, go on with b and a mod b until b is zero"
+fn common_divisor(a: u128, b: u128) -> u128 {
+    if b == 0 {
+        a
+    } else {
+        common_divisor(b, a % b)
+    }
+}
+
+/// The resolution R, judged: "resolution outside 1 to 10,000" is 12, place 0.
+pub fn check_resolution(resolution: u32) -> Result<(), Refusal> {
+    if (1..=10_000).contains(&resolution) {
+        Ok(())
+    } else {
+        Err(refusal(12, 0))
+    }
+}
+
+impl Unit {
+    /// "K = num x mag x R / (den x 1000 x 254000), R in dots per inch. Let P/Q be K in lowest
+    /// terms; 13 is given exactly if P > 1,073,741,823 or 2 x P > Q."
+    /// The three units are positive and R was judged. "products of the raw numbers pass 64
+    /// bits": 31 + 31 + 14 bits above and 31 + 28 below; 128 hold them.
+    pub fn new(num: i32, den: i32, mag: i32, resolution: u32) -> Result<Unit, Refusal> {
+        let positive = |number: i32| u128::try_from(number).expect("a positive number");
+        let above = positive(num) * positive(mag) * u128::from(resolution);
+        let below = positive(den) * 1000 * 254_000;
+        let divisor = common_divisor(above, below);
+        let unit = Unit {
+            p: above / divisor,
+            q: below / divisor,
+        };
+        if unit.p > 1_073_741_823 || 2 * unit.p > unit.q {
+            return Err(refusal(13, 0));
+        }
+        Ok(unit)
+    }
+
+    /// "Rounding n: the sign of n times the whole part of |K x n| + 1/2."
+    pub fn rounded(&self, n: i64) -> i64 {
+        let size = u128::from(n.unsigned_abs());
+        // |K x n| + 1/2 is (2 x P x |n| + Q) / (2 x Q).
+        let whole = (2 * self.p * size + self.q) / (2 * self.q);
+        let whole = i64::try_from(whole).expect("K is one half at most");
+        if n < 0 {
+            -whole
+        } else {
+            whole
+        }
+    }
+
+    /// "A rule's sides are K x n rounded up." Only for n above 0.
+    pub fn rounded_up(&self, n: i32) -> i64 {
+        let n = u128::try_from(n).expect("a side above 0");
+        let whole = (self.p * n).div_ceil(self.q);
+        i64::try_from(whole).expect("K is one half at most")
+    }
+}
+
+/// "rounding takes num, den, mag, R and any signed 32-bit distance and gives 4 (one of the
+/// three units not positive), 12, 13 in that order, place 0"
+pub fn round_distance(num: i32, den: i32, mag: i32, resolution: u32, n: i32) -> Result<i64, Refusal> {
+    if num <= 0 || den <= 0 || mag <= 0 {
+        return Err(refusal(4, 0));
+    }
+    check_resolution(resolution)?;
+    let unit = Unit::new(num, den, mag, resolution)?;
+    Ok(unit.rounded(i64::from(n)))
+}
