@@ -1,6 +1,13 @@
 -- `page::records::put_record` meets its contract: a record is pasted where there is room for it. Assumes nothing.
-use borrow.Author.Tests.{le-leb, lt-leb}
+use mathlib.Core.Path.{_≡_}
+use mathlib.Core.Bool.{true, false}
+use Prim.Native.Nat.{ℕ, _+_, _*_}
 use borrow.Author.Needs.{needs}
+use borrow.Author.Tests.{le-leb, lt-leb}
+use lib.Dec.{leb}
+use lib.ListN.{length}
+use denote.Ref.{now}
+use Rattle.page.specs.Records.{recordSize}
 use Rattle.page.proofs.records.put_record.Statement.{statement}
 use Rattle.page.proofs.records.put_record.Tie as tie
 
@@ -16,11 +23,25 @@ paste-at-requires c κs = search needs
 same-length : tie.Need-same-length
 same-length c = search needs
 
+-- the first byte past the record, and the area's length
+module _ (s : tie.Start) where
+  abbrev past : ℕ
+  past = recordSize * s .args .index + recordSize
+
+  abbrev room : ℕ
+  room = length (now (s .args .out))
+
 returns : tie.Need-returns
-returns c = simp (le-leb _ _ (c .before .before .before .before .if1 .taken)) (c .before .before .paste-at .ensures)
+returns c =
+    let s = c .before .before .before .before .before .before in
+    let fits : leb (past s) (room s) ≡ true = le-leb (past s) (room s) (c .before .before .before .before .if1 .taken) in
+    rw fits (c .before .before .paste-at .ensures)
 
 returns-2 : tie.Need-returns-2
-returns-2 c = simp (lt-leb _ _ (c .if1 .left))
+returns-2 c =
+    let s = c .before .before in
+    let too-long : leb (past s) (room s) ≡ false = lt-leb (past s) (room s) (c .if1 .left) in
+    rw too-long
 
 pub put-record-spec : {M : Type 1} → statement M
 put-record-spec =
