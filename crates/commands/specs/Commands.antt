@@ -14,6 +14,7 @@ pub record Command : Type 0 where
   pub opcode : ℕ
   pub params : List ℕ
 
+-- its kind is its opcode's
 abbrev pub kindOfCommand : Command → Kind
 kindOfCommand c = kindOf (c .opcode)
 
@@ -46,6 +47,7 @@ frontAfter opcode rest =
     cut)
     undefined
 
+-- what stands at the front: "no byte left, or parameters that do not fit" is cut
 abbrev pub front : List ℕ → Front
 front [] = cut
 front (opcode ∷ rest) = frontAfter opcode rest

@@ -58,6 +58,7 @@ innerLengthOf Post opcode params = 0
 innerLengthOf PostPost opcode params = 0
 innerLengthOf Undefined opcode params = 0
 
+-- the same by the opcode
 unfoldable pub innerLength : ℕ → List ℕ → ℕ
 innerLength opcode params = innerLengthOf (kindOf opcode) opcode params
 

@@ -23,6 +23,7 @@ distance params = signedAt params 0 (length params)
 abbrev pub ruleHeight : List ℕ → ℤ
 ruleHeight params = signedAt params 0 4
 
+-- b[+4]
 abbrev pub ruleWidth : List ℕ → ℤ
 ruleWidth params = signedAt params 4 4
 
@@ -38,15 +39,14 @@ definedFont opcode params = numberAt params 0 (opcode - 242)
 abbrev pub definition : ℕ → List ℕ → List ℕ
 definition opcode params = drop (opcode - 242) params
 
+-- c[4]
 abbrev pub fontChecksum : List ℕ → ℕ
 fontChecksum definition = unsignedAt definition 0 4
 
+-- s[4]
 abbrev pub fontScale : List ℕ → ℕ
 fontScale definition = unsignedAt definition 4 4
 
+-- d[4]
 abbrev pub fontDesignSize : List ℕ → ℕ
 fontDesignSize definition = unsignedAt definition 8 4
-
--- "area first"
-abbrev pub fontName : List ℕ → List ℕ
-fontName definition = drop 14 definition

@@ -47,6 +47,7 @@ placedPage file table resolution page room = andThen (judged file) (λ found. pl
 abbrev pub countsOf : Placed → Counts
 countsOf p = record { records = length (p .records); missing = p .missing-characters; specials = p .specials }
 
+-- of an answer
 abbrev pub placedCounts : Answer Placed → Answer Counts
 placedCounts answer = andThen answer (λ p. given (countsOf p))
 

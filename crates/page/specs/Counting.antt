@@ -28,15 +28,19 @@ withFonts setting font (c ∷ rest) =
 
 -- ---- which commands count
 
+-- set_char_0 to set4, and put1 to put4
 abbrev pub isCharacter : Command → Bool
 isCharacter c = isA SetCharacter c || isA PutCharacter c
 
+-- set_rule and put_rule
 abbrev pub isRule : Command → Bool
 isRule c = isA SetRule c || isA PutRule c
 
+-- "the full code"
 abbrev pub codeOf : Command → ℤ
 codeOf c = characterCode (c .opcode) (c .params)
 
+-- whether the table has a character's record
 abbrev pub isFound : LookUp → Bool
 isFound (found m) = true
 isFound absent = false
@@ -45,6 +49,7 @@ isFound absent = false
 abbrev pub characterFound : Setting → Seen → Bool
 characterFound setting c = isCharacter (c .command) && isFound (lookedFor setting (c .font) (codeOf (c .command)))
 
+-- "A character absent from the table … is counted as missing"
 abbrev pub characterMissing : Setting → Seen → Bool
 characterMissing setting c = isCharacter (c .command) && not (isFound (lookedFor setting (c .font) (codeOf (c .command))))
 
@@ -52,6 +57,7 @@ characterMissing setting c = isCharacter (c .command) && not (isFound (lookedFor
 abbrev pub ruleVisible : Seen → Bool
 ruleVisible c = isRule (c .command) && isVisible (ruleHeight (c .command .params)) (ruleWidth (c .command .params))
 
+-- "the special xxx"
 abbrev pub isSpecial : Seen → Bool
 isSpecial c = isA Special (c .command)
 
@@ -61,16 +67,19 @@ makesRecord setting c = ruleVisible c || characterFound setting c
 
 -- ---- counting and choosing
 
+-- how many of some commands are of a kind
 abbrev pub countOf : (Seen → Bool) → List Seen → ℕ
 countOf counts [] = zero
 countOf counts (c ∷ rest) = cond (counts c) (suc (countOf counts rest)) (countOf counts rest)
 
+-- those of a kind, in their order
 abbrev pub those : (Seen → Bool) → List Seen → List Seen
 those chosen [] = []
 those chosen (c ∷ rest) = cond (chosen c) (c ∷ those chosen rest) (those chosen rest)
 
 -- ---- what a record says beside its place
 
+-- kind, font, page and the last two fields
 pub record Said : Type 0 where
   pub kind : ℕ
   pub font : ℕ
@@ -78,6 +87,7 @@ pub record Said : Type 0 where
   pub content : ℤ
   pub extent : ℤ
 
+-- of a record
 abbrev pub saidBy : Record → Said
 saidBy r = record { kind = r .kind; font = r .font; page = r .page; content = r .content; extent = r .extent }
 

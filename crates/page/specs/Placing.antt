@@ -108,15 +108,19 @@ move direction setting s n =
 abbrev pub distanceOr : ℤ → List ℕ → ℤ
 distanceOr register params = cond (eqb (length params) 0) register (distance params)
 
+-- a level with another w
 abbrev pub withW : ℤ → Level → Level
 withW n l = record { h = l .h; v = l .v; w = n; x = l .x; y = l .y; z = l .z; hh = l .hh; vv = l .vv }
 
+-- with another x
 abbrev pub withX : ℤ → Level → Level
 withX n l = record { h = l .h; v = l .v; w = l .w; x = n; y = l .y; z = l .z; hh = l .hh; vv = l .vv }
 
+-- with another y
 abbrev pub withY : ℤ → Level → Level
 withY n l = record { h = l .h; v = l .v; w = l .w; x = l .x; y = n; z = l .z; hh = l .hh; vv = l .vv }
 
+-- with another z
 abbrev pub withZ : ℤ → Level → Level
 withZ n l = record { h = l .h; v = l .v; w = l .w; x = l .x; y = l .y; z = n; hh = l .hh; vv = l .vv }
 

@@ -72,6 +72,7 @@ addedOf (Adds.Placed r) = placed r
 addedOf Adds.Missing = missing
 addedOf Adds.Special = special
 
+-- so of what a command adds
 abbrev pub AddsInWords : Adds → Type 0
 AddsInWords Adds.Nothing = Unit {0}
 AddsInWords (Adds.Placed r) = InWords r
@@ -85,6 +86,7 @@ areaNoted out index (placed r) = putRecord out index r
 areaNoted out index missing = out
 areaNoted out index special = out
 
+-- the counts with what a command adds
 abbrev pub countNoted : Counts → Added → Counts
 countNoted counts nothing = counts
 countNoted counts (placed r) = record { records = counts .records + 1; missing = counts .missing; specials = counts .specials }
@@ -108,9 +110,11 @@ finish out counts (given p) =
     through (stored out (counts .records) (p .records))
     (record { records = counts .records + length (p .records); missing = counts .missing + p .missing-characters; specials = counts .specials + p .specials })
 
+-- nothing counted yet
 abbrev pub zeroCounts : Counts
 zeroCounts = record { records = 0; missing = 0; specials = 0 }
 
+-- how the code's walk ended
 abbrev pub endingOf : List ℕ → Walked → Ending
 endingOf out (Walked.Through counts) = through out counts
 endingOf out (Walked.Left place) = stopped positionOutOfRange place
@@ -127,6 +131,7 @@ pub record Known (font : Font) : Type 0 where
   pub checksum-small : font .checksum < 2 ^ 32
   pub scale-small : font .scale ≤ 134217727
 
+-- a state of these
 abbrev pub stateWith : Level → List Level → Font → State
 stateWith level saved font = record { level = level; saved = saved; font = font }
 
@@ -220,9 +225,11 @@ ruleBy terms level height width =
 abbrev pub sidewaysTurn : Level → ℤ → Turn
 sidewaysTurn level n = cond (leaves (level .h +ℤ n)) Turn.Leave (Turn.Sideways level n)
 
+-- down
 abbrev pub downTurn : Level → ℤ → Turn
 downTurn level n = cond (leaves (level .v +ℤ n)) Turn.Leave (Turn.Down level n)
 
+-- past a rule
 abbrev pub ruleTurn : Level → ℤ → Turn
 ruleTurn level width = cond (leaves (level .h +ℤ width)) Turn.Leave (Turn.PastRule width)
 
@@ -265,6 +272,7 @@ command opcode params = record { opcode = opcode; params = params }
 abbrev pub isMove : Kind → Bool
 isMove kind = is kind Kind.Right || (is kind Kind.W || (is kind Kind.X || (is kind Kind.Down || (is kind Kind.Y || is kind Kind.Z))))
 
+-- of a move's parameters
 abbrev pub MoveFits : Kind → List ℕ → Type 0
 MoveFits kind params = isMove kind ≡ true → length params ≤ 4
 
@@ -317,6 +325,7 @@ pub record Held (file : List ℕ) (page : ℕ) (fonts : List ℕ) (v : Volume) :
   pub judgement : judged file ≡ given (summaryOf v)
   pub keeps : Kept file page fonts (Scanned.Accepted v)
 
+-- what the code's answer says
 abbrev pub placeAnswer : PagePlaced → Answer Counts
 placeAnswer (PagePlaced.Placed counts) = given counts
 placeAnswer (PagePlaced.Refused r) = refusal r

@@ -28,6 +28,7 @@ Holds (of-rounding e) = roundingFound e ≡ e .printed
 Holds (of-moves e) = moveFound e ≡ e .printed
 Holds (of-width e) = widthFound e ≡ e .printed
 
+-- each of a list holds
 abbrev pub AllHold : List Example → Type 0
 AllHold [] = Unit {0}
 AllHold (e ∷ rest) = Holds e × AllHold rest

@@ -41,6 +41,7 @@ abbrev pub poppedTo : State → List Level → State
 poppedTo s [] = s
 poppedTo s (last ∷ before) = record { level = last; saved = before; font = s .font }
 
+-- "pop" brings back what push saved
 abbrev pub popped : State → State
 popped s = poppedTo s (s .saved)
 
@@ -51,6 +52,7 @@ abbrev pub spotOf : Direction → Level → Spot
 spotOf Sideways l = record { position = l .h; pixel = l .hh }
 spotOf Down l = record { position = l .v; pixel = l .vv }
 
+-- a level with another h and hh, or v and vv
 abbrev pub atSpot : Direction → Spot → Level → Level
 atSpot Sideways spot l = record { h = spot .position; v = l .v; w = l .w; x = l .x; y = l .y; z = l .z; hh = spot .pixel; vv = l .vv }
 atSpot Down spot l = record { h = l .h; v = spot .position; w = l .w; x = l .x; y = l .y; z = l .z; hh = l .hh; vv = spot .pixel }

@@ -19,6 +19,7 @@ pub record MoveExample : Type 0 where
 abbrev pub ruler : Ruler
 ruler = record { k = record { p = 3; q = 10 }; drift = 2 }
 
+-- the same move so many times
 abbrev pub repeated : ℕ → ℤ → Spot → Spot
 repeated zero n spot = spot
 repeated (suc times) n spot = repeated times n (moved Sideways ruler 100 (spot .position) (spot .pixel) n)
@@ -34,6 +35,7 @@ moveExamples =
 abbrev pub moveFound : MoveExample → Spot
 moveFound e = repeated (e .times) (e .distance) (record { position = pos 0; pixel = pos 0 })
 
+-- the definitions give what is printed
 pub moves-hold : map moveFound moveExamples ≡ map (λ e. e .printed) moveExamples
 unfolding nearestWhole
 moves-hold = refl

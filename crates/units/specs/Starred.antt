@@ -24,6 +24,7 @@ pub record RoundingExample : Type 0 where
   pub distance : ℤ
   pub printed : ℤ
 
+-- "K is 1/2"
 abbrev pub half : Ratio
 half = record { p = 1; q = 2 }
 
@@ -48,13 +49,16 @@ roundingExamples =
 abbrev pub unitFound : UnitExample → Answer Ratio
 unitFound e = unitOf (e .num) (e .den) (e .mag) (e .resolution)
 
+-- and of a rounding
 abbrev pub roundingFound : RoundingExample → ℤ
 roundingFound e = rounded (e .ratio) (e .distance)
 
+-- the definitions give what is printed
 pub units-hold : map unitFound unitExamples ≡ map (λ e. e .printed) unitExamples
 unfolding divisorWithin commonDivisor lowest
 units-hold = refl
 
+-- of rounding too
 pub roundings-hold : map roundingFound roundingExamples ≡ map (λ e. e .printed) roundingExamples
 unfolding nearestWhole
 roundings-hold = refl

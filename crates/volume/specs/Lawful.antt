@@ -14,6 +14,7 @@ use Rattle.volume.specs.Rules.{Allowed}
 abbrev pub filler : Command
 filler = record { opcode = 223; params = [] }
 
+-- so many of them
 abbrev pub fillers : ℕ → List Command
 fillers zero = []
 fillers (suc n) = filler ∷ fillers n

@@ -19,15 +19,18 @@ onNext past cut next = past
 onNext past undefined next = past
 onNext past (whole c rest) next = next c rest
 
+-- post_post is the last
 abbrev pub onLast : Bool → List Command → (Unit {0} → List Command) → List Command
 onLast true past next = past
 onLast false past next = next tt
 
+-- from the commands before on, in at most so many commands
 unfoldable pub historyFrom : ℕ → List Command → List ℕ → List Command
 historyFrom zero past bytes = past
 historyFrom (suc left) past bytes =
     onNext past (front bytes) (λ c rest. onLast (isA PostPost c) (c ∷ past) (λ _. historyFrom left (c ∷ past) rest))
 
+-- of a whole file
 unfoldable pub history : List ℕ → List Command
 history file = historyFrom (suc (length file)) [] file
 
@@ -49,6 +52,7 @@ abbrev pub partOf : List ℕ → Answer Part → List ℕ
 partOf file (refused number place) = []
 partOf file (given part) = take (part .end - part .start) (drop (part .start) file)
 
+-- of a font's name
 abbrev pub nameOf : List ℕ → ℤ → List ℕ
 nameOf file number = partOf file (namePlace file number)
 
@@ -57,6 +61,7 @@ abbrev pub startOf : Answer Part → ℕ
 startOf (refused number place) = 0
 startOf (given part) = part .start
 
+-- of a font's name
 abbrev pub nameStart : List ℕ → ℤ → ℕ
 nameStart file number = startOf (namePlace file number)
 

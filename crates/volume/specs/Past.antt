@@ -27,12 +27,14 @@ place (c ∷ past) = place past + (1 + length (c .params))
 
 -- ---- where the list stands: pre, pages from bop to eop, post, post_post
 
+-- the stage after a command of a kind
 abbrev pub stageAfter : Kind → Stage → Stage
 stageAfter kind stage =
     cond (is kind Pre) BeforePages
     (cond (is kind Bop) OnPage
     (cond (is kind Eop) BetweenPages (cond (is kind Post) AfterPost (cond (is kind PostPost) AfterEnd stage))))
 
+-- the stage after the commands
 abbrev pub stage : List Command → Stage
 stage [] = AtStart
 stage (c ∷ past) = stageAfter (kindOfCommand c) (stage past)
@@ -52,6 +54,7 @@ isAfterPost AfterEnd = true
 abbrev pub depthAfter : Kind → ℕ → ℕ
 depthAfter kind depth = cond (is kind Push) (depth + 1) (cond (is kind Pop) (depth - 1) depth)
 
+-- the depth after the commands
 abbrev pub depth : List Command → ℕ
 depth [] = 0
 depth (c ∷ past) = depthAfter (kindOfCommand c) (depth past)
@@ -90,12 +93,15 @@ abbrev pub unitAt : ℕ → List Command → ℕ
 unitAt offset [] = 0
 unitAt offset (c ∷ past) = cond (isA Pre c) (unsignedAt (c .params) offset 4) (unitAt offset past)
 
+-- num[4]
 abbrev pub num : List Command → ℕ
 num past = unitAt 1 past
 
+-- den[4]
 abbrev pub den : List Command → ℕ
 den past = unitAt 5 past
 
+-- mag[4]
 abbrev pub mag : List Command → ℕ
 mag past = unitAt 9 past
 
@@ -131,6 +137,7 @@ definitionOf after number (c ∷ past) =
     (stands (place past) c)
     (definitionOf after number past)
 
+-- whether there is one
 abbrev pub isDefined : Definition → Bool
 isDefined none = false
 isDefined (stands at c) = true

@@ -23,6 +23,7 @@ use Rattle.volume.specs.Past.{isA, stage, isAfterPost, depth, greatest, 
 
 -- ---- 4: "first command is not pre, its identification is not 2, or num, den or mag is not positive as a signed number"
 
+-- no command has passed
 abbrev pub isAtStart : Stage → Bool
 isAtStart AtStart = true
 isAtStart BeforePages = false
@@ -39,6 +40,7 @@ positiveAt params at = ltZ (pos 0) (signedAt params at 4)
 abbrev pub lawfulPreamble : List ℕ → Bool
 lawfulPreamble params = eqb (getD params 0 0) 2 && (positiveAt params 1 && (positiveAt params 5 && positiveAt params 9))
 
+-- where 4 applies
 abbrev pub preambleWrong : List Command → Command → Bool
 preambleWrong past c = isAtStart (stage past) && not (isA Pre c && lawfulPreamble (c .params))
 
@@ -54,14 +56,17 @@ mayStand BetweenPages kind = is kind Nop || (is kind Define || (is kind Bop || i
 mayStand AfterPost kind = is kind Nop || (is kind Define || is kind PostPost)
 mayStand AfterEnd kind = false
 
+-- where 5 applies
 abbrev pub misplaced : List Command → Command → Bool
 misplaced past c = not (mayStand (stage past) (kindOfCommand c))
 
 -- ---- 6: "pop at depth 0, push at depth 100, eop at depth above 0"
 
+-- of a kind at a depth
 abbrev pub wrongAtDepth : Kind → ℕ → Bool
 wrongAtDepth kind depth = (is kind Pop && eqb depth 0) || ((is kind Push && leb deepest depth) || (is kind Eop && ltb 0 depth))
 
+-- where 6 applies
 abbrev pub depthWrong : List Command → Command → Bool
 depthWrong past c = wrongAtDepth (kindOfCommand c) (depth past)
 
@@ -101,11 +106,13 @@ lawfulDefinition past c =
 abbrev pub fontLeftOut : List Command → Bool
 fontLeftOut past = not (eqb (fontCount true past) (fontCount false past))
 
+-- where 7 applies
 abbrev pub definitionWrong : List Command → Command → Bool
 definitionWrong past c = (isA Define c && not (lawfulDefinition past c)) || (isA PostPost c && fontLeftOut past)
 
 -- ---- 8: "selection of a font not yet defined; a character before a selection on this page"
 
+-- where 8 applies
 abbrev pub fontMissing : List Command → Command → Bool
 fontMissing past c =
     (isA Select c && not (isDefined (definitionOf false (selectedFont (c .opcode) (c .params)) past)))
@@ -140,6 +147,7 @@ postambleWrong past c =
 
 -- ---- "then the lowest of 4 to 10 that applies"; 0 where none does
 
+-- in the order of their numbers
 abbrev pub fault : List Command → Command → ℕ
 fault past c =
     cond (preambleWrong past c) wrongPreamble

@@ -28,6 +28,7 @@ pub record FileExample : Type 0 where
   pub file : List ℕ
   pub printed : Answer Summary
 
+-- "1 page, 0 fonts, depth 0, post 61"
 abbrev pub onePage : Summary
 onePage = record { pages = 1; fonts = 0; depth = 0; post = 61 }
 
@@ -43,9 +44,11 @@ fileExamples =
     ∷ record { file = set M 60 142; printed = refused wrongDepth 60 }
     ∷ []
 
+-- what the definitions give for an example
 abbrev pub fileFound : FileExample → Answer Summary
 fileFound e = judged (e .file)
 
+-- the definitions give what is printed
 pub files-hold : map fileFound fileExamples ≡ map (λ e. e .printed) fileExamples
 unfolding unsignedAt kindOf lengths fixedLength innerLengthOf innerLength sizeOf frontAfter sameBytes tail judgedFrom judged
 files-hold = refl

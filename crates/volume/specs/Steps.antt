@@ -37,6 +37,7 @@ command opcode params = record { opcode = opcode; params = params }
 
 -- ---- the state that stands for the commands so far, while the bop of one page is wanted
 
+-- all that the code holds of them
 abbrev pub stateOf : ℕ → List Command → Volume
 stateOf page past =
     record {
@@ -78,14 +79,17 @@ afterOf page v kind params =
 
 -- ---- the faults of single kinds, by what the code holds
 
+-- of the first command
 abbrev pub firstFault : Kind → List ℕ → ℕ
 firstFault kind params = cond (is kind Pre && lawfulPreamble params) 0 wrongPreamble
 
+-- of post
 abbrev pub postFault : Volume → List ℕ → ℕ
 postFault v params =
     cond (not (sameNumber (signedAt params 0 4) (v .bop))) wrongPointer
     (cond (not (lawfulPostamble (v .num) (v .den) (v .mag) (v .greatest) (v .pages) params)) wrongPostamble 0)
 
+-- of post_post
 abbrev pub endFault : Volume → List ℕ → ℕ
 endFault v params =
     cond (not (eqb (v .again) (v .fonts))) wrongFontDefinition
@@ -93,6 +97,7 @@ endFault v params =
 
 -- ---- the font tables: one more than the place of a font's definition, 0 where it has none
 
+-- a definition's entry
 abbrev pub entryOf : Definition → ℕ
 entryOf none = 0
 entryOf (stands at c) = at + 1
@@ -175,6 +180,7 @@ Onward file v r = (page : ℕ) (fonts again : List ℕ) → Going file page v fo
 
 -- ---- commands that on a page, with a font selected, change nothing but the place
 
+-- their kinds
 abbrev pub isPlain : Kind → Bool
 isPlain kind = is kind SetCharacter || (is kind SetRule || (is kind PutCharacter || (is kind PutRule || (is kind Nop || (is kind Right || (is kind W || (is kind X || (is kind Down || (is kind Y || is kind Z)))))))))
 
@@ -186,13 +192,16 @@ pub data Passes (file : List ℕ) : ℕ → ℕ → Type 0 where
 
 -- ---- answers
 
+-- the counts that it holds
 abbrev pub summaryOf : Volume → Summary
 summaryOf v = record { pages = v .pages; fonts = v .fonts; depth = v .greatest; post = v .post }
 
+-- what the scan's answer says
 abbrev pub scanAnswer : Scanned → Answer Summary
 scanAnswer (Scanned.Accepted v) = given (summaryOf v)
 scanAnswer (Scanned.Refused r) = refusal r
 
+-- what the check's answer says
 abbrev pub checkAnswer : Checked → Answer Summary
 checkAnswer (Checked.Accepted s) = given s
 checkAnswer (Checked.Refused r) = refusal r
@@ -209,6 +218,7 @@ Same v (Scanned.Refused r) = Unit {0}
 
 -- ---- names
 
+-- what the answer of a name says
 abbrev pub nameAnswer : Named → Answer Part
 nameAnswer (Named.At part) = given part
 nameAnswer (Named.Refused r) = refusal r

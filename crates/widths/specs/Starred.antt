@@ -25,6 +25,7 @@ widthExamples =
 abbrev pub widthFound : WidthExample → Answer ℤ
 widthFound e = scaledWidth (e .scale) (e .width)
 
+-- the definitions give what is printed
 pub widths-hold : map widthFound widthExamples ≡ map (λ e. e .printed) widthExamples
 unfolding halving
 widths-hold = refl
