@@ -1,0 +1,317 @@
+-- What a file that is accepted looks like, rule by rule: each theorem says one rule of document 01 in plain terms. Assumes nothing.
+use Prim.Native.Nat.{ℕ, zero, suc, _+_, _-_, _<_, _≤_}
+use mathlib.Core.Path.{_≡_, refl, sym, ap, _∙_, subst}
+use mathlib.Core.Bool.{Bool, true, false, cond, not, _&&_, _||_, and-eq-true-iff, or-false, true≢false}
+use mathlib.Core.List.{List, [], _∷_, _++_}
+use native.Mathlib.Omega.{arith}
+use lib.Dec.{lit<, leb, eqb}
+use lib.ListN.{length, getD, drop, replicate, length-append}
+use lib.Seq.{drop-at}
+use lib.IntN.{pos}
+use borrow.Author.Tests.{not-false, eqb-true, leb-false, ltb-true, ltb-false}
+use Rattle.numbers.specs.Bytes.{unsignedAt, signedAt}
+use Rattle.numbers.proofs.Signed.{same-number-true}
+use Rattle.commands.specs.declared.Kind.{Kind}
+use Rattle.commands.specs.declared.Kind.the-variants.{Bop, Eop, Push, Pop, Select, Define, Pre, Post, PostPost}
+use Rattle.commands.specs.Kinds.{kindOf, is}
+use Rattle.commands.specs.Lengths.{lengths, fixedLength, innerLengthOf, innerLength, sizeOf}
+use Rattle.commands.specs.Commands.{Command, kindOfCommand, Whole, written}
+use Rattle.commands.specs.Parameters.{selectedFont, fontScale, fontDesignSize}
+use Rattle.commands.proofs.Opcodes.{kind-range}
+use Rattle.volume.specs.declared.Stage.{Stage}
+use Rattle.volume.specs.declared.Stage.the-variants.{AtStart, BeforePages, OnPage, BetweenPages, AfterPost, AfterEnd}
+use Rattle.volume.specs.Past.{isA, stage, stageAfter, isAfterPost, depth, greatest, pages, lastBop, postPlace, num, den, mag, fontNumber, body, Definition, none, stands, definitionOf, isDefined, fontCount}
+use Rattle.volume.specs.Rules.{isAtStart, mayStand, wrongAtDepth, lawfulFont, lawfulSize, says, lawfulDefinition, lawfulPostamble, sameBytes, Allowed}
+use Rattle.volume.specs.Lawful.{fillers, Follows, ends, goes, Keeps, Lawful}
+use Rattle.volume.specs.Starred.{M}
+use Rattle.volume.proofs.Arms.{on-kinds, is-kind}
+use Rattle.volume.proofs.FaultLaws.{all-kept}
+use Rattle.volume.proofs.Accepts.{upToLast}
+use Rattle.page.proofs.Traces.{first-pre}
+
+-- ---- the file's two ends
+
+-- the first command's opcode is that of pre
+opens : {c : Command} → Whole c → Allowed [] c → c .opcode ≡ 247
+opens {c} w allowed =
+    let range = kind-range (c .opcode) (omega (arith, w .defined)) (is-kind (kindOfCommand c) Pre (first-pre [] c allowed refl .0)) in
+    omega (arith, range .0, range .1)
+
+opens-list : {cs : List Command} → Keeps cs → getD (written cs) 0 0 ≡ 247
+opens-list (ends n w allowed last enough) = opens w allowed
+opens-list (goes w allowed not-last follows) = opens w allowed
+
+-- "pre once, at place 0"
+pub starts-with-247 : (file : List ℕ) → Lawful file → getD file 0 0 ≡ 247
+starts-with-247 file (short, (cs, keeps, forms)) = ap (λ (bytes : List ℕ). getD bytes 0 0) (sym forms) ∙ opens-list keeps
+
+abbrev four : List ℕ
+four = 223 ∷ 223 ∷ 223 ∷ 223 ∷ []
+
+-- bytes that end with four 223s
+abbrev EndsSo : List ℕ → Type 0
+EndsSo bytes = (front : List ℕ) × (bytes ≡ front ++ four)
+
+ends-so : (byte : ℕ) {bytes : List ℕ} → EndsSo bytes → EndsSo (byte ∷ bytes)
+ends-so byte (front, e) = (byte ∷ front, ap (λ (l : List ℕ). byte ∷ l) e)
+
+after-all : (before : List ℕ) {bytes : List ℕ} → EndsSo bytes → EndsSo (before ++ bytes)
+after-all [] e = e
+after-all (byte ∷ before) e = ends-so byte (after-all before e)
+
+fillers-end : (n : ℕ) → EndsSo (written (fillers (suc (suc (suc (suc n))))))
+fillers-end zero = ([], refl)
+fillers-end (suc n) = ends-so 223 (fillers-end n)
+
+list-ends : {past cs : List Command} → Follows past cs → EndsSo (written cs)
+list-ends (ends {c = c} n w allowed last enough) =
+    let more : suc (suc (suc (suc (n - 4)))) ≡ n = omega arith in
+    ends-so (c .opcode) (after-all (c .params) (subst (λ (m : ℕ). EndsSo (written (fillers m))) more (fillers-end (n - 4))))
+list-ends (goes {c = c} w allowed not-last follows) = ends-so (c .opcode) (after-all (c .params) (list-ends follows))
+
+-- "then four or more 223s and nothing else"
+pub ends-with-four-223 : (file : List ℕ) → Lawful file → drop (length file - 4) file ≡ 223 ∷ 223 ∷ 223 ∷ 223 ∷ []
+ends-with-four-223 file (short, (cs, keeps, forms)) =
+    let (front, e) = list-ends keeps in
+    let whole : file ≡ front ++ four = sym forms ∙ e in
+    ap (drop (length file - 4)) whole ∙ drop-at front four (length file - 4) (omega (arith, ap length whole, length-append front four))
+
+-- ---- where a command stands
+
+-- in a list that follows some commands, c stands after the commands of past, the newest first, with no post_post before it
+pub data StandsAfter (past : List Command) (c : Command) : List Command → List Command → Type 0 where
+  first : {cs : List Command} → StandsAfter past c past (c ∷ cs)
+  later : {before : List Command} {d : Command} {cs : List Command} → isA PostPost d ≡ false → StandsAfter past c (d ∷ before) cs
+      → StandsAfter past c before (d ∷ cs)
+
+-- c stands in the list cs, up to and with its post_post, and past are the commands before it, the newest first
+abbrev pub Standing : List Command → List Command → Command → Type 0
+Standing cs past c = StandsAfter past c [] cs
+
+-- the commands of past, the newest first, keep the rules
+pub data Kept : List Command → Type 0 where
+  no-more : Kept []
+  and-one : {past : List Command} {c : Command} → Kept past → Allowed past c → Kept (c ∷ past)
+
+-- what stands in a list that goes on by the rules keeps them
+standing-kept : {before cs past : List Command} {c : Command} → Kept before → Follows before cs → StandsAfter past c before cs → Kept past × Allowed past c
+standing-kept kept (ends n w allowed last enough) first = (kept, allowed)
+standing-kept kept (ends n w allowed last enough) (later not-last there) = absurd (true≢false (sym last ∙ not-last))
+standing-kept kept (goes w allowed not-last follows) first = (kept, allowed)
+standing-kept kept (goes w allowed not-last follows) (later _ there) = standing-kept (and-one kept allowed) follows there
+
+last-stands : {before cs : List Command} → Follows before cs
+    → (past : List Command) × (c : Command) × StandsAfter past c before cs × (kindOfCommand c ≡ PostPost) × (upToLast before cs ≡ c ∷ past)
+last-stands (ends {past = past} {c = c} n w allowed last enough) = (past, c, first, is-kind (kindOfCommand c) PostPost last, rw last)
+last-stands (goes w allowed not-last follows) = let (past, c, there, k, e) = last-stands follows in (past, c, later not-last there, k, rw not-last e)
+
+-- "then post_post": one stands in each list that keeps the rules, after all the others
+pub post-post-stands : {cs : List Command} → Keeps cs
+    → (past : List Command) × (c : Command) × Standing cs past c × (kindOfCommand c ≡ PostPost) × (upToLast [] cs ≡ c ∷ past)
+post-post-stands keeps = last-stands keeps
+
+-- ---- the depth
+
+-- at most 100, whatever commands keep the rules
+deep : {past : List Command} → Kept past → depth past ≤ 100
+deep no-more = omega arith
+deep (and-one {past = past} {c = c} kept allowed) = by (isA Push c) refl (isA Pop c) (deep kept)
+  where
+    by : (push : Bool) → isA Push c ≡ push → (pop : Bool) → depth past ≤ 100 → cond push (depth past + 1) (cond pop (depth past - 1) (depth past)) ≤ 100
+    by true e pop h =
+        let right : leb 100 (depth past) ≡ false = rw (is-kind (kindOfCommand c) Push e, or-false) at (allowed .depth-right) in
+        omega (arith, leb-false 100 (depth past) right)
+    by false e true h = omega arith
+    by false e false h = h
+
+-- ---- what is after the first bop, and what is no longer at the start
+
+-- after the first bop
+abbrev begun : Stage → Bool
+begun AtStart = false
+begun BeforePages = false
+begun OnPage = true
+begun BetweenPages = true
+begun AfterPost = true
+begun AfterEnd = true
+
+-- what a kind does at a stage: whether a page has begun after it, whether the list is still at its start, whether it is a later pre
+abbrev does : Stage → Kind → Bool × Bool × Bool
+does at kind = (begun (stageAfter kind at), isAtStart (stageAfter kind at), is kind Pre && not (isAtStart at))
+
+-- as it should be: a page has begun only with a bop; never; never
+abbrev lawful : Stage → Kind → Bool × Bool × Bool
+lawful at kind = (is kind Bop || begun at, false, false)
+
+-- what is done where the kind may stand, only pre at the start, else as it should be
+abbrev compared : Stage → Kind → Bool × Bool × Bool
+compared at kind = cond (cond (isAtStart at) (is kind Pre) (mayStand at kind)) (does at kind) (lawful at kind)
+
+-- all kinds that may stand at a stage do as they should
+all-lawful : (at : Stage) (kind : Kind) → compared at kind ≡ lawful at kind
+all-lawful AtStart = on-kinds (compared AtStart) (lawful AtStart) refl
+all-lawful BeforePages = on-kinds (compared BeforePages) (lawful BeforePages) refl
+all-lawful OnPage = on-kinds (compared OnPage) (lawful OnPage) refl
+all-lawful BetweenPages = on-kinds (compared BetweenPages) (lawful BetweenPages) refl
+all-lawful AfterPost = on-kinds (compared AfterPost) (lawful AfterPost) refl
+all-lawful AfterEnd = on-kinds (compared AfterEnd) (lawful AfterEnd) refl
+
+-- so a command that keeps the rules does as it should
+does-lawfully : {past : List Command} {c : Command} → Allowed past c → does (stage past) (kindOfCommand c) ≡ lawful (stage past) (kindOfCommand c)
+does-lawfully {past} {c} allowed = rw (by (isAtStart (stage past)) refl) at (all-lawful (stage past) (kindOfCommand c))
+  where
+    by : (start : Bool) → isAtStart (stage past) ≡ start → cond start (isA Pre c) (mayStand (stage past) (kindOfCommand c)) ≡ true
+    by true e = first-pre past c allowed e .0
+    by false e = not-false (mayStand (stage past) (kindOfCommand c)) (allowed .standing)
+
+-- a page has begun only where one is counted
+some-page : {past : List Command} → Kept past → begun (stage past) ≡ true → 1 ≤ pages past
+some-page no-more e = absurd (true≢false (sym e))
+some-page (and-one {past = past} {c = c} kept allowed) e =
+    by (isA Bop c) (sym (ap (λ (a : Bool × Bool × Bool). a .0) (does-lawfully allowed)) ∙ e) (some-page kept)
+  where
+    by : (bop : Bool) → (bop || begun (stage past)) ≡ true → (begun (stage past) ≡ true → 1 ≤ pages past) → 1 ≤ cond bop (pages past + 1) (pages past)
+    by true e before = omega arith
+    by false e before = before e
+
+-- a whole list keeps the rules, to its end
+whole-kept : {before cs : List Command} → Kept before → Follows before cs → Kept (upToLast before cs) × (stage (upToLast before cs) ≡ AfterEnd)
+whole-kept kept (ends {c = c} n w allowed last enough) = rw last (and-one kept allowed, rw (is-kind (kindOfCommand c) PostPost last))
+whole-kept kept (goes w allowed not-last follows) = rw not-last (whole-kept (and-one kept allowed) follows)
+
+-- "One page at least"
+pub one-page-at-least : {cs : List Command} → Keeps cs → 1 ≤ pages (upToLast [] cs)
+one-page-at-least keeps = let (kept, end) = whole-kept no-more keeps in some-page kept (ap begun end)
+
+-- nothing stands before a pre
+only-pre : {past : List Command} {c : Command} → Kept past → Allowed past c → kindOfCommand c ≡ Pre → past ≡ []
+only-pre no-more allowed k = refl
+only-pre {past} (and-one kept earlier) allowed k =
+    let begun-yet : isAtStart (stage past) ≡ false = ap (λ (a : Bool × Bool × Bool). a .1) (does-lawfully earlier) in
+    absurd (true≢false (rw (k, begun-yet) at (ap (λ (a : Bool × Bool × Bool). a .2) (does-lawfully allowed))))
+
+-- ---- the rules of one command
+
+-- what no rule refuses holds
+pub holds : (t : Bool) → (not t || false) ≡ false → t ≡ true
+holds t e = not-false t (sym (or-false (not t)) ∙ e)
+
+-- a font without a definition has none, one with a definition has some
+pub not-there : (d : Definition) → not (isDefined d) ≡ true → d ≡ none
+not-there none e = refl
+not-there (stands at d) e = absurd (true≢false (sym e))
+
+pub is-there : (found : Definition) → isDefined found ≡ true → (at : ℕ) × (d : Command) × (found ≡ stands at d)
+is-there none e = absurd (true≢false (sym e))
+is-there (stands at d) e = (at, d, refl)
+
+-- what the rules ask of a definition
+pub record Right (past : List Command) (c : Command) : Type 0 where
+  pub number : lawfulFont (fontNumber c) ≡ true
+  pub scale : lawfulSize (fontScale (body c)) ≡ true
+  pub size : lawfulSize (fontDesignSize (body c)) ≡ true
+  pub late : isAfterPost (stage past) ≡ true → (definitionOf true (fontNumber c) past ≡ none) × (says (definitionOf false (fontNumber c) past) (body c) ≡ true)
+  pub early : isAfterPost (stage past) ≡ false → (definitionOf false (fontNumber c) past ≡ none) × (fontCount false past < 64)
+
+-- it keeps them
+pub right : {past : List Command} {c : Command} → Allowed past c → kindOfCommand c ≡ Define → Right past c
+right {past} {c} allowed k =
+    let rules : lawfulDefinition past c ≡ true = holds _ (rw k at (allowed .definition)) in
+    let from-number = and-eq-true-iff (lawfulFont (fontNumber c)) _ .0 rules in
+    let from-scale = and-eq-true-iff (lawfulSize (fontScale (body c))) _ .0 (from-number .1) in
+    let from-size = and-eq-true-iff (lawfulSize (fontDesignSize (body c))) _ .0 (from-scale .1) in
+    let after : isAfterPost (stage past) ≡ true → _ = λ t. and-eq-true-iff (not (isDefined (definitionOf true (fontNumber c) past))) _ .0 (rw t at (from-size .1)) in
+    let before : isAfterPost (stage past) ≡ false → _ = λ t. and-eq-true-iff (not (isDefined (definitionOf false (fontNumber c) past))) _ .0 (rw t at (from-size .1)) in
+    record {
+      number = from-number .0;
+      scale = from-scale .0;
+      size = from-size .0;
+      late = λ t. (not-there _ (after t .0), after t .1);
+      early = λ t. (not-there _ (before t .0), ltb-true (fontCount false past) 64 (before t .1));
+    }
+
+module _ {cs : List Command} (keeps : Keeps cs) {past : List Command} {c : Command} (there : Standing cs past c) where
+  -- the commands before it and it itself keep the rules
+  pub kept-there : Kept past × Allowed past c
+  kept-there = standing-kept no-more keeps there
+
+  -- "pre once, at place 0"
+  pub pre-once : kindOfCommand c ≡ Pre → past ≡ []
+  pre-once k = only-pre (kept-there .0) (kept-there .1) k
+
+  -- "bop points to the previous bop, the first holds −1"
+  pub bop-points-back : kindOfCommand c ≡ Bop → signedAt (c .params) 40 4 ≡ lastBop past
+  bop-points-back k = same-number-true _ _ (holds _ (rw k at (kept-there .1 .pointer)))
+
+  -- "post points to the last bop"
+  pub post-points : kindOfCommand c ≡ Post → signedAt (c .params) 0 4 ≡ lastBop past
+  post-points k = same-number-true _ _ (holds _ (rw k at (kept-there .1 .pointer)))
+
+  -- "post_post to post"
+  pub post-post-points : kindOfCommand c ≡ PostPost → signedAt (c .params) 0 4 ≡ pos (postPlace past)
+  post-post-points k = same-number-true _ _ (not-false _ (rw k at (kept-there .1 .pointer)))
+
+  -- no "selection of a font not yet defined"
+  pub selected-is-defined : kindOfCommand c ≡ Select → (at : ℕ) × (d : Command) × (definitionOf false (selectedFont (c .opcode) (c .params)) past ≡ stands at d)
+  selected-is-defined k = is-there _ (holds _ (rw k at (kept-there .1 .font)))
+
+  -- "Before post a number is defined at most once"
+  pub defined-once : kindOfCommand c ≡ Define → isAfterPost (stage past) ≡ false → definitionOf false (fontNumber c) past ≡ none
+  defined-once k early = right (kept-there .1) k .early early .0
+
+  -- no "eop at depth above 0"
+  pub depth-0-at-eop : kindOfCommand c ≡ Eop → depth past ≡ 0
+  depth-0-at-eop k = let right : wrongAtDepth Eop (depth past) ≡ false = rw k at (kept-there .1 .depth-right) in omega (arith, ltb-false 0 (depth past) right)
+
+  -- no "push at depth 100": before and after each command
+  pub depth-at-most-100 : (depth past ≤ 100) × (depth (c ∷ past) ≤ 100)
+  depth-at-most-100 = let (kept, allowed) = kept-there in (deep kept, deep (and-one kept allowed))
+
+  -- "post repeats num, den, mag; its s equals the greatest depth reached; its t is the number of pages"
+  pub page-count : kindOfCommand c ≡ Post
+      → (unsignedAt (c .params) 26 2 ≡ pages past)
+      × (unsignedAt (c .params) 24 2 ≡ greatest past)
+      × (unsignedAt (c .params) 4 4 ≡ num past)
+      × (unsignedAt (c .params) 8 4 ≡ den past)
+      × (unsignedAt (c .params) 12 4 ≡ mag past)
+  page-count k =
+      let p = c .params in
+      let rules : lawfulPostamble (num past) (den past) (mag past) (greatest past) (pages past) p ≡ true = holds _ (rw k at (kept-there .1 .postamble)) in
+      let from-num = and-eq-true-iff (eqb (unsignedAt p 4 4) (num past)) _ .0 rules in
+      let from-den = and-eq-true-iff (eqb (unsignedAt p 8 4) (den past)) _ .0 (from-num .1) in
+      let from-mag = and-eq-true-iff (eqb (unsignedAt p 12 4) (mag past)) _ .0 (from-den .1) in
+      let from-depth = and-eq-true-iff (eqb (unsignedAt p 24 2) (greatest past)) _ .0 (from-mag .1) in (
+        eqb-true _ _ (from-depth .1),
+        eqb-true _ _ (from-depth .0),
+        eqb-true _ _ (from-num .0),
+        eqb-true _ _ (from-den .0),
+        eqb-true _ _ (from-mag .0),
+      )
+
+-- ---- the printed example
+
+-- "M is: pre with num 254, den 1, mag 1000, no comment, bop, eop, post, post_post, four 223s"
+abbrev pub listOfM : List Command
+listOfM =
+    record { opcode = 247; params = 2 ∷ 0 ∷ 0 ∷ 0 ∷ 254 ∷ 0 ∷ 0 ∷ 0 ∷ 1 ∷ 0 ∷ 0 ∷ 3 ∷ 232 ∷ 0 ∷ [] }
+    ∷ record { opcode = 139; params = replicate 40 0 ++ (255 ∷ 255 ∷ 255 ∷ 255 ∷ []) }
+    ∷ record { opcode = 140; params = [] }
+    ∷ record { opcode = 248; params = (0 ∷ 0 ∷ 0 ∷ 15 ∷ 0 ∷ 0 ∷ 0 ∷ 254 ∷ 0 ∷ 0 ∷ 0 ∷ 1 ∷ 0 ∷ 0 ∷ 3 ∷ 232 ∷ []) ++ replicate 8 0 ++ (0 ∷ 0 ∷ 0 ∷ 1 ∷ []) }
+    ∷ record { opcode = 249; params = 0 ∷ 0 ∷ 0 ∷ 61 ∷ 2 ∷ [] }
+    ∷ fillers 4
+
+-- it keeps the rules, and its written forms are M
+pub M-list : Keeps listOfM × (written listOfM ≡ M)
+unfolding unsignedAt kindOf lengths fixedLength innerLengthOf innerLength sizeOf sameBytes
+M-list = (
+  goes (record { defined = lit< tt; exact = refl }) (all-kept _ _ refl) refl
+      (goes (record { defined = lit< tt; exact = refl }) (all-kept _ _ refl) refl
+      (goes (record { defined = lit< tt; exact = refl }) (all-kept _ _ refl) refl
+      (goes (record { defined = lit< tt; exact = refl }) (all-kept _ _ refl) refl
+      (ends 4 (record { defined = lit< tt; exact = refl }) (all-kept _ _ refl) refl (omega arith))))),
+  refl,
+)
+
+-- so M keeps the rules of a file: "1 page, 0 fonts, depth 0, post 61"
+pub M-is-lawful : Lawful M
+M-is-lawful = (omega arith, (listOfM, M-list .0, M-list .1))

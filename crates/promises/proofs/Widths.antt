@@ -1,0 +1,35 @@
+-- TeX's chain of three divisions is one division; below 2^23 it divides scale times fix word by 2^20, downwards. Assumes nothing.
+use mathlib.Core.Path.{_≡_, ap, _∙_}
+use mathlib.Core.Bool.{cond}
+use Prim.Native.Nat.{ℕ, _+_, _*_, _/_, _<_}
+use native.Mathlib.Nat.{div-div-eq-div-mul}
+use native.Mathlib.Omega.{arith}
+use lib.Dec.{eqb}
+use lib.IntN.{pos, _-ℤ_}
+use borrow.Author.Tests.{lt-leb}
+use Rattle.widths.specs.declared.FixWord.{FixWord}
+use Rattle.widths.specs.declared.Halved.{Halved}
+use Rattle.widths.specs.Scaling.{halving, halved, share, signedShare, scaledBy}
+
+-- the last three bytes of a fix word as one number
+abbrev pub fraction : FixWord → ℕ
+fraction w = w .b1 * 65536 + w .b2 * 256 + w .b3
+
+-- "b3 × z / 256, plus b2 × z, / 256, plus b1 × z, / β, each division downwards" is one division by 65536 × β
+pub chain-is-one-division : (k : Halved) (w : FixWord) → share k w ≡ fraction w * k .z / (65536 * (256 / k .alpha))
+chain-is-one-division k w =
+    let two : (w .b3 * k .z / 256 + w .b2 * k .z) / 256 + w .b1 * k .z ≡ fraction w * k .z / 65536 = omega arith in
+    ap (λ (n : ℕ). n / (256 / k .alpha)) two ∙ div-div-eq-div-mul (fraction w * k .z) 65536 (256 / k .alpha)
+
+-- below 8,388,608 nothing is halved
+not-halved : (scale : ℕ) → scale < 8388608 → halved scale ≡ record { z = scale; alpha = 16 }
+unfolding halving
+not-halved scale small = rw (lt-leb 8388608 scale small)
+
+-- so there a width is the "one division s × width / 2^20" that goes wrong above; "if b0 is 255 subtract α × z"
+pub widths-are-tex : (scale : ℕ) (w : FixWord) → scale < 8388608
+    → scaledBy scale w ≡ cond (eqb (w .b0) 255) (pos (fraction w * scale / 1048576) -ℤ pos (16 * scale)) (pos (fraction w * scale / 1048576))
+widths-are-tex scale w small =
+    let k : Halved = record { z = scale; alpha = 16 } in
+    ap (λ (h : Halved). signedShare h w) (not-halved scale small)
+    ∙ ap (λ (n : ℕ). cond (eqb (w .b0) 255) (pos n -ℤ pos (16 * scale)) (pos n)) (chain-is-one-division k w)
