@@ -21,7 +21,7 @@ use Rattle.commands.proofs.Opcodes.{kind-range}
 use Rattle.volume.specs.declared.Stage.{Stage}
 use Rattle.volume.specs.declared.Stage.the-variants.{AtStart, BeforePages, OnPage, BetweenPages, AfterPost, AfterEnd}
 use Rattle.volume.specs.Past.{isA, stage, stageAfter, isAfterPost, depth, greatest, pages, lastBop, postPlace, num, den, mag, fontNumber, body, Definition, none, stands, definitionOf, isDefined, fontCount}
-use Rattle.volume.specs.Rules.{isAtStart, mayStand, wrongAtDepth, lawfulFont, lawfulSize, says, lawfulDefinition, lawfulPostamble, sameBytes, Allowed}
+use Rattle.volume.specs.Rules.{isAtStart, mayStand, wrongAtDepth, lawfulFont, lawfulSize, says, lawfulDefinition, lawfulPostamble, Allowed}
 use Rattle.volume.specs.Lawful.{fillers, Follows, ends, goes, Keeps, Lawful}
 use Rattle.volume.specs.Starred.{M}
 use Rattle.volume.proofs.Arms.{on-kinds, is-kind}
@@ -100,6 +100,7 @@ standing-kept kept (ends n w allowed last enough) (later not-last there) = absur
 standing-kept kept (goes w allowed not-last follows) first = (kept, allowed)
 standing-kept kept (goes w allowed not-last follows) (later _ there) = standing-kept (and-one kept allowed) follows there
 
+-- its post_post stands after all the others
 last-stands : {before cs : List Command} → Follows before cs
     → (past : List Command) × (c : Command) × StandsAfter past c before cs × (kindOfCommand c ≡ PostPost) × (upToLast before cs ≡ c ∷ past)
 last-stands (ends {past = past} {c = c} n w allowed last enough) = (past, c, first, is-kind (kindOfCommand c) PostPost last, rw last)
@@ -149,12 +150,8 @@ compared at kind = cond (cond (isAtStart at) (is kind Pre) (mayStand at kind)) (
 
 -- all kinds that may stand at a stage do as they should
 all-lawful : (at : Stage) (kind : Kind) → compared at kind ≡ lawful at kind
-all-lawful AtStart = on-kinds (compared AtStart) (lawful AtStart) refl
-all-lawful BeforePages = on-kinds (compared BeforePages) (lawful BeforePages) refl
-all-lawful OnPage = on-kinds (compared OnPage) (lawful OnPage) refl
-all-lawful BetweenPages = on-kinds (compared BetweenPages) (lawful BetweenPages) refl
-all-lawful AfterPost = on-kinds (compared AfterPost) (lawful AfterPost) refl
-all-lawful AfterEnd = on-kinds (compared AfterEnd) (lawful AfterEnd) refl
+all-lawful at =
+    on-kinds (compared at) (lawful at) (elim at [ AtStart ↦ refl | BeforePages ↦ refl | OnPage ↦ refl | BetweenPages ↦ refl | AfterPost ↦ refl | AfterEnd ↦ refl ])
 
 -- so a command that keeps the rules does as it should
 does-lawfully : {past : List Command} {c : Command} → Allowed past c → does (stage past) (kindOfCommand c) ≡ lawful (stage past) (kindOfCommand c)
@@ -193,11 +190,11 @@ only-pre {past} (and-one kept earlier) allowed k =
 -- ---- the rules of one command
 
 -- what no rule refuses holds
-pub holds : (t : Bool) → (not t || false) ≡ false → t ≡ true
+holds : (t : Bool) → (not t || false) ≡ false → t ≡ true
 holds t e = not-false t (sym (or-false (not t)) ∙ e)
 
 -- a font without a definition has none, one with a definition has some
-pub not-there : (d : Definition) → not (isDefined d) ≡ true → d ≡ none
+not-there : (d : Definition) → not (isDefined d) ≡ true → d ≡ none
 not-there none e = refl
 not-there (stands at d) e = absurd (true≢false (sym e))
 
@@ -302,7 +299,7 @@ listOfM =
 
 -- it keeps the rules, and its written forms are M
 pub M-list : Keeps listOfM × (written listOfM ≡ M)
-unfolding unsignedAt kindOf lengths fixedLength innerLengthOf innerLength sizeOf sameBytes
+unfolding unsignedAt kindOf lengths fixedLength innerLengthOf innerLength sizeOf
 M-list = (
   goes (record { defined = lit< tt; exact = refl }) (all-kept _ _ refl) refl
       (goes (record { defined = lit< tt; exact = refl }) (all-kept _ _ refl) refl
@@ -312,6 +309,6 @@ M-list = (
   refl,
 )
 
--- so M keeps the rules of a file: "1 page, 0 fonts, depth 0, post 61"
+-- so M is "the written forms, end to end, of some list of commands that keeps the rules"
 pub M-is-lawful : Lawful M
 M-is-lawful = (omega arith, (listOfM, M-list .0, M-list .1))
