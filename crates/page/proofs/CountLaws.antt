@@ -26,7 +26,7 @@ use Rattle.state.specs.Registers.{State, poppedTo, spotOf}
 use Rattle.page.specs.declared.Record.{Record}
 use Rattle.page.specs.Records.{characterRecord, ruleRecord}
 use Rattle.page.specs.PageList.{Located}
-use Rattle.page.specs.Placing.{Setting, fontOf, lookedFor, Added, nothing, placed, missing, special, Outcome, goes, leavesRange, at, setCharacter, putCharacter, isVisible, move, distanceOr, withW, withX, withY, withZ, afterKind, after, Placed, adding, onOutcome, placing}
+use Rattle.page.specs.Placing.{Setting, fontOf, lookedFor, Added, nothing, placed, missing, special, Outcome, goes, leavesRange, withNumbers, setCharacter, putCharacter, isVisible, move, distanceOr, withW, withX, withY, withZ, afterKind, after, Placed, adding, onOutcome, placing}
 use Rattle.page.specs.Counting.{Seen, withFonts, isCharacter, isRule, codeOf, characterFound, characterMissing, ruleVisible, isSpecial, makesRecord, countOf, those, saidBy, saidOf}
 
 -- what is given in the end was made from a result that was given
@@ -89,7 +89,7 @@ module _ (setting : Setting) where
     quiet (rule, character, other, select) = (rw select, no-more (rw (rule, character, other) none))
 
     -- so does a move
-    moves : Is false false false false → (direction : Direction) (from : Level) (n : ℤ) → AsCounted this (move direction setting (at s from) n)
+    moves : Is false false false false → (direction : Direction) (from : Level) (n : ℤ) → AsCounted this (move direction setting (withNumbers s from) n)
     moves is direction from n = unless this _ (leaves (spotOf direction from .position +ℤ n)) (quiet is)
 
     -- a rule's sides, and its record where the page stands

@@ -32,7 +32,7 @@ use Rattle.page.specs.declared.Adds.the-variants as Adds
 use Rattle.page.specs.declared.Turn.{Turn}
 use Rattle.page.specs.declared.Turn.the-variants as Turn
 use Rattle.page.specs.declared.Asked.{Asked}
-use Rattle.page.specs.Placing.{Setting, Added, Outcome, goes, leavesRange, at, ruleAdded, setRule, distanceOr, withW, withX, withY, withZ, afterKind, after}
+use Rattle.page.specs.Placing.{Setting, Added, Outcome, goes, leavesRange, withNumbers, ruleAdded, setRule, distanceOr, withW, withX, withY, withZ, afterKind, after}
 use Rattle.page.specs.Steps.{addedOf, AddsInWords, stateWith, did, Safe, Plain, keepsDepth, Suits, settingBy, Comes, ruleBy, sidewaysTurn, downTurn, ruleTurn, turnOf, isMove, MoveFits, RuleAsks, CommandAsks}
 
 -- ---- a turn, unless h or v would leave its range
@@ -260,7 +260,7 @@ module _ (terms : Terms) (table : List ℕ) (volume : List Command) (level : Lev
       ≡ setRule (settingBy terms table volume) (stateWith level saved font) (ruleHeight params) (ruleWidth params)
   rule-does saved turn adds e =
       did-unless (terms .ruler) (stateWith level saved font) (Turn.PastRule (ruleWidth params)) adds (leaves (level .h +ℤ ruleWidth params))
-      ∙ ap (λ (added : Added). cond (leaves (level .h +ℤ ruleWidth params)) leavesRange (goes (at (stateWith level saved font) (ruleMoved (terms .ruler) (font .scale) (ruleWidth params) level)) added)) e
+      ∙ ap (λ (added : Added). cond (leaves (level .h +ℤ ruleWidth params)) leavesRange (goes (withNumbers (stateWith level saved font) (ruleMoved (terms .ruler) (font .scale) (ruleWidth params) level)) added)) e
 
   width-small : natAbs (ruleWidth params) ≤ 2 ^ 31
   width-small = omega (arith, from-small (256 ^ 4) (unsignedAt params 4 4) (unfold unsignedAt in omega (arith, bytes (4 + 0), bytes (4 + 1), bytes (4 + 2), bytes (4 + 3))))

@@ -30,7 +30,7 @@ use Rattle.page.specs.declared.Turn.{Turn}
 use Rattle.page.specs.declared.Turn.the-variants as Turn
 use Rattle.page.specs.declared.Step.{Step}
 use Rattle.page.specs.PageList.{Located, pageOf}
-use Rattle.page.specs.Placing.{Setting, Added, nothing, placed, missing, special, Outcome, goes, leavesRange, at as place, adding, onOutcome, after, placing}
+use Rattle.page.specs.Placing.{Setting, Added, nothing, placed, missing, special, Outcome, goes, leavesRange, withNumbers, adding, onOutcome, after, placing}
 use Rattle.page.specs.Steps.{addedOf, AddsInWords, areaNoted, countNoted, finish, stopped, through, zeroCounts, did, Safe, keepsDepth, Suits, settingBy, StepAsks, Known, Runs, ends, onward, Ready}
 use Rattle.page.proofs.Areas.{noted-length, finish-adding}
 use Rattle.page.proofs.FontLaws.{unselected-known}
@@ -294,14 +294,14 @@ module _ {file fonts table : List ℕ} {terms : Terms} {start : ℕ} {out₀ out
             }
 
     -- one that leads to another level only
-    pub leveled : GoesOn turn → (l : Level) → did (terms .ruler) s turn (r .asked .adds) ≡ goes (place s l) (addedOf (r .asked .adds)) → turnedDepth turn (page .depth) ≡ page .depth
+    pub leveled : GoesOn turn → (l : Level) → did (terms .ruler) s turn (r .asked .adds) ≡ goes (withNumbers s l) (addedOf (r .asked .adds)) → turnedDepth turn (page .depth) ≡ page .depth
         → (page′ : Page) → page′ ≡ withLevel page l → Bounded l
         → (out′ : List ℕ) → out′ ≡ areaNoted out (counts .records) (addedOf (r .asked .adds))
         → (counts′ : Counts) → counts′ ≡ countNoted counts (addedOf (r .asked .adds))
         → Walking file fonts table terms start out₀ out′ page′ counts′ (r .next)
     leveled on l led flat page′ page-is bounded out′ out-is counts′ counts-are =
         let sound = w .sound in
-        onwards on (place s l) led page′ (ap stateOf page-is) (ap (λ (p : Page). p .depth) page-is ∙ sym flat)
+        onwards on (withNumbers s l) led page′ (ap stateOf page-is) (ap (λ (p : Page). p .depth) page-is ∙ sym flat)
         (subst Sound (sym page-is) (record { bounded = bounded; kept = sound .kept; known = sound .known; shallow = sound .shallow; full = sound .full }))
         out′ out-is counts′ counts-are
 

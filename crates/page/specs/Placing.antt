@@ -65,15 +65,15 @@ pub data Outcome : Type 0 where
   leavesRange : Outcome
 
 -- the state with other numbers
-abbrev pub at : State → Level → State
-at s level = record { level = level; saved = s .saved; font = s .font }
+abbrev pub withNumbers : State → Level → State
+withNumbers s level = record { level = level; saved = s .saved; font = s .font }
 
 -- "A character absent from the table gives no record, moves nothing and is counted as missing"
 abbrev pub setCharacter : Setting → State → ℤ → LookUp → Outcome
 setCharacter setting s code absent = goes s missing
 setCharacter setting s code (found m) =
     cond (leaves (s .level .h +ℤ scaledBy (s .font .scale) (m .width))) leavesRange
-    (goes (at s (characterMoved (setting .ruler) (scaledBy (s .font .scale) (m .width)) (m .escapement) (s .level)))
+    (goes (withNumbers s (characterMoved (setting .ruler) (scaledBy (s .font .scale) (m .width)) (m .escapement) (s .level)))
     (placed (characterRecord (setting .page) (s .level) (s .font) code (m .escapement))))
 
 -- "put forms move nothing"
@@ -96,13 +96,13 @@ ruleAdded setting s height width =
 abbrev pub setRule : Setting → State → ℤ → ℤ → Outcome
 setRule setting s height width =
     cond (leaves (s .level .h +ℤ width)) leavesRange
-    (goes (at s (ruleMoved (setting .ruler) (s .font .scale) width (s .level))) (ruleAdded setting s height width))
+    (goes (withNumbers s (ruleMoved (setting .ruler) (s .font .scale) width (s .level))) (ruleAdded setting s height width))
 
 -- a move sideways or down
 abbrev pub move : Direction → Setting → State → ℤ → Outcome
 move direction setting s n =
     cond (leaves (spotOf direction (s .level) .position +ℤ n)) leavesRange
-    (goes (at s (movedBy direction (setting .ruler) (s .font .scale) n (s .level))) nothing)
+    (goes (withNumbers s (movedBy direction (setting .ruler) (s .font .scale) n (s .level))) nothing)
 
 -- w0, x0, y0, z0 move by the register, the others set it first
 abbrev pub distanceOr : ℤ → List ℕ → ℤ
@@ -139,14 +139,14 @@ afterKind Push setting s c = goes (pushed s) nothing
 afterKind Pop setting s c = goes (popped s) nothing
 afterKind Right setting s c = move Direction.Sideways setting s (distance (c .params))
 afterKind W setting s c =
-    let n = distanceOr (s .level .w) (c .params) in move Direction.Sideways setting (at s (withW n (s .level))) n
+    let n = distanceOr (s .level .w) (c .params) in move Direction.Sideways setting (withNumbers s (withW n (s .level))) n
 afterKind X setting s c =
-    let n = distanceOr (s .level .x) (c .params) in move Direction.Sideways setting (at s (withX n (s .level))) n
+    let n = distanceOr (s .level .x) (c .params) in move Direction.Sideways setting (withNumbers s (withX n (s .level))) n
 afterKind Down setting s c = move Direction.Down setting s (distance (c .params))
 afterKind Y setting s c =
-    let n = distanceOr (s .level .y) (c .params) in move Direction.Down setting (at s (withY n (s .level))) n
+    let n = distanceOr (s .level .y) (c .params) in move Direction.Down setting (withNumbers s (withY n (s .level))) n
 afterKind Z setting s c =
-    let n = distanceOr (s .level .z) (c .params) in move Direction.Down setting (at s (withZ n (s .level))) n
+    let n = distanceOr (s .level .z) (c .params) in move Direction.Down setting (withNumbers s (withZ n (s .level))) n
 afterKind Select setting s c =
     goes (record { level = s .level; saved = s .saved; font = fontOf setting (selectedFont (c .opcode) (c .params)) }) nothing
 afterKind Special setting s c = goes s special

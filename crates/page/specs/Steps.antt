@@ -47,7 +47,7 @@ use Rattle.page.specs.declared.PagePlaced.{PagePlaced}
 use Rattle.page.specs.declared.PagePlaced.the-variants as PagePlaced
 use Rattle.page.specs.Records.{recordSize, recordBytes, ruleRecord}
 use Rattle.page.specs.PageList.{Located, pageOf}
-use Rattle.page.specs.Placing.{Setting, Added, nothing, placed, missing, special, Outcome, goes, leavesRange, at, fontBy, lookedFor, setCharacter, putCharacter, isVisible, distanceOr, withW, withX, withY, withZ, after, Placed, placing}
+use Rattle.page.specs.Placing.{Setting, Added, nothing, placed, missing, special, Outcome, goes, leavesRange, withNumbers, fontBy, lookedFor, setCharacter, putCharacter, isVisible, distanceOr, withW, withX, withY, withZ, after, Placed, placing}
 
 -- ---- records
 
@@ -138,10 +138,10 @@ stateWith level saved font = record { level = level; saved = saved; font = font 
 -- the outcome of what the code says that a command does and adds
 abbrev pub did : Ruler → State → Turn → Adds → Outcome
 did ruler s Turn.Stay adds = goes s (addedOf adds)
-did ruler s (Turn.Sideways level n) adds = goes (at s (movedBy Direction.Sideways ruler (s .font .scale) n level)) (addedOf adds)
-did ruler s (Turn.Down level n) adds = goes (at s (movedBy Direction.Down ruler (s .font .scale) n level)) (addedOf adds)
-did ruler s (Turn.PastCharacter width escapement) adds = goes (at s (characterMoved ruler width escapement (s .level))) (addedOf adds)
-did ruler s (Turn.PastRule width) adds = goes (at s (ruleMoved ruler (s .font .scale) width (s .level))) (addedOf adds)
+did ruler s (Turn.Sideways level n) adds = goes (withNumbers s (movedBy Direction.Sideways ruler (s .font .scale) n level)) (addedOf adds)
+did ruler s (Turn.Down level n) adds = goes (withNumbers s (movedBy Direction.Down ruler (s .font .scale) n level)) (addedOf adds)
+did ruler s (Turn.PastCharacter width escapement) adds = goes (withNumbers s (characterMoved ruler width escapement (s .level))) (addedOf adds)
+did ruler s (Turn.PastRule width) adds = goes (withNumbers s (ruleMoved ruler (s .font .scale) width (s .level))) (addedOf adds)
 did ruler s Turn.Push adds = goes (pushed s) (addedOf adds)
 did ruler s Turn.Pop adds = goes (popped s) (addedOf adds)
 did ruler s (Turn.Select font) adds = goes (record { level = s .level; saved = s .saved; font = font }) (addedOf adds)

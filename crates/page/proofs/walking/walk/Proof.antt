@@ -23,7 +23,7 @@ use Rattle.page.specs.declared.Counts.{Counts}
 use Rattle.page.specs.declared.Turn.{Turn}
 use Rattle.page.specs.declared.Turn.the-variants as Turn
 use Rattle.page.specs.declared.Step.{Step}
-use Rattle.page.specs.Placing.{goes, at as place}
+use Rattle.page.specs.Placing.{goes, withNumbers}
 use Rattle.page.specs.Steps.{addedOf, did, settingBy, StepAsks, Safe}
 use Rattle.page.proofs.PageRuns.{runs-inside}
 use Rattle.page.proofs.WalkLaws.{Sound, state-sound, popped-bounded, popped-known, turnedDepth, GoesOn, Walking, starting, advances, few, in-ranges, onwards, leveled, push-room, pop-room, ended, left}
@@ -100,7 +100,7 @@ module _ (n : tie.After-note Inv-loop μ-loop) where
 
   -- to another level only
   to-level : (turn : Turn) → step read .asked .turn ≡ turn → GoesOn turn → (l : Level)
-      → did (entry read .args .terms .ruler) (stateOf before) turn (step read .asked .adds) ≡ goes (place (stateOf before) l) (addedOf (step read .asked .adds))
+      → did (entry read .args .terms .ruler) (stateOf before) turn (step read .asked .adds) ≡ goes (withNumbers (stateOf before) l) (addedOf (step read .asked .adds))
       → turnedDepth turn (before .depth) ≡ before .depth → (page : Page) → page ≡ withLevel before l → Bounded l → Next page
   to-level turn turn-is on l led flat page page-is bounded =
       leveled (here read) (step read) (asks read) turn turn-is on l led flat page page-is bounded (n .note .last .0) (n .note .ensures .1) (n .note .result) (n .note .ensures .0)
