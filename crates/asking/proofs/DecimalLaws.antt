@@ -8,10 +8,11 @@ use native.Mathlib.Omega.{arith}
 use lib.Dec.{T, leb}
 use lib.ListN.{length, getD, drop}
 use lib.Seq.{drop-cons}
-use borrow.Author.Tests.{leb-true}
+use borrow.Author.Tests.{leb-true, eq-eqb, ne-eqb}
 use Rattle.asking.specs.declared.words.Unsigned.{Unsigned}
 use Rattle.asking.specs.declared.words.Unsigned.the-variants.{Is, Not}
-use Rattle.asking.specs.Decimal.{appended, mayFollow, decimalFrom, decimalOf}
+use Rattle.asking.specs.declared.words.Signed32.the-variants as Signed32
+use Rattle.asking.specs.Decimal.{appended, mayFollow, decimalFrom, decimalOf, plain, minus, signed32Of}
 
 -- the first byte of what is left of a word, and the others
 pub next : (word : List ℕ) (i : ℕ) → i < length word → drop i word ≡ getD word i 0 ∷ drop (i + 1) word
@@ -48,3 +49,16 @@ pub fits : (most value byte : ℕ) → mayFollow most value byte ≡ true → (4
 fits most value byte e =
     let d = digit (leb 48 byte) (leb byte 57) (leb (appended value byte) most) e in
     (leb-true 48 byte (d .0), leb-true (appended value byte) most (d .1))
+
+-- a signed number, by the word's first byte
+pub signed-empty : (word : List ℕ) → length word ≡ 0 → signed32Of word ≡ Signed32.Not
+signed-empty [] e = refl
+signed-empty (first ∷ rest) e = absurd (omega arith)
+
+pub signed-minus : (word : List ℕ) → (length word ≡ 0 → ⊥) → getD word 0 0 ≡ 45 → signed32Of word ≡ minus (decimalOf 2147483648 (drop 1 word))
+signed-minus [] some e = absurd (some refl)
+signed-minus (first ∷ rest) some e = rw (eq-eqb first 45 e)
+
+pub signed-plain : (word : List ℕ) → (length word ≡ 0 → ⊥) → (getD word 0 0 ≡ 45 → ⊥) → signed32Of word ≡ plain (decimalOf 2147483647 word)
+signed-plain [] some e = absurd (some refl)
+signed-plain (first ∷ rest) some e = rw (ne-eqb first 45 e)

@@ -2,9 +2,16 @@
 use Prim.Native.Nat.{ℕ, _+_, _-_, _*_, _≤_}
 use mathlib.Core.Bool.{Bool, cond, _&&_}
 use mathlib.Core.List.{List, [], _∷_}
-use lib.Dec.{leb}
+use lib.Dec.{leb, eqb}
+use lib.IntN.{pos, negℤ}
 use Rattle.asking.specs.declared.words.Unsigned.{Unsigned}
 use Rattle.asking.specs.declared.words.Unsigned.the-variants.{Is, Not}
+use Rattle.asking.specs.declared.words.Unsigned32.{Unsigned32}
+use Rattle.asking.specs.declared.words.Unsigned32.the-variants as Unsigned32
+use Rattle.asking.specs.declared.words.Byte.{Byte}
+use Rattle.asking.specs.declared.words.Byte.the-variants as Byte
+use Rattle.asking.specs.declared.words.Signed32.{Signed32}
+use Rattle.asking.specs.declared.words.Signed32.the-variants as Signed32
 
 -- the digits 0 to 9 are the bytes 48 to 57
 abbrev pub isDigit : ℕ → Bool
@@ -32,3 +39,32 @@ decimalOf most (byte ∷ rest) = decimalFrom most 0 (byte ∷ rest)
 abbrev pub AtMost : ℕ → Unsigned → Type 0
 AtMost most (Is value) = value ≤ most
 AtMost most Not = Unit {0}
+
+-- an unsigned number of 32 bits
+abbrev pub unsigned32 : Unsigned → Unsigned32
+unsigned32 (Is value) = Unsigned32.Is value
+unsigned32 Not = Unsigned32.Not
+
+abbrev pub unsigned32Of : List ℕ → Unsigned32
+unsigned32Of word = unsigned32 (decimalOf 4294967295 word)
+
+-- a byte
+abbrev pub byte : Unsigned → Byte
+byte (Is value) = Byte.Is value
+byte Not = Byte.Not
+
+abbrev pub byteOf : List ℕ → Byte
+byteOf word = byte (decimalOf 255 word)
+
+-- a signed number of 32 bits, by its digits without and with a minus, which is the byte 45
+abbrev pub plain : Unsigned → Signed32
+plain (Is size) = Signed32.Is (pos size)
+plain Not = Signed32.Not
+
+abbrev pub minus : Unsigned → Signed32
+minus (Is size) = Signed32.Is (negℤ (pos size))
+minus Not = Signed32.Not
+
+abbrev pub signed32Of : List ℕ → Signed32
+signed32Of [] = Signed32.Not
+signed32Of (first ∷ rest) = cond (eqb first 45) (minus (decimalOf 2147483648 rest)) (plain (decimalOf 2147483647 (first ∷ rest)))

@@ -1,40 +1,59 @@
 // A file read whole into a buffer that the caller lends.
+ghost use mathlib.Core.Path.{_≡_};
 ghost use lib.ListN.{length};
-ghost use Rattle.asking.specs.Read.{Within, SomeOf};
+ghost use Rattle.io.specs.Counts.{Counts};
+ghost use Rattle.asking.specs.Read.{SomeOf};
 
-// How many bytes of the buffer are the file, or that it cannot be read or is longer than the buffer
-pub enum FileRead {
-    Whole(usize),
-    Not,
+// Whether a file was read whole, and how many bytes of the buffer it is; 0 where it cannot be read or is longer than the buffer
+pub struct FileRead {
+    pub whole: bool,
+    pub length: usize,
 }
 
 pub fn read_whole(path: &[u8], buffer: &mut [u8]) -> FileRead
-    ensures { λ r. ⌜ Within (length (now (buffer .entry))) r ⌝ }
+    ensures { λ r. ⌜ Counts (r .length) (now (buffer .exit)) ⌝ }
 {
     let descriptor = os::open_read(path);
     if descriptor < 0 {
-        return FileRead::Not;
+        return unread();
     }
     let read = read_to_end(descriptor, buffer);
     libc::close(descriptor);
     read
 }
 
+fn unread() -> FileRead
+    ensures { λ r. ⌜ r .length ≡ 0 ⌝ }
+{
+    FileRead {
+        whole: false,
+        length: 0,
+    }
+}
+
 fn read_to_end(descriptor: i32, buffer: &mut [u8]) -> FileRead
-    ensures { λ r. ⌜ Within (length (now (buffer .entry))) r ⌝ }
+    ensures { λ r. ⌜ Counts (r .length) (now (buffer .exit)) ⌝ }
 {
     let mut done: usize = 0;
     while done < buffer.len() {
         match read_once(descriptor, &mut buffer[done..]) {
             Got::Bytes(more) => done += more,
-            Got::End => return FileRead::Whole(done),
-            Got::Failed => return FileRead::Not,
+            Got::End => {
+                return FileRead {
+                    whole: true,
+                    length: done,
+                };
+            }
+            Got::Failed => return unread(),
         }
     }
     if is_at_end(descriptor) {
-        return FileRead::Whole(done);
+        return FileRead {
+            whole: true,
+            length: done,
+        };
     }
-    FileRead::Not
+    unread()
 }
 
 // What one read gave

@@ -1,9 +1,18 @@
 // What the programs that ask the reader share: a file read whole, numbers in words, and a placed page as lines.
+use printing::line::Line;
+ghost use Prim.Native.Nat.{_≤_};
+
 pub mod files;
 pub mod pages;
 pub mod words;
 
-// The line that answers what is no question.
+// What answers a line, or arguments, that are no question
+pub fn no_input_line() -> Line
+    ensures { λ r. ⌜ r .length ≤ 160 ⌝ }
+{
+    Line::empty().text(b"no input\n")
+}
+
 pub fn no_input() {
-    printing::text(b"no input\n");
+    no_input_line().print();
 }

@@ -3,8 +3,7 @@ use asking::files;
 use asking::files::FileRead;
 use asking::words;
 use asking::words::Unsigned;
-ghost use lib.ListN.{length};
-ghost use Rattle.asking.specs.Read.{Within};
+ghost use Rattle.io.specs.Counts.{Counts};
 ghost use Rattle.asking.specs.Decimal.{AtMost};
 
 fn main() {
@@ -34,15 +33,19 @@ fn number_argument(index: usize) -> Unsigned
 
 fn place(resolution: u32, page: u32) {
     let mut file = [0u8; 65536];
-    let FileRead::Whole(file_length) = file_argument(1, &mut file) else {
+    let file_read = file_argument(1, &mut file);
+    if !file_read.whole {
         asking::no_input();
         return;
-    };
+    }
     let mut widths = [0u8; 65536];
-    let FileRead::Whole(widths_length) = file_argument(2, &mut widths) else {
+    let widths_read = file_argument(2, &mut widths);
+    if !widths_read.whole {
         asking::no_input();
         return;
-    };
+    }
+    let file_length = file_read.length;
+    let widths_length = widths_read.length;
     // 3,000 records
     let mut area = [0u8; 60000];
     asking::pages::place(
@@ -56,7 +59,7 @@ fn place(resolution: u32, page: u32) {
 
 // The file that an argument names. A name longer than the array is as good as an empty one, which no file has.
 fn file_argument(index: usize, buffer: &mut [u8]) -> FileRead
-    ensures { λ r. ⌜ Within (length (now (buffer .entry))) r ⌝ }
+    ensures { λ r. ⌜ Counts (r .length) (now (buffer .exit)) ⌝ }
 {
     let mut path = io::buffer();
     let length = os::arg(index, &mut path);

@@ -32,11 +32,6 @@ pub fn number(n: i64) {
     count(size(n));
 }
 
-// refused NUMBER at PLACE
 pub fn refused(number: u8, place: usize) {
-    text(b"refused ");
-    count(number as u64);
-    text(b" at ");
-    count(place as u64);
-    text(b"\n");
+    line::refused(number, place).print();
 }

@@ -69,3 +69,15 @@ impl Line {
         io::write_all(STDOUT_FILENO, &bytes[..length]);
     }
 }
+
+// refused NUMBER at PLACE
+pub fn refused(number: u8, place: usize) -> Line
+    ensures { λ r. ⌜ r .length ≤ 160 ⌝ }
+{
+    Line::empty()
+        .text(b"refused")
+        .count(number as u64)
+        .text(b" at")
+        .count(place as u64)
+        .text(b"\n")
+}

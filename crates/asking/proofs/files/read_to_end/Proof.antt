@@ -26,13 +26,12 @@ some c =
     (e .0, omega (arith, simp (length-take, length-drop) at (e .1)))
 
 kept :
-    (c : tie.After-known-told Inv-loop μ-loop)
-    → let at = c .before .before .before .before .before .before .before .before .loop in
-    length (putMid (at .done) (length (at .buffer) - at .done) (at .buffer) (c .before .before .before .before .before .read-once .last .1 .0)) ≡ length (at .buffer)
-kept c =
-    let at = c .before .before .before .before .before .before .before .before .loop in
-    same-len-mid (at .done) (length (at .buffer) - at .done) (at .buffer) (c .before .before .before .before .before .read-once .last .1 .0)
-    (c .before .before .before .before .before .read-once .kept .1 .0)
+    (r : tie.After-read-once Inv-loop μ-loop)
+    → let at = r .before .before .before .loop in
+    length (putMid (at .done) (length (at .buffer) - at .done) (at .buffer) (r .read-once .last .1 .0)) ≡ length (at .buffer)
+kept r =
+    let at = r .before .before .before .loop in
+    same-len-mid (at .done) (length (at .buffer) - at .done) (at .buffer) (r .read-once .last .1 .0) (r .read-once .kept .1 .0)
 
 loop-holds : tie.Need-loop-holds Inv-loop μ-loop
 loop-holds c = search needs
@@ -56,10 +55,10 @@ add-done : tie.Need-add-done Inv-loop μ-loop
 add-done c = omega (arith, some c)
 
 loop-less : tie.Need-loop-less Inv-loop μ-loop
-loop-less c = omega (arith, some c, kept c)
+loop-less c = omega (arith, some c, kept (c .before .before .before .before .before))
 
 loop-again : tie.Need-loop-again Inv-loop μ-loop
-loop-again c = omega (arith, some c, kept c)
+loop-again c = omega (arith, some c, kept (c .before .before .before .before .before))
 
 enum-told : tie.Need-enum-told Inv-loop μ-loop
 enum-told c = search needs
@@ -68,10 +67,13 @@ same-length : tie.Need-same-length Inv-loop μ-loop
 same-length c = search needs
 
 returns : tie.Need-returns Inv-loop μ-loop
-returns c = search needs
+returns c = let same = kept (c .before .before .before .before) in (omega (arith, same), simp length-take (omega (arith, same)))
 
 enum-told-2 : tie.Need-enum-told-2 Inv-loop μ-loop
 enum-told-2 c = search needs
+
+unread-requires : tie.Need-unread-requires Inv-loop μ-loop
+unread-requires c κs = search needs
 
 same-length-2 : tie.Need-same-length-2 Inv-loop μ-loop
 same-length-2 c = search needs
@@ -86,7 +88,10 @@ same-length-3 : tie.Need-same-length-3 Inv-loop μ-loop
 same-length-3 c = search needs
 
 returns-3 : tie.Need-returns-3 Inv-loop μ-loop
-returns-3 c = search needs
+returns-3 c = (search needs, simp length-take (omega arith))
+
+unread-requires-2 : tie.Need-unread-requires-2 Inv-loop μ-loop
+unread-requires-2 c κs = search needs
 
 same-length-4 : tie.Need-same-length-4 Inv-loop μ-loop
 same-length-4 c = search needs
@@ -113,10 +118,12 @@ read-to-end-spec =
     same-length
     returns
     enum-told-2
+    unread-requires
     same-length-2
     returns-2
     is-at-end-requires
     same-length-3
     returns-3
+    unread-requires-2
     same-length-4
     returns-4)

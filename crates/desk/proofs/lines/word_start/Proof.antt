@@ -1,0 +1,51 @@
+-- `desk::lines::word_start` meets its contract: a word starts within the line. Assumes nothing.
+use Prim.Native.Nat.{_+_, _≤_, _-_}
+use lib.ListN.{length}
+use borrow.Author.Needs.{needs}
+use Rattle.desk.proofs.lines.word_start.Statement.{statement}
+use Rattle.desk.proofs.lines.word_start.Tie as tie
+
+abbrev Inv-loop : tie.InvT-loop
+Inv-loop line index start₀ passed₀ start passed = (start ≤ length line) × (passed ≤ index)
+
+abbrev μ-loop : tie.MeasureT-loop
+μ-loop line index start₀ passed₀ start passed = index - passed
+
+loop-holds : tie.Need-loop-holds Inv-loop μ-loop
+loop-holds c = search needs
+
+word-end-requires : tie.Need-word-end-requires Inv-loop μ-loop
+word-end-requires c κs = search needs
+
+returns : tie.Need-returns Inv-loop μ-loop
+returns c = search needs
+
+add-start : tie.Need-add-start Inv-loop μ-loop
+add-start c = search needs
+
+add-passed : tie.Need-add-passed Inv-loop μ-loop
+add-passed c = search needs
+
+loop-less : tie.Need-loop-less Inv-loop μ-loop
+loop-less c = search needs
+
+loop-again : tie.Need-loop-again Inv-loop μ-loop
+loop-again c = search needs
+
+returns-2 : tie.Need-returns-2 Inv-loop μ-loop
+returns-2 c = search needs
+
+pub word-start-spec : {M : Type 1} → statement M
+word-start-spec =
+    tie.close
+    (tie.spec
+    Inv-loop
+    μ-loop
+    loop-holds
+    word-end-requires
+    returns
+    add-start
+    add-passed
+    loop-less
+    loop-again
+    returns-2)

@@ -1,0 +1,105 @@
+// Questions about a DVI file, which is read into the buffer that is lent.
+use crate::lines::word;
+use asking::files;
+use asking::words;
+use asking::words::Signed32;
+use asking::words::Unsigned;
+use printing::line;
+use printing::line::Line;
+use reader::CommandRead;
+use reader::FileChecked;
+use reader::NamePlace;
+ghost use Prim.Native.Nat.{_≤_};
+
+// read FILE AT
+pub fn read(line: &[u8], file: &mut [u8]) -> Line
+    ensures { λ r. ⌜ r .length ≤ 160 ⌝ }
+{
+    let Unsigned::Is(at) = words::read_unsigned(word(line, 2), 18446744073709551615) else {
+        return asking::no_input_line();
+    };
+    let found = files::read_whole(word(line, 1), file);
+    if !found.whole {
+        return asking::no_input_line();
+    }
+    let length = found.length;
+    command(&file[..length], at as usize)
+}
+
+fn command(file: &[u8], at: usize) -> Line
+    ensures { λ r. ⌜ r .length ≤ 160 ⌝ }
+{
+    match reader::read_command(file, at) {
+        CommandRead::Command {
+            opcode,
+            start,
+            next,
+        } => Line::empty()
+            .text(b"command")
+            .count(opcode as u64)
+            .count(start as u64)
+            .count(next as u64)
+            .text(b"\n"),
+        CommandRead::Refused { number, place } => line::refused(number, place),
+    }
+}
+
+// check FILE
+pub fn check(line: &[u8], file: &mut [u8]) -> Line
+    ensures { λ r. ⌜ r .length ≤ 160 ⌝ }
+{
+    let found = files::read_whole(word(line, 1), file);
+    if !found.whole {
+        return asking::no_input_line();
+    }
+    let length = found.length;
+    checked(&file[..length])
+}
+
+fn checked(file: &[u8]) -> Line
+    ensures { λ r. ⌜ r .length ≤ 160 ⌝ }
+{
+    match reader::check_file(file) {
+        FileChecked::Accepted {
+            pages,
+            fonts,
+            depth,
+            post,
+        } => Line::empty()
+            .text(b"accepted")
+            .count(pages as u64)
+            .count(fonts as u64)
+            .count(depth as u64)
+            .count(post as u64)
+            .text(b"\n"),
+        FileChecked::Refused { number, place } => line::refused(number, place),
+    }
+}
+
+// name FILE FONT
+pub fn name(line: &[u8], file: &mut [u8]) -> Line
+    ensures { λ r. ⌜ r .length ≤ 160 ⌝ }
+{
+    let Signed32::Is(font) = words::read_signed32(word(line, 2)) else {
+        return asking::no_input_line();
+    };
+    let found = files::read_whole(word(line, 1), file);
+    if !found.whole {
+        return asking::no_input_line();
+    }
+    let length = found.length;
+    named(&file[..length], font)
+}
+
+fn named(file: &[u8], font: i32) -> Line
+    ensures { λ r. ⌜ r .length ≤ 160 ⌝ }
+{
+    match reader::font_name_place(file, font) {
+        NamePlace::At { start, end } => Line::empty()
+            .text(b"name")
+            .count(start as u64)
+            .count(end as u64)
+            .text(b"\n"),
+        NamePlace::Refused { number, place } => line::refused(number, place),
+    }
+}

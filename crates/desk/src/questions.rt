@@ -1,0 +1,92 @@
+// A line's question, by its first word and how many words it has.
+use crate::files_asked;
+use crate::lines;
+use crate::numbers_asked;
+use crate::pages_asked;
+use crate::tables_asked;
+use printing::line::Line;
+ghost use Prim.Native.Nat.{_≤_};
+
+enum Question {
+    Read,
+    Check,
+    Name,
+    Round,
+    Scale,
+    Table,
+    Look,
+    Place,
+    Nothing,
+}
+
+fn question_of(line: &[u8]) -> Question {
+    let name = lines::word(line, 0);
+    let count = lines::word_count(line);
+    if count == 2 {
+        return of_two(name);
+    }
+    if count == 3 {
+        return of_three(name);
+    }
+    if count == 5 {
+        return of_five(name);
+    }
+    if count == 6 {
+        return of_six(name);
+    }
+    Question::Nothing
+}
+
+fn of_two(name: &[u8]) -> Question {
+    if check::same(name, b"check") {
+        return Question::Check;
+    }
+    if check::same(name, b"table") {
+        return Question::Table;
+    }
+    Question::Nothing
+}
+
+fn of_three(name: &[u8]) -> Question {
+    if check::same(name, b"read") {
+        return Question::Read;
+    }
+    if check::same(name, b"name") {
+        return Question::Name;
+    }
+    Question::Nothing
+}
+
+fn of_five(name: &[u8]) -> Question {
+    if check::same(name, b"look") {
+        return Question::Look;
+    }
+    Question::Nothing
+}
+
+fn of_six(name: &[u8]) -> Question {
+    if check::same(name, b"round") {
+        return Question::Round;
+    }
+    if check::same(name, b"scale") {
+        return Question::Scale;
+    }
+    if check::same(name, b"place") {
+        return Question::Place;
+    }
+    Question::Nothing
+}
+
+pub fn answer(line: &[u8], file: &mut [u8], widths: &mut [u8], area: &mut [u8]) {
+    match question_of(line) {
+        Question::Read => files_asked::read(line, file).print(),
+        Question::Check => files_asked::check(line, file).print(),
+        Question::Name => files_asked::name(line, file).print(),
+        Question::Round => numbers_asked::round(line).print(),
+        Question::Scale => numbers_asked::scale(line).print(),
+        Question::Table => tables_asked::table(line, widths).print(),
+        Question::Look => tables_asked::look(line, widths).print(),
+        Question::Place => pages_asked::place(line, file, widths, area),
+        Question::Nothing => asking::no_input(),
+    }
+}
