@@ -2,14 +2,13 @@
 use mathlib.Core.Path.{_≡_, refl, sym, subst}
 use mathlib.Core.Bool.{Bool, true, false, _&&_}
 use mathlib.Core.List.{List, [], _∷_}
-use Prim.Native.Nat.{ℕ, _+_, _*_, _-_, _≤_, _<_}
+use Prim.Native.Nat.{ℕ, _+_, _-_, _≤_, _<_}
 use native.Mathlib.Numerals.{add-one}
 use native.Mathlib.Omega.{arith}
 use lib.Dec.{T, leb}
 use lib.ListN.{length, getD, drop}
 use lib.Seq.{drop-cons}
 use borrow.Author.Tests.{leb-true, eq-eqb, ne-eqb}
-use Rattle.asking.specs.declared.words.Unsigned.{Unsigned}
 use Rattle.asking.specs.declared.words.Unsigned.the-variants.{Is, Not}
 use Rattle.asking.specs.declared.words.Signed32.the-variants as Signed32
 use Rattle.asking.specs.Decimal.{appended, mayFollow, decimalFrom, decimalOf, plain, minus, signed32Of}

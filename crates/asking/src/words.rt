@@ -1,6 +1,6 @@
 // Decimal numbers in words.
 ghost use mathlib.Core.Path.{_≡_};
-ghost use Prim.Native.Nat.{_<_, _≤_, _^_};
+ghost use Prim.Native.Nat.{_≤_, _^_};
 ghost use lib.IntN.{pos, negℤ};
 ghost use Rattle.asking.specs.Decimal.{decimalOf, mayFollow, AtMost, unsigned32Of, byteOf, plain, minus, signed32Of};
 

@@ -1,10 +1,9 @@
 // Texts and numbers on standard output, for the programs. What is written no contract can say: programs' outputs are compared.
 use libc::STDOUT_FILENO;
-
-pub mod line;
-
 ghost use mathlib.Core.Path.{_≡_};
 ghost use lib.IntN.{natAbs};
+
+pub mod line;
 
 pub fn text(bytes: &[u8]) {
     io::write_all(STDOUT_FILENO, bytes);

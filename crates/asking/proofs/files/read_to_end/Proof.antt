@@ -1,5 +1,5 @@
 -- `asking::files::read_to_end` meets its contract. The loop's invariant: what was read is within the buffer, which keeps its length. Assumes nothing.
-use mathlib.Core.Path.{_≡_, subst, _∙_}
+use mathlib.Core.Path.{_≡_, subst}
 use Prim.Native.Nat.{_+_, _≤_, _<_, _-_}
 use native.Mathlib.Omega.{arith}
 use lib.ListN.{length, length-take, length-drop}

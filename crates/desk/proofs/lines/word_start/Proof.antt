@@ -1,5 +1,5 @@
 -- `desk::lines::word_start` meets its contract: a word starts within the line. Assumes nothing.
-use Prim.Native.Nat.{_+_, _≤_, _-_}
+use Prim.Native.Nat.{_≤_, _-_}
 use lib.ListN.{length}
 use borrow.Author.Needs.{needs}
 use Rattle.desk.proofs.lines.word_start.Statement.{statement}

@@ -1,5 +1,4 @@
 -- `printing::line::Line::digits` meets its contract: a number below 2^64 has at most 20 digits. Assumes nothing.
-use mathlib.Core.Path.{_≡_}
 use mathlib.Core.Logic.{⊎-elim}
 use Prim.Native.Nat.{ℕ, _-_, _<_, _≤_, _^_}
 use native.Mathlib.Nat.{pow-le-pow-right, eq-zero-or-pos}
