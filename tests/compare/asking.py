@@ -1,0 +1,125 @@
+"""Asking both programs the same lines, and telling their answers apart.
+
+A line is bytes without its line end. One process of a side answers many thousands of lines; lines and answers go
+through files, so that neither side waits for the other.
+"""
+
+import re
+import subprocess
+
+ANSWERS = {
+    b"read": rb"command \d+ \d+ \d+",
+    b"check": rb"accepted \d+ \d+ \d+ \d+",
+    b"name": rb"name \d+ \d+",
+    b"round": rb"rounded -?\d+",
+    b"scale": rb"width -?\d+",
+    b"table": rb"right \d+",
+    b"look": rb"(?:found -?\d+ \d+ \d+ \d+ \d+|absent)",
+    b"place": rb"end \d+ \d+ \d+",
+}
+FORMS = {word: re.compile(rb"(?:refused \d+ at \d+|no input|" + form + rb")\Z") for word, form in ANSWERS.items()}
+NO_INPUT = re.compile(rb"no input\Z")
+RECORD_LINE = re.compile(rb"[cr] \d+ \d+ -?\d+ -?\d+ -?\d+ -?\d+\Z")
+MOST_RESTARTS = 40
+
+
+class Side:
+    """One of the two programs."""
+
+    def __init__(self, name, command, directory, seconds=900):
+        self.name, self.command, self.directory, self.seconds = name, command, directory, seconds
+
+    def __str__(self):
+        return " ".join(self.command)
+
+    def start(self, lines, folder):
+        """Starts a process on these lines."""
+        questions = folder / f"{self.name}.questions"
+        questions.write_bytes(b"".join(line + b"\n" for line in lines))
+        output = folder / f"{self.name}.answers"
+        with questions.open("rb") as given, output.open("wb") as taken:
+            process = subprocess.Popen(
+                self.command, cwd=self.directory, stdin=given, stdout=taken, stderr=subprocess.PIPE
+            )
+        return process, output
+
+    def finish(self, started):
+        """What the process wrote, and how it ended if that was not as it should be."""
+        process, output = started
+        try:
+            _, complaint = process.communicate(timeout=self.seconds)
+        except subprocess.TimeoutExpired:
+            process.kill()
+            process.communicate()
+            return output.read_bytes(), f"no end within {self.seconds} s"
+        text = complaint.decode(errors="replace").strip()[-300:]
+        ending = f"exit status {process.returncode} {text}" if process.returncode else None
+        return output.read_bytes(), ending
+
+
+def split_answers(lines, output):
+    """One answer a line asked: the answers that are whole, in order, and the rows left over after them."""
+    rows = output.split(b"\n")
+    rows.pop()  # what stands after the last line end is no whole row
+    answers, at = [], 0
+    for line in lines:
+        start = at
+        if line.startswith(b"place "):
+            while at < len(rows) and rows[at][:2] in (b"c ", b"r "):
+                at += 1
+        if at == len(rows):
+            return answers, rows[start:]
+        at += 1
+        answers.append(b"\n".join(rows[start:at]))
+    return answers, rows[at:]
+
+
+def ask_one(side, lines, folder, started):
+    """The answers of one side; b"" stands for one that did not come. A side that stops is started again after the
+    line it stopped at, so that one crash does not hide what comes after it."""
+    answers, complaints = [], []
+    for _ in range(MOST_RESTARTS):
+        asked = lines[len(answers) :]
+        output, ending = side.finish(started)
+        given, left = split_answers(asked, output)
+        answers += given
+        if len(given) < len(asked):
+            complaints.append(f"no answer ({ending or 'it ended as if all were answered'})")
+            answers.append(b"")
+        elif ending or left:
+            complaints.append(ending or f"{len(left)} rows more than were asked for")
+            answers[-1:] = [b""]
+        if len(answers) == len(lines):
+            break
+        started = side.start(lines[len(answers) :], folder)
+    else:
+        side.finish(started)
+        answers += [b""] * (len(lines) - len(answers))
+    return answers, complaints
+
+
+def ask_both(sides, lines, folder):
+    """The answers of both sides to these lines, and what either complained of."""
+    if not lines:
+        return [[], []], []
+    started = [side.start(lines, folder) for side in sides]
+    pairs = [ask_one(side, lines, folder, process) for side, process in zip(sides, started)]
+    complaints = [f"{side.name}: {text}" for side, (_, texts) in zip(sides, pairs) for text in texts]
+    return [pair[0] for pair in pairs], complaints
+
+
+def well_formed(line, answer):
+    """Whether an answer has the form that the line asks for. Both sides giving the same rubbish is no agreement."""
+    rows = answer.split(b"\n")
+    word = line.split(b" ", 1)[0]
+    if not FORMS.get(word, NO_INPUT).match(rows[-1]):
+        return False
+    if len(rows) == 1 and not rows[0].startswith(b"end "):
+        return True
+    records = int(rows[-1].split(b" ")[1]) if rows[-1].startswith(b"end ") else -1
+    return records == len(rows) - 1 and (not records or bool(RECORD_LINE.match(rows[0]) and RECORD_LINE.match(rows[-2])))
+
+
+def differs(line, first, second):
+    """Whether these two answers fail the comparison."""
+    return first != second or not well_formed(line, first)
