@@ -42,7 +42,7 @@ use Rattle.reader.specs.declared.Placed.{Placed}
 use Rattle.reader.specs.declared.Placed.the-variants as Placed
 use Rattle.reader.specs.Answers.{Refuses}
 use Rattle.reader.proofs.place_page.Reads as place-page
-use Rattle.promises.proofs.Outcomes.{placed-one}
+use Rattle.promises.proofs.OneToOne.{placed-one-to-one}
 
 -- ---- what an answer was made from
 
@@ -294,4 +294,4 @@ pub depends-on-arguments : (κs κs′ : Lfts 3) (a b x y : Arguments) (r s : Pl
     → (r ≡ s) × (area x ≡ area y)
 depends-on-arguments κs κs′ a b x y r s files tables resolutions pages areas p q =
     let same : meant a ≡ meant b = cc in
-    (placed-one (placedCounts (meant b)) r s (p .0 ∙ ap placedCounts same) (q .0), p .1 .0 ∙ ap₂ areaAfter areas same ∙ sym (q .1 .0))
+    (placed-one-to-one r s (p .0 ∙ ap placedCounts same ∙ sym (q .0)), p .1 .0 ∙ ap₂ areaAfter areas same ∙ sym (q .1 .0))

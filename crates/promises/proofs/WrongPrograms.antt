@@ -24,7 +24,7 @@ use Rattle.reader.specs.declared.Placed.the-variants as Placed
 use Rattle.reader.specs.Answers.{Accepts, Refuses}
 use Rattle.reader.proofs.check_file.Reads as check-file
 use Rattle.reader.proofs.place_page.Reads as place-page
-use Rattle.promises.proofs.Outcomes.{placed-one}
+use Rattle.promises.proofs.OneToOne.{placed-one-to-one}
 use Rattle.promises.proofs.Placing.{Arguments, file, table, resolution, page, area, meant}
 
 -- ---- the check of a file
@@ -76,7 +76,7 @@ module _ (κs : Lfts 3) (a x : Arguments) (is : IsPrinted a) where
   module _ (r : Placed) (post : place-page.Post κs a r x) where
     -- invented counts: two records, no missing character and no special, and no other
     pub not-invented-counts : r ≡ Placed.Records 2 0 0
-    not-invented-counts = placed-one _ r (Placed.Records 2 0 0) (post .0 ∙ ap placedCounts (example-placed a is)) refl
+    not-invented-counts = placed-one-to-one r (Placed.Records 2 0 0) (post .0 ∙ ap placedCounts (example-placed a is))
 
     -- refusing every page: this one must be placed
     pub not-refusing-every-page : Refuses r → ⊥
