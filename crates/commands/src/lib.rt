@@ -7,7 +7,7 @@ ghost use mathlib.Core.Path.{_≡_};
 ghost use Prim.Native.Nat.{_+_, _≤_, _<_};
 ghost use lib.ListN.{length, drop};
 ghost use Rattle.commands.specs.Kinds.{kindOf};
-ghost use Rattle.commands.specs.Lengths.{fixedLength, innerLength};
+ghost use Rattle.commands.specs.Lengths.{lengths, fixedLength, innerLength};
 ghost use Rattle.commands.specs.Reading.{readAnswer, readAt};
 
 // A file longer than this is refused
@@ -238,15 +238,22 @@ fn frame_kind(opcode: u8) -> Kind
     }
 }
 
+// The table of parameter lengths. Whoever reads many commands holds it: it would be laid out anew at each look at the constant.
+pub fn length_table() -> [u8; 122]
+    ensures { λ r. ⌜ r ≡ lengths ⌝ }
+{
+    LENGTHS
+}
+
 // The parameter bytes that the table gives.
-pub fn fixed_length(opcode: u8) -> usize
-    requires { ⌜ opcode < 250 ⌝ }
+pub fn fixed_length(table: &[u8; 122], opcode: u8) -> usize
+    requires { ⌜ (now table ≡ lengths) × (opcode < 250) ⌝ }
     ensures { λ r. ⌜ r ≡ fixedLength opcode ⌝ }
 {
     if opcode < 128 {
         return 0;
     }
-    numbers::wide(LENGTHS[(opcode - 128) as usize]) as usize
+    numbers::wide(table[(opcode - 128) as usize]) as usize
 }
 
 // What a length inside the command adds, of the parameters that start at a place.
@@ -270,8 +277,9 @@ fn inner_length(file: &[u8], start: usize, opcode: u8) -> usize
     }
 }
 
-// One command, read at a place.
-pub fn read_at(file: &[u8], at: usize) -> Read
+// One command, read at a place, by the table of lengths.
+pub fn read_by(table: &[u8; 122], file: &[u8], at: usize) -> Read
+    requires { ⌜ now table ≡ lengths ⌝ }
     ensures { λ r. ⌜ readAnswer r ≡ readAt (now (file .entry)) at ⌝ }
 {
     let ends = Read::Refused(Refusal {
@@ -290,7 +298,7 @@ pub fn read_at(file: &[u8], at: usize) -> Read
     }
     let start = at + 1;
     let left = file.len() - start;
-    let fixed = fixed_length(opcode);
+    let fixed = fixed_length(table, opcode);
     if left < fixed {
         return ends;
     }
@@ -305,4 +313,12 @@ pub fn read_at(file: &[u8], at: usize) -> Read
         start: start,
         next: next,
     })
+}
+
+// One command, read at a place.
+pub fn read_at(file: &[u8], at: usize) -> Read
+    ensures { λ r. ⌜ readAnswer r ≡ readAt (now (file .entry)) at ⌝ }
+{
+    let table = length_table();
+    read_by(&table, file, at)
 }

@@ -163,6 +163,22 @@ after-command file at c rest e =
       omega (arith, front-length (drop at file) c rest e, length-drop at file),
     )
 
+-- ---- a command that keeps the rules and defines no font
+
+pub turn-to : {file : List ℕ} {page : ℕ} {v : Volume} {fonts again : List ℕ} (g : Going file page v fonts again) (c : Command) (rest : List ℕ)
+    → front (drop (v .at) file) ≡ whole c rest → fault (g .past) c ≡ 0 → isA PostPost c ≡ false
+    → {w : Volume} → afterOf page v (kindOfCommand c) (c .params) ≡ w
+    → tableAfter false (v .stage) (kindOfCommand c) (c .opcode) (c .params) (v .at) fonts ≡ fonts
+    → tableAfter true (v .stage) (kindOfCommand c) (c .opcode) (c .params) (v .at) again ≡ again
+    → Going file page w fonts again
+turn-to {file} {page} {v} {fonts} {again} g c rest ahead clean goes {w} after early late =
+    let follows = after-command file (place (g .past)) c rest (ahead-is g ahead) in
+    let turn = turn-onward g c rest ahead clean goes (follows .0) (follows .1) in
+    let noted = tableAfter true (v .stage) (kindOfCommand c) (c .opcode) (c .params) (v .at) again in
+    subst (Going file page w fonts) late
+    (subst (λ (table : List ℕ). Going file page w table noted) early
+    (subst (λ (next : Volume). Going file page next (tableAfter false (v .stage) (kindOfCommand c) (c .opcode) (c .params) (v .at) fonts) noted) after turn))
+
 -- ---- a run of plain commands
 
 -- it never leads back
@@ -174,18 +190,13 @@ forward (one-more c rest passed ahead t) = omega (arith, forward passed)
 plain-turn : {file : List ℕ} {page : ℕ} {v : Volume} {fonts again : List ℕ} → Going file page v fonts again → v .stage ≡ OnPage → v .selected ≡ true
     → (c : Command) (rest : List ℕ) → front (drop (v .at) file) ≡ whole c rest → isPlain (kindOfCommand c) ≡ true
     → Going file page (placedAt v (v .at + (1 + length (c .params)))) fonts again
-plain-turn {file} {page} {v} {fonts} {again} g on-page with-font c rest ahead t =
+plain-turn {page = page} {v = v} {fonts = fonts} {again = again} g on-page with-font c rest ahead t =
     let state = g .agrees .state in
     let stage-is : stage (g .past) ≡ OnPage = sym (ap (λ (w : Volume). w .stage) state) ∙ on-page in
     let font-is : selected (g .past) ≡ true = sym (ap (λ (w : Volume). w .selected) state) ∙ with-font in
-    let follows = after-command file (place (g .past)) c rest (ahead-is g ahead) in
     let deep : v .depth ≤ v .greatest = subst (λ (w : Volume). w .depth ≤ w .greatest) (sym state) (depth-reached (g .past)) in
-    let turn = turn-onward g c rest ahead (plain-fault (g .past) c stage-is font-is t) (plain-not-last (g .past) c stage-is font-is t) (follows .0) (follows .1) in
-    let moved = subst (λ (w : Volume). Going file page w (tableAfter false (v .stage) (kindOfCommand c) (c .opcode) (c .params) (v .at) fonts) (tableAfter true (v .stage) (kindOfCommand c) (c .opcode) (c .params) (v .at) again))
-    (plain-after page v (c .params) (kindOfCommand c) t deep) turn in
-    subst (Going file page (placedAt v (v .at + (1 + length (c .params)))) fonts) (plain-table true (v .stage) (kindOfCommand c) t (c .opcode) (c .params) (v .at) again)
-    (subst (λ (table : List ℕ). Going file page (placedAt v (v .at + (1 + length (c .params)))) table (tableAfter true (v .stage) (kindOfCommand c) (c .opcode) (c .params) (v .at) again))
-    (plain-table false (v .stage) (kindOfCommand c) t (c .opcode) (c .params) (v .at) fonts) moved)
+    turn-to g c rest ahead (plain-fault (g .past) c stage-is font-is t) (plain-not-last (g .past) c stage-is font-is t) (plain-after page v (c .params) (kindOfCommand c) t deep)
+    (plain-table false (v .stage) (kindOfCommand c) t (c .opcode) (c .params) (v .at) fonts) (plain-table true (v .stage) (kindOfCommand c) t (c .opcode) (c .params) (v .at) again)
 
 -- on a page, with a font selected, the code may go to any place that a run of plain commands leads to
 pub passing : {file : List ℕ} {page : ℕ} {v : Volume} {fonts again : List ℕ} → Going file page v fonts again → v .stage ≡ OnPage → v .selected ≡ true

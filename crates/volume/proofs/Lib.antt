@@ -12,5 +12,6 @@ pub mod Bounds
 pub mod Tables
 pub mod PlainLaws
 pub mod Going
+pub mod ShortLaws
 pub mod ScanTurns
 pub mod NameLaws

@@ -13,7 +13,7 @@ use Rattle.volume.specs.declared.Stage.the-variants.{OnPage}
 use Rattle.volume.specs.declared.Volume.{Volume}
 use Rattle.volume.specs.Past.{isA, stage, selected}
 use Rattle.volume.specs.Rules.{fault}
-use Rattle.volume.specs.Steps.{afterOf, isPlain, tableAfter}
+use Rattle.volume.specs.Steps.{afterOf, isPlain, changed, tableAfter}
 
 -- what holds of each plain kind holds of any
 plain-cases : (P : Kind → Type 0) → P SetCharacter → P SetRule → P PutCharacter → P PutRule → P Nop → P Right → P W → P X → P Down → P Y → P Z
@@ -40,26 +40,6 @@ plain-cases P a b c d e f g h i j k Pre t = absurd (false≢true t)
 plain-cases P a b c d e f g h i j k Post t = absurd (false≢true t)
 plain-cases P a b c d e f g h i j k PostPost t = absurd (false≢true t)
 plain-cases P a b c d e f g h i j k Undefined t = absurd (false≢true t)
-
--- the same volume but for its stage, place and depths
-abbrev pub changed : Volume → Stage → ℕ → ℕ → ℕ → Volume
-changed v stage at depth greatest =
-    record {
-      stage = stage;
-      at = at;
-      depth = depth;
-      greatest = greatest;
-      pages = v .pages;
-      bop = v .bop;
-      wanted = v .wanted;
-      post = v .post;
-      num = v .num;
-      den = v .den;
-      mag = v .mag;
-      fonts = v .fonts;
-      again = v .again;
-      selected = v .selected;
-    }
 
 -- the same volume at another place
 abbrev pub placedAt : Volume → ℕ → Volume

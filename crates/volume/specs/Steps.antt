@@ -1,9 +1,9 @@
 -- What the code holds of the commands so far, and what it makes of one more; no promise cites this. Assumes nothing.
-use Prim.Native.Nat.{ℕ, _+_, _<_, _≤_, max}
+use Prim.Native.Nat.{ℕ, _+_, _-_, _<_, _≤_, max}
 use mathlib.Core.Path.{_≡_}
 use mathlib.Core.Bool.{Bool, true, false, cond, not, _&&_, _||_}
 use mathlib.Core.List.{List}
-use lib.Dec.{eqb}
+use lib.Dec.{ltb, leb, eqb}
 use lib.ListN.{length, getD, drop, set}
 use lib.IntN.{ℤ, pos, natAbs}
 use Rattle.refusals.specs.Numbers.{wrongPreamble, wrongFontDefinition, wrongPointer, wrongPostamble}
@@ -16,6 +16,7 @@ use Rattle.commands.specs.Kinds.{kindOf, is}
 use Rattle.commands.specs.Commands.{Command, kindOfCommand, whole, front}
 use Rattle.commands.specs.Parameters.{definedFont, selectedFont}
 use Rattle.commands.specs.Reading.{longestFile}
+use Rattle.state.specs.Limits.{deepest}
 use Rattle.volume.specs.declared.Stage.{Stage}
 use Rattle.volume.specs.declared.Summary.{Summary}
 use Rattle.volume.specs.declared.Volume.{Volume}
@@ -175,8 +176,8 @@ FaultIs file v fonts again opcode params r =
     (page : ℕ) (past : List Command) → Agrees file page v fonts again past → r ≡ fault past (command opcode params)
 
 -- a step that the scan may take: whatever it stood for before, it stands for what follows after
-abbrev pub Onward : List ℕ → Volume → Volume → Type 0
-Onward file v r = (page : ℕ) (fonts again : List ℕ) → Going file page v fonts again → Going file page r fonts again
+abbrev pub Onward : List ℕ → List ℕ → Volume → Volume → Type 0
+Onward file fonts v r = (page : ℕ) (again : List ℕ) → Going file page v fonts again → Going file page r fonts again
 
 -- ---- commands that on a page, with a font selected, change nothing but the place
 
@@ -189,6 +190,32 @@ pub data Passes (file : List ℕ) : ℕ → ℕ → Type 0 where
   none-more : {at : ℕ} → Passes file at at
   one-more : {from at : ℕ} (c : Command) (rest : List ℕ) → Passes file from at → front (drop at file) ≡ whole c rest → isPlain (kindOfCommand c) ≡ true
       → Passes file from (at + (1 + length (c .params)))
+
+-- a push below depth 100, a pop above depth 0, or fnt_num_0 to fnt_num_63 of a font that is defined
+abbrev pub mayPass : List ℕ → ℕ → ℕ → Bool
+mayPass fonts opcode depth =
+    cond (eqb opcode 141) (ltb depth deepest)
+    (cond (eqb opcode 142) (ltb 0 depth) ((leb 171 opcode && ltb opcode 235) && not (eqb (getD fonts (opcode - 171) 0) 0)))
+
+-- the same volume but for its stage, place and depths
+abbrev pub changed : Volume → Stage → ℕ → ℕ → ℕ → Volume
+changed v stage at depth greatest =
+    record {
+      stage = stage;
+      at = at;
+      depth = depth;
+      greatest = greatest;
+      pages = v .pages;
+      bop = v .bop;
+      wanted = v .wanted;
+      post = v .post;
+      num = v .num;
+      den = v .den;
+      mag = v .mag;
+      fonts = v .fonts;
+      again = v .again;
+      selected = v .selected;
+    }
 
 -- ---- answers
 

@@ -1,10 +1,15 @@
-// The short way: three bytes in four are commands that on a page, with a font selected, change nothing but the place.
+// The short way: most commands of a page are plain, which with a font selected change nothing but the place; most of the others push, pop or select.
 use crate::Stage;
 use crate::Volume;
+use crate::progress;
+use state::Page;
 ghost use mathlib.Core.Path.{_≡_};
 ghost use Prim.Native.Nat.{_≤_};
+ghost use mathlib.Core.Bool.{true};
 ghost use Rattle.commands.specs.Kinds.{kindOf};
-ghost use Rattle.volume.specs.Steps.{isPlain, Passes, Onward};
+ghost use Rattle.commands.specs.Lengths.{lengths};
+ghost use Rattle.volume.specs.declared.Stage.the-variants.{OnPage};
+ghost use Rattle.volume.specs.Steps.{isPlain, Passes, mayPass, changed, Onward};
 
 // Whether an opcode is one that on a page, with a font selected, changes nothing but the place.
 fn is_plain(opcode: u8) -> bool
@@ -18,7 +23,8 @@ fn is_plain(opcode: u8) -> bool
 }
 
 // The place after the plain commands that stand at a place.
-fn pass_plain(file: &[u8], at: usize) -> usize
+fn pass_plain(table: &[u8; 122], file: &[u8], at: usize) -> usize
+    requires { ⌜ now table ≡ lengths ⌝ }
     ensures { λ r. ⌜ Passes (now (file .entry)) at r ⌝ }
 {
     let mut place = at;
@@ -27,7 +33,7 @@ fn pass_plain(file: &[u8], at: usize) -> usize
         if !is_plain(opcode) {
             return place;
         }
-        let length = commands::fixed_length(opcode);
+        let length = commands::fixed_length(table, opcode);
         if file.len() - place <= length {
             return place;
         }
@@ -36,19 +42,64 @@ fn pass_plain(file: &[u8], at: usize) -> usize
     place
 }
 
-// The short way over plain commands, where it may be taken.
-pub fn passed(file: &[u8], v: Volume) -> Volume
-    ensures { λ r. ⌜ Onward (now (file .entry)) v r ⌝ }
+// Whether an opcode, at a depth, is a push, a pop or a short selection that keeps the rules.
+fn may_pass(fonts: &[u32; 256], opcode: u8, depth: usize) -> bool
+    ensures { λ r. ⌜ r ≡ mayPass (now (fonts .entry)) opcode depth ⌝ }
+{
+    match opcode {
+        141 => depth < Page::DEPTH,
+        142 => 0 < depth,
+        171..=234 => fonts[(opcode - 171) as usize] != 0,
+        _ => false,
+    }
+}
+
+// The same volume at another place and depth.
+fn reached(v: Volume, at: usize, depth: usize, greatest: usize) -> Volume
+    ensures { λ r. ⌜ r ≡ changed v (v .stage) at depth greatest ⌝ }
+{
+    let mut next = v;
+    next.at = at;
+    next.depth = depth;
+    next.greatest = greatest;
+    next
+}
+
+// The short way on a page with a font selected, as far as it goes.
+fn pass_on(table: &[u8; 122], fonts: &[u32; 256], file: &[u8], v: Volume) -> Volume
+    requires { ⌜ (now table ≡ lengths) × (v .stage ≡ OnPage) × (v .selected ≡ true) ⌝ }
+    ensures { λ r. ⌜ Onward (now (file .entry)) (now (fonts .entry)) v r ⌝ }
+    ensures { λ r. ⌜ v .at ≤ r .at ⌝ }
+{
+    let mut place = v.at;
+    let mut depth = v.depth;
+    let mut greatest = v.greatest;
+    loop {
+        place = pass_plain(table, file, place);
+        if file.len() <= place {
+            return reached(v, place, depth, greatest);
+        }
+        let opcode = file[place];
+        if !may_pass(fonts, opcode, depth) {
+            return reached(v, place, depth, greatest);
+        }
+        depth = progress::next_depth(commands::kind_of(opcode), depth);
+        greatest = progress::greater(greatest, depth);
+        place = place + 1;
+    }
+}
+
+// The short way, where it may be taken.
+pub fn passed(table: &[u8; 122], fonts: &[u32; 256], file: &[u8], v: Volume) -> Volume
+    requires { ⌜ now table ≡ lengths ⌝ }
+    ensures { λ r. ⌜ Onward (now (file .entry)) (now (fonts .entry)) v r ⌝ }
     ensures { λ r. ⌜ v .at ≤ r .at ⌝ }
 {
     let stage = v.stage;
     match stage {
         Stage::OnPage => {
             if v.selected {
-                let at = v.at;
-                let mut next = v;
-                next.at = pass_plain(file, at);
-                return next;
+                return pass_on(table, fonts, file, v);
             }
             v
         }

@@ -6,6 +6,7 @@ use commands::Kind;
 ghost use mathlib.Core.Path.{_≡_};
 ghost use Prim.Native.Nat.{_+_, _≤_, _<_, _^_, max};
 ghost use lib.ListN.{length};
+ghost use Rattle.commands.specs.declared.Kind.the-variants.{Push};
 ghost use Rattle.volume.specs.Past.{stageAfter, depthAfter};
 ghost use Rattle.volume.specs.Steps.{afterOf, WithRoom};
 
@@ -22,8 +23,8 @@ fn next_stage(kind: Kind, stage: Stage) -> Stage
     }
 }
 
-fn next_depth(kind: Kind, depth: usize) -> usize
-    requires { ⌜ depth < 2 ^ 32 ⌝ }
+pub fn next_depth(kind: Kind, depth: usize) -> usize
+    requires { ⌜ (kind ≡ Push → depth < 2 ^ 32) ⌝ }
     ensures { λ r. ⌜ r ≡ depthAfter kind depth ⌝ }
 {
     match kind {
@@ -38,7 +39,7 @@ fn next_depth(kind: Kind, depth: usize) -> usize
     }
 }
 
-fn greater(a: usize, b: usize) -> usize
+pub fn greater(a: usize, b: usize) -> usize
     ensures { λ r. ⌜ r ≡ max a b ⌝ }
 {
     if a < b { b } else { a }

@@ -71,10 +71,11 @@ pub fn scan(file: &[u8], page: usize, fonts: &mut [u32; 256]) -> Scanned
         again: 0,
         selected: false,
     };
+    let table = commands::length_table();
     loop {
-        v = plain::passed(file, v);
+        v = plain::passed(&table, &*fonts, file, v);
         let at = v.at;
-        match commands::read_at(file, at) {
+        match commands::read_by(&table, file, at) {
             Read::Refused(refusal) => return Scanned::Refused(refusal),
             Read::Command(reading) => {
                 let opcode = reading.opcode;

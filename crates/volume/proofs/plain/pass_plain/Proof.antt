@@ -47,10 +47,10 @@ pass-one {file} {from} {at} passed starts plain count is fits =
     subst (λ (n : ℕ). Passes file from (at + (1 + n))) (length-take-le count rest room) (one-more (command opcode (take count rest)) (drop count rest) passed ahead plain)
 
 abbrev Inv-loop : tie.InvT-loop
-Inv-loop file at place₀ place = Passes file at place
+Inv-loop table file at place₀ place = Passes file at place
 
 abbrev μ-loop : tie.MeasureT-loop
-μ-loop file at place₀ place = length file - place
+μ-loop table file at place₀ place = length file - place
 
 loop-holds : tie.Need-loop-holds Inv-loop μ-loop
 loop-holds c = none-more
@@ -65,7 +65,7 @@ returns : tie.Need-returns Inv-loop μ-loop
 returns c = c .before .before .before .before .loop .inv
 
 fixed-length-requires : tie.Need-fixed-length-requires Inv-loop μ-loop
-fixed-length-requires c κs = omega (arith, plain-below _ (sym (c .before .is-plain .ensures) ∙ not-false _ (c .if1 .left)))
+fixed-length-requires c κs = (c .before .before .before .before .before .before .pre, omega (arith, plain-below _ (sym (c .before .is-plain .ensures) ∙ not-false _ (c .if1 .left))))
 
 sub-if2 : tie.Need-sub-if2 Inv-loop μ-loop
 sub-if2 c = omega arith

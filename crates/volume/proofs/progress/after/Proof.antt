@@ -12,9 +12,8 @@ use Rattle.commands.specs.declared.Kind.{Kind}
 use Rattle.commands.specs.declared.Kind.the-variants.{Pre, Bop, Post, Select, Define}
 use Rattle.volume.specs.declared.Volume.{Volume}
 use Rattle.volume.specs.Past.{stageAfter, depthAfter}
-use Rattle.volume.specs.Steps.{afterOf}
+use Rattle.volume.specs.Steps.{afterOf, changed}
 use Rattle.volume.proofs.Arms.{kind-others}
-use Rattle.volume.proofs.PlainLaws.{changed}
 use Rattle.volume.proofs.progress.after.Statement.{statement}
 use Rattle.volume.proofs.progress.after.Tie as tie
 

@@ -14,7 +14,7 @@ enum-told : tie.Need-enum-told
 enum-told c = search needs
 
 add-result : tie.Need-add-result
-add-result c = search needs
+add-result c = record { fits = omega (arith, c .before .before .pre (c .enum-told .given .1)) }
 
 enum-told-2 : tie.Need-enum-told-2
 enum-told-2 c = search needs

@@ -22,50 +22,62 @@ use Rattle.volume.proofs.scanning.scan.Statement.{statement}
 use Rattle.volume.proofs.scanning.scan.Tie as tie
 
 abbrev Inv-loop : tie.InvT-loop
-Inv-loop file page fonts₀ again₀ v₀ fonts again v = Going file page v fonts again
+Inv-loop file page fonts₀ again₀ v₀ table fonts again v = Going file page v fonts again
 
 abbrev μ-loop : tie.MeasureT-loop
-μ-loop file page fonts₀ again₀ v₀ fonts again v = length file - v .at
+μ-loop file page fonts₀ again₀ v₀ table fonts again v = length file - v .at
 
 returns : tie.Need-returns Inv-loop μ-loop
 unfolding judged
 returns c = (simp (lt-ltb _ _ (c .if1 .taken)), tt)
 
+length-table-requires : tie.Need-length-table-requires Inv-loop μ-loop
+length-table-requires c κs = tt
+
 loop-holds : tie.Need-loop-holds Inv-loop μ-loop
 loop-holds c =
-    let s = c .before .before in
+    let s = c .before .before .before in
     subst (λ (table : List ℕ). Going (now (s .args .file)) (s .args .page) (stateOf (s .args .page) []) table (replicate 256 0)) (sym (s .pre))
-    (starting (now (s .args .file)) (s .args .page) (c .if1 .left))
+    (starting (now (s .args .file)) (s .args .page) (c .before .if1 .left))
 
 passed-requires : tie.Need-passed-requires Inv-loop μ-loop
-passed-requires c κs = tt
+passed-requires c κs = c .before .before .before .length-table .ensures
 
-read-at-requires : tie.Need-read-at-requires Inv-loop μ-loop
-read-at-requires c κs = tt
+read-by-requires : tie.Need-read-by-requires Inv-loop μ-loop
+read-by-requires c κs = c .before .before .before .before .before .length-table .ensures
 
 -- the commands so far, after the short way
-going : (c : tie.After-passed Inv-loop μ-loop)
-    → Going (now (c .before .before .before .before .args .file)) (c .before .before .before .before .args .page) (c .passed .result) (c .before .loop .fonts) (c .before .loop .again)
-going c = c .passed .ensures .0 (c .before .before .before .before .args .page) (c .before .loop .fonts) (c .before .loop .again) (c .before .loop .inv)
+module _ (c : tie.After-passed Inv-loop μ-loop) where
+  abbrev looped : tie.At-loop Inv-loop μ-loop
+  looped = c .before .before .before
+
+  abbrev entered : tie.Start Inv-loop μ-loop
+  entered = looped .before .before .before .before
+
+  going : Going (now (entered .args .file)) (entered .args .page) (c .passed .result) (looped .loop .fonts) (looped .loop .again)
+  going = c .passed .ensures .0 (entered .args .page) (looped .loop .again) (looped .loop .inv)
 
 enum-known-refusal : tie.Need-enum-known-refusal Inv-loop μ-loop
 enum-known-refusal c = search needs
 
 returns-2 : tie.Need-returns-2 Inv-loop μ-loop
 returns-2 c =
-    let p = c .before .before .before .before in
+    let p = c .before .before .before .before .before in
     let r = c .before .refusal .given .0 .0 in
-    (sym (turn-unread (going p) (r .number) (r .place) (sym (c .before .before .before .read-at .ensures) ∙ ap readAnswer (c .before .refusal .given .1))), tt)
+    (sym (turn-unread (going p) (r .number) (r .place) (sym (c .before .before .before .read-by .ensures) ∙ ap readAnswer (c .before .refusal .given .1))), tt)
 
 enum-known-reading : tie.Need-enum-known-reading Inv-loop μ-loop
 enum-known-reading c = search needs
 
 -- the command that was read
-read : (c : tie.After-known-told2 Inv-loop μ-loop)
-    → Reads (now (c .before .before .before .before .before .before .before .before .args .file)) (c .before .before .before .before .passed .result .at) (c .before .reading .given .0 .0)
-read c =
-    given-reads (now (c .before .before .before .before .before .before .before .before .args .file)) (c .before .before .before .before .passed .result .at) (c .before .reading .given .0 .0)
-    (sym (c .before .before .before .read-at .ensures) ∙ ap readAnswer (c .before .reading .given .1))
+module _ (c : tie.After-known-told2 Inv-loop μ-loop) where
+  abbrev short : tie.After-passed Inv-loop μ-loop
+  short = c .before .before .before .before .before
+
+  read : Reads (now (entered short .args .file)) (short .passed .result .at) (c .before .reading .given .0 .0)
+  read =
+      given-reads (now (entered short .args .file)) (short .passed .result .at) (c .before .reading .given .0 .0)
+      (sym (c .before .before .before .read-by .ensures) ∙ ap readAnswer (c .before .reading .given .1))
 
 sub-params : tie.Need-sub-params Inv-loop μ-loop
 sub-params c = omega (arith, read c .starts, read c .nexts)
@@ -83,7 +95,7 @@ fault-of-requires : tie.Need-fault-of-requires Inv-loop μ-loop
 fault-of-requires c κs =
     let k = c .before .before in
     let t = k .before .before in
-    let g = going (t .before .before .before .before) in
+    let g = going (short t) in
     let r = t .before .reading .given .0 .0 in
     ((k .kind-of .ensures, opcode-defined g r (read t), fixed-fits g r (read t)), omega (arith, small g .post-is, next-small g r (read t)))
 
@@ -92,7 +104,7 @@ returns-3 c =
     let f = c .before in
     let k = f .before .before .before in
     let t = k .before .before in
-    let g = going (t .before .before .before .before) in
+    let g = going (short t) in
     let r = t .before .reading .given .0 .0 in
     (scan-stops g r (read t) (k .kind-of .result) (k .kind-of .ensures) (f .fault-of .result) (f .fault-of .ensures) (c .if2 .taken), tt)
 
@@ -102,7 +114,7 @@ note-requires c κs =
     let f = e .before in
     let k = f .before .before .before in
     let t = k .before .before in
-    let g = going (t .before .before .before .before) in
+    let g = going (short t) in
     let r = t .before .reading .given .0 .0 in
     ((k .kind-of .ensures, fixed-fits g r (read t)), (omega (arith, next-small g r (read t)), lawfully-numbered g r (read t) (k .kind-of .result) (k .kind-of .ensures) (f .fault-of .result) (f .fault-of .ensures) (e .if2 .left)))
 
@@ -113,7 +125,7 @@ after-requires : tie.Need-after-requires Inv-loop μ-loop
 after-requires c κs =
     let k = c .before .before .before .before .before .before .before .before in
     let t = k .before .before in
-    let g = going (t .before .before .before .before) in
+    let g = going (short t) in
     let r = t .before .reading .given .0 .0 in
     let s = small g in
     ((next-small g r (read t), with-room g r (read t) (k .kind-of .result) (k .kind-of .ensures)), (s .depth-is, s .pages-are, s .fonts-are, s .again-are))
@@ -139,11 +151,11 @@ module _ (c : tie.After-after Inv-loop μ-loop) where
   kind = kinded .kind-of .result
 
   abbrev start : tie.Start Inv-loop μ-loop
-  start = told .before .before .before .before .before .before .before .before
+  start = entered (short told)
 
   turn : Turned (now (start .args .file)) (start .args .page) kind (told .before .reading .given .0 .0 .next) (c .after .result) (c .before .before .before .note .last .0) (c .before .note2 .last .0)
   turn =
-      turned (going (told .before .before .before .before)) (told .before .reading .given .0 .0) (read told) kind (kinded .kind-of .ensures)
+      turned (going (short told)) (told .before .reading .given .0 .0) (read told) kind (kinded .kind-of .ensures)
       (clean .before .fault-of .result) (clean .before .fault-of .ensures) (clean .if2 .left)
       (c .after .result) (c .after .ensures) (c .before .before .before .note .last .0) (c .before .note2 .last .0)
       (c .before .before .before .note .ensures) (c .before .note2 .ensures)
@@ -157,7 +169,7 @@ returns-4 c =
 loop-less : tie.Need-loop-less Inv-loop μ-loop
 loop-less c =
     let t = told (c .before) in
-    let p = t .before .before .before .before in
+    let p = short t in
     let r = t .before .reading .given .0 .0 in
     omega (arith, turn (c .before) .place-held, next-is (going p) r (read t), read t .inside, p .passed .ensures .1)
 
@@ -171,9 +183,10 @@ scan-spec =
     Inv-loop
     μ-loop
     returns
+    length-table-requires
     loop-holds
     passed-requires
-    read-at-requires
+    read-by-requires
     enum-known-refusal
     returns-2
     enum-known-reading

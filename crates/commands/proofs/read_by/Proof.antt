@@ -1,10 +1,10 @@
--- `commands::read_at` meets its contract: each return is one case of what stands at the place. Assumes nothing.
+-- `commands::read_by` meets its contract: each return is one case of what stands at the place. Assumes nothing.
 use native.Mathlib.Omega.{arith}
 use borrow.Author.Needs.{needs}
 use Rattle.commands.specs.Lengths.{sizeOf}
 use Rattle.commands.proofs.Readings.{read-end, read-undefined, read-cut, read-whole}
-use Rattle.commands.proofs.read_at.Statement.{statement}
-use Rattle.commands.proofs.read_at.Tie as tie
+use Rattle.commands.proofs.read_by.Statement.{statement}
+use Rattle.commands.proofs.read_by.Tie as tie
 
 returns : tie.Need-returns
 returns c = read-end _ _ (omega arith)
@@ -47,8 +47,8 @@ returns-5 c =
     let a = c .before .before .before .before .before .before .before .before .args in
     read-whole (a .file .now) (a .at) (omega arith) (omega arith) (omega arith) (omega arith)
 
-pub read-at-spec : {M : Type 1} → statement M
-read-at-spec =
+pub read-by-spec : {M : Type 1} → statement M
+read-by-spec =
     tie.close
     (tie.spec
     returns
