@@ -3,10 +3,12 @@ use commands::Read;
 use state::Font;
 use volume::fonts;
 ghost use mathlib.Core.Path.{_≡_};
+ghost use Rattle.commands.specs.Lengths.{lengths};
 ghost use Rattle.page.specs.Steps.{FontIs};
 
 // The font of a number, by the table of the definitions before post; one that is not defined has scale 0.
-pub fn font_of(file: &[u8], fonts: &[u32; 256], number: i64) -> Font
+pub fn font_of(table: &[u8; 122], file: &[u8], fonts: &[u32; 256], number: i64) -> Font
+    requires { ⌜ now table ≡ lengths ⌝ }
     ensures { λ r. ⌜ FontIs (now (file .entry)) (now (fonts .entry)) number r ⌝ }
 {
     let unselected = Font {
@@ -21,7 +23,7 @@ pub fn font_of(file: &[u8], fonts: &[u32; 256], number: i64) -> Font
     if entry == 0 {
         return unselected;
     }
-    match commands::read_at(file, entry - 1) {
+    match commands::read_by(table, file, entry - 1) {
         Read::Refused(_) => unselected,
         Read::Command(reading) => {
             let opcode = reading.opcode;
@@ -35,8 +37,9 @@ pub fn font_of(file: &[u8], fonts: &[u32; 256], number: i64) -> Font
             }
             let from = start + (opcode - 242) as usize;
             let said = &file[from..next];
+            let which = number as u64;
             Font {
-                number: number as u64,
+                number: which,
                 checksum: numbers::unsigned_at(said, 0, 4),
                 scale: numbers::unsigned_at(said, 4, 4),
             }

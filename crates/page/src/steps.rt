@@ -22,6 +22,7 @@ ghost use lib.IntN.{natAbs};
 ghost use Rattle.refusals.specs.Answer.{given};
 ghost use Rattle.units.specs.Unit.{Accepted};
 ghost use Rattle.widths.specs.Table.{checkedTable};
+ghost use Rattle.commands.specs.Lengths.{lengths};
 ghost use Rattle.commands.specs.Commands.{Whole};
 ghost use Rattle.volume.specs.Names.{history};
 ghost use Rattle.state.specs.Steps.{Bounded};
@@ -252,6 +253,7 @@ fn rule(terms: Terms, level: Level, sets: bool, params: &[u8], hint: usize) -> A
 
 // What a command of a kind asks.
 fn asked_by(
+    table: &[u8; 122],
     file: &[u8],
     widths: &[u8],
     fonts: &[u32; 256],
@@ -263,25 +265,22 @@ fn asked_by(
     hint: usize,
 ) -> Asked
     requires { ⌜ Whole (command opcode (now params)) × Told (now file) (now fonts) (history (now file)) ⌝ }
-    requires { ⌜ (checkedTable (now widths) ≡ given (terms .records)) × Accepted (terms .ruler .k) × Known font × Bounded level ⌝ }
+    requires { ⌜ (checkedTable (now widths) ≡ given (terms .records)) × Accepted (terms .ruler .k) × Known font × Bounded level × (now table ≡ lengths) ⌝ }
     ensures { λ r. ⌜ CommandAsks (settingBy terms (now (widths .entry)) (history (now (file .entry)))) level font (command opcode (now (params .entry))) r ⌝ }
 {
     let kind = commands::kind_of(opcode);
     match kind {
-        Kind::SetCharacter => {
+        Kind::SetCharacter | Kind::PutCharacter => {
             let code = parameters::character_code(opcode, params);
-            character(widths, terms, level, font, true, code, hint)
-        }
-        Kind::PutCharacter => {
-            let code = parameters::character_code(opcode, params);
-            character(widths, terms, level, font, false, code, hint)
+            let sets = opcode < 132;
+            character(widths, terms, level, font, sets, code, hint)
         }
         Kind::SetRule => rule(terms, level, true, params, hint),
         Kind::PutRule => rule(terms, level, false, params, hint),
         Kind::Select => {
             let number = parameters::selected_font(opcode, params);
             Asked {
-                turn: Turn::Select(fonts::font_of(file, fonts, number)),
+                turn: Turn::Select(fonts::font_of(table, file, fonts, number)),
                 adds: Adds::Nothing,
                 hint: hint,
             }
@@ -301,6 +300,7 @@ fn asked_by(
 
 // What the command at a place asks, and the place after it.
 pub fn step_at(
+    table: &[u8; 122],
     file: &[u8],
     widths: &[u8],
     fonts: &[u32; 256],
@@ -311,10 +311,10 @@ pub fn step_at(
     hint: usize,
 ) -> Step
     requires { ⌜ Told (now file) (now fonts) (history (now file)) ⌝ }
-    requires { ⌜ (checkedTable (now widths) ≡ given (terms .records)) × Accepted (terms .ruler .k) × Known font × Bounded level ⌝ }
+    requires { ⌜ (checkedTable (now widths) ≡ given (terms .records)) × Accepted (terms .ruler .k) × Known font × Bounded level × (now table ≡ lengths) ⌝ }
     ensures { λ r. ⌜ StepAsks (now (file .entry)) at (settingBy terms (now (widths .entry)) (history (now (file .entry)))) level font r ⌝ }
 {
-    match commands::read_at(file, at) {
+    match commands::read_by(table, file, at) {
         Read::Refused(_) => Step {
             asked: Asked {
                 turn: Turn::End,
@@ -330,6 +330,7 @@ pub fn step_at(
             let params = &file[start..next];
             Step {
                 asked: asked_by(
+                    table,
                     file,
                     widths,
                     fonts,

@@ -36,10 +36,21 @@ pub fn walk(
     };
     let mut at = start;
     let mut hint: usize = 0;
+    let table = commands::length_table();
     loop {
         let level = page.now;
         let depth = page.depth;
-        let step = steps::step_at(file, widths, fonts, terms, at, level, page.font, hint);
+        let step = steps::step_at(
+            &table,
+            file,
+            widths,
+            fonts,
+            terms,
+            at,
+            level,
+            page.font,
+            hint,
+        );
         let asked = step.asked;
         let adds = asked.adds;
         let turn = asked.turn;

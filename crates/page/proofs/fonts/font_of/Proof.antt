@@ -46,11 +46,11 @@ returns-2 : tie.Need-returns-2
 returns-2 c past told =
     (no-definition told (c .before .before .before .before .before .args .number) (lawful (c .before .before)) (sym (entry-is (c .before)) ∙ c .if2 .taken), unselected-known)
 
-sub-read-at : tie.Need-sub-read-at
-sub-read-at c = search needs
+sub-read-by : tie.Need-sub-read-by
+sub-read-by c = search needs
 
-read-at-requires : tie.Need-read-at-requires
-read-at-requires c κs = search needs
+read-by-requires : tie.Need-read-by-requires
+read-by-requires c κs = c .before .before .before .before .before .pre
 
 enum-told : tie.Need-enum-told
 enum-told c = search needs
@@ -80,7 +80,7 @@ read : (c : tie.After-known-told)
     → Reads (now (c .before .before .before .before .before .before .before .before .before .args .file)) (at (c .before .before .before .before)) (c .before .reading .given .0 .0)
 read c =
     given-reads (now (c .before .before .before .before .before .before .before .before .before .args .file)) (at (c .before .before .before .before)) (c .before .reading .given .0 .0)
-    (sym (c .before .before .before .read-at .ensures) ∙ ap readAnswer (c .before .reading .given .1))
+    (sym (c .before .before .before .read-by .ensures) ∙ ap readAnswer (c .before .reading .given .1))
 
 -- its opcode is a definition's
 between : (c : tie.After-known-told) (past : List Command)
@@ -122,8 +122,8 @@ part-said-start c = omega (arith, within c)
 part-said-end : tie.Need-part-said-end
 part-said-end c = omega (arith, within c)
 
-cast-t22 : tie.Need-cast-t22
-cast-t22 c =
+cast-which : tie.Need-cast-which
+cast-which c =
     let s = c .before .before .before .before .before .before .before .before .before .before .before .before in
     let l = lawful-in (s .args .number) (lawful (c .before .before .before .before .before .before .before .before .before)) in
     rw (toZ-ofZ (s .fits .number)) (l .0, omega (arith, l .1))
@@ -151,7 +151,7 @@ returns-5 c past told =
     let a = e .before .before .before .before .before .args in
     let r = c .enum-told .given .0 .0 in
     absurd (not-refused (now (a .file)) (now (a .fonts)) (a .number) past (told .tells) (told .standing) (lawful (e .before .before)) (definition e past told) (r .number) (r .place)
-    (sym (c .before .before .read-at .ensures) ∙ ap readAnswer (c .enum-told .given .1)))
+    (sym (c .before .before .read-by .ensures) ∙ ap readAnswer (c .enum-told .given .1)))
 
 returns-6 : tie.Need-returns-6
 returns-6 c past told =
@@ -177,8 +177,8 @@ font-of-spec =
     returns
     entry-of-requires
     returns-2
-    sub-read-at
-    read-at-requires
+    sub-read-by
+    read-by-requires
     enum-told
     enum-known-reading
     returns-3
@@ -189,7 +189,7 @@ font-of-spec =
     sub-said
     part-said-start
     part-said-end
-    cast-t22
+    cast-which
     unsigned-at-requires
     unsigned-at-requires-2
     returns-5

@@ -1,10 +1,13 @@
 -- `page::steps::asked_by` meets its contract: what a command asks, by its kind. Assumes nothing.
 use mathlib.Core.Path.{_≡_, refl, sym, ap, _∙_, subst}
-use mathlib.Core.Bool.{true, false}
+use mathlib.Core.Bool.{Bool, true, false, _||_}
+use mathlib.Core.Logic.{_⊎_, inl, inr, ⊎-elim}
 use mathlib.Core.List.{List, [], _∷_}
 use Prim.Native.Nat.{ℕ, _<_, _≤_}
 use native.Mathlib.Omega.{arith}
 use borrow.Author.Needs.{needs, sfits-of}
+use borrow.Author.Tests.{lt-ltb, le-ltb}
+use lib.Dec.{ltb}
 use lib.ListN.{length, getD}
 use lib.IntN.{ℤ}
 use denote.Ref.{now}
@@ -13,12 +16,13 @@ use mir.Val.{toZ, ofZ}
 use mir.Facts.{toZ-ofZ}
 use Rattle.commands.specs.declared.Kind.{Kind}
 use Rattle.commands.specs.declared.Kind.the-variants as Kind
+use Rattle.commands.specs.Kinds.{is}
 use Rattle.commands.specs.Commands.{Command, kindOfCommand}
 use Rattle.commands.specs.Parameters.{characterCode, selectedFont}
-use Rattle.commands.proofs.Opcodes.{last, kind-range}
+use Rattle.commands.proofs.Opcodes.{first, last, kind-range}
 use Rattle.commands.proofs.Lengths.{fixedBy, hasInner, whole-at-most, whole-plain}
 use Rattle.volume.specs.Names.{history}
-use Rattle.volume.proofs.Arms.{kind-others}
+use Rattle.volume.proofs.Arms.{kind-arm, kind-others, is-kind}
 use Rattle.state.specs.declared.Font.{Font}
 use Rattle.state.specs.Registers.{State}
 use Rattle.page.specs.declared.Adds.the-variants as Adds
@@ -61,119 +65,135 @@ module _ (k : tie.After-kind-of) where
   code-fits : {kind : Kind} → k .kind-of .result ≡ kind → hasInner kind ≡ false → fixedBy kind (last kind) ≤ 4 → length (now (start .args .params)) ≤ 4
   code-fits told plain short = omega (arith, whole-at-most asking (start .pre .0 .0) (kind-is told) plain, short)
 
-enum-told : tie.Need-enum-told
-enum-told c = search needs
+-- the arm of characters: set or put
+characters : (k : tie.At-match-keys1) → (k .before .kind-of .result ≡ Kind.SetCharacter) ⊎ (k .before .kind-of .result ≡ Kind.PutCharacter)
+characters k = either (k .before .kind-of .result) (kind-arm (λ kind. is kind Kind.SetCharacter || is kind Kind.PutCharacter) (λ kind. true) (Kind.SetCharacter ∷ Kind.PutCharacter ∷ []) refl (k .before .kind-of .result) (k .match .keys1))
+  where
+    either : (kind : Kind) → (is kind Kind.SetCharacter || is kind Kind.PutCharacter) ≡ true → (kind ≡ Kind.SetCharacter) ⊎ (kind ≡ Kind.PutCharacter)
+    either kind t = by (is kind Kind.SetCharacter) refl t
+      where
+        by : (sets : Bool) → is kind Kind.SetCharacter ≡ sets → (sets || is kind Kind.PutCharacter) ≡ true → (kind ≡ Kind.SetCharacter) ⊎ (kind ≡ Kind.PutCharacter)
+        by true e t = inl (is-kind kind Kind.SetCharacter e)
+        by false e t = inr (is-kind kind Kind.PutCharacter t)
 
 character-code-requires : tie.Need-character-code-requires
-character-code-requires c κs = code-fits (c .before .before) (c .enum-told .given .1) refl (omega arith)
+character-code-requires c κs =
+    ⊎-elim (λ sets. code-fits (c .before) sets refl (omega arith)) (λ puts. code-fits (c .before) puts refl (omega arith)) (characters c)
 
 character-requires : tie.Need-character-requires
 character-requires c κs = search needs
 
-enum-told-2 : tie.Need-enum-told-2
-enum-told-2 c = search needs
-
-character-code-requires-2 : tie.Need-character-code-requires-2
-character-code-requires-2 c κs = code-fits (c .before .before) (c .enum-told2 .given .1) refl (omega arith)
-
-character-requires-2 : tie.Need-character-requires-2
-character-requires-2 c κs = search needs
-
-enum-told-3 : tie.Need-enum-told-3
-enum-told-3 c = search needs
+enum-told : tie.Need-enum-told
+enum-told c = search needs
 
 rule-requires : tie.Need-rule-requires
 rule-requires c κs =
     let k = c .before .before in
-    (start k .pre .1 .1, start k .pre .1 .3, omega (arith, whole-plain (asking k) (start k .pre .0 .0) (kind-is k (c .enum-told3 .given .1)) refl))
+    (start k .pre .1 .1, start k .pre .1 .3, omega (arith, whole-plain (asking k) (start k .pre .0 .0) (kind-is k (c .enum-told .given .1)) refl))
 
-enum-told-4 : tie.Need-enum-told-4
-enum-told-4 c = search needs
+enum-told-2 : tie.Need-enum-told-2
+enum-told-2 c = search needs
 
 rule-requires-2 : tie.Need-rule-requires-2
 rule-requires-2 c κs =
     let k = c .before .before in
-    (start k .pre .1 .1, start k .pre .1 .3, omega (arith, whole-plain (asking k) (start k .pre .0 .0) (kind-is k (c .enum-told4 .given .1)) refl))
+    (start k .pre .1 .1, start k .pre .1 .3, omega (arith, whole-plain (asking k) (start k .pre .0 .0) (kind-is k (c .enum-told2 .given .1)) refl))
 
-enum-told-5 : tie.Need-enum-told-5
-enum-told-5 c = search needs
+enum-told-3 : tie.Need-enum-told-3
+enum-told-3 c = search needs
 
 selected-font-requires : tie.Need-selected-font-requires
 selected-font-requires c κs =
     let k = c .before .before in
-    let e = kind-is k (c .enum-told5 .given .1) in
+    let e = kind-is k (c .enum-told3 .given .1) in
     let between = kind-range (start k .args .opcode) (omega (arith, start k .pre .0 .0 .defined)) e in
     (between .0, between .1, omega (arith, whole-plain (asking k) (start k .pre .0 .0) e refl))
 
 font-of-requires : tie.Need-font-of-requires
-font-of-requires c κs = search needs
+font-of-requires c κs = start (c .before .before .before) .pre .1 .4
 
-enum-told-6 : tie.Need-enum-told-6
-enum-told-6 c = search needs
+enum-told-4 : tie.Need-enum-told-4
+enum-told-4 c = search needs
 
 turn-of-requires : tie.Need-turn-of-requires
 turn-of-requires c κs =
     let k = c .before in
     (start k .pre .1 .3, subst (λ (kind : Kind). MoveFits kind (now (start k .args .params))) (sym (k .kind-of .ensures)) (move-fits (asking k) (start k .pre .0 .0)))
 
--- the code that was read, as it is handed on
+-- a character, set or put
+module _ (c : tie.After-character) where
+  abbrev kinded : tie.After-kind-of
+  kinded = c .before .before .before
+
+  abbrev begun : tie.Start
+  begun = start kinded
+
+  -- the code that was read, as it is handed on
+  asked : (sets : Bool) → ltb (begun .args .opcode) 132 ≡ sets
+      → CharacterAsks (begun .args .terms) (now (begun .args .widths)) (begun .args .level) (begun .args .font) sets (characterCode (begun .args .opcode) (now (begun .args .params))) (c .character .result)
+  asked sets sets-is =
+      subst (λ (t : Bool). CharacterAsks (begun .args .terms) (now (begun .args .widths)) (begun .args .level) (begun .args .font) t (characterCode (begun .args .opcode) (now (begun .args .params))) (c .character .result)) sets-is
+      (subst (λ (code : ℤ). CharacterAsks (begun .args .terms) (now (begun .args .widths)) (begun .args .level) (begun .args .font) (ltb (begun .args .opcode) 132) code (c .character .result))
+      (toZ-ofZ (sfits-of (c .before .character-code .ok)) ∙ c .before .character-code .ensures .0) (c .character .ensures))
+
+  range : {kind : Kind} → kinded .kind-of .result ≡ kind → (first kind ≤ begun .args .opcode) × (begun .args .opcode ≤ last kind)
+  range told = kind-range (begun .args .opcode) (omega (arith, start kinded .pre .0 .0 .defined)) (kind-is kinded told)
+
+  abbrev Answered : Type 0
+  Answered = CommandAsks (setting kinded) (begun .args .level) (begun .args .font) (asking kinded) (c .character .result)
+
+  sets : kinded .kind-of .result ≡ Kind.SetCharacter → Answered
+  sets told =
+      let both = asked true (lt-ltb (begun .args .opcode) 132 (omega (arith, range told .1))) (history (now (begun .args .file))) in
+      let comes = both .0 in
+      asks kinded told (c .character .result) (record { does = comes .does; safe = comes .safe; words = comes .words }) (plain-suits Kind.SetCharacter (c .character .result .turn) refl (both .1))
+
+  puts : kinded .kind-of .result ≡ Kind.PutCharacter → Answered
+  puts told =
+      let both = asked false (le-ltb (begun .args .opcode) 132 (omega (arith, range told .0))) (history (now (begun .args .file))) in
+      let comes = both .0 in
+      asks kinded told (c .character .result) (record { does = comes .does; safe = comes .safe; words = comes .words }) (plain-suits Kind.PutCharacter (c .character .result .turn) refl (both .1))
+
 returns : tie.Need-returns
-returns c =
-    let k = c .before .before .before .before in
-    let s = start k .args in
-    let read = c .before .character-code in
-    let code-is : toZ w64 (ofZ w64 (read .result)) ≡ characterCode (s .opcode) (now (s .params)) = toZ-ofZ (sfits-of (read .ok)) ∙ read .ensures .0 in
-    let both = subst (λ (code : ℤ). CharacterAsks (s .terms) (now (s .widths)) (s .level) (s .font) true code (c .character .result)) code-is (c .character .ensures) (history (now (s .file))) in
-    let comes = both .0 in
-    asks k (c .before .before .enum-told .given .1) (c .character .result) (record { does = comes .does; safe = comes .safe; words = comes .words }) (plain-suits Kind.SetCharacter (c .character .result .turn) refl (both .1))
+returns c = ⊎-elim (sets c) (puts c) (characters (c .before .before))
 
 returns-2 : tie.Need-returns-2
 returns-2 c =
-    let k = c .before .before .before .before in
+    let k = c .before .before .before in
     let s = start k .args in
-    let read = c .before .character-code2 in
-    let code-is : toZ w64 (ofZ w64 (read .result)) ≡ characterCode (s .opcode) (now (s .params)) = toZ-ofZ (sfits-of (read .ok)) ∙ read .ensures .0 in
-    let both = subst (λ (code : ℤ). CharacterAsks (s .terms) (now (s .widths)) (s .level) (s .font) false code (c .character2 .result)) code-is (c .character2 .ensures) (history (now (s .file))) in
+    let both = rule-sets (s .terms) (now (s .widths)) (history (now (s .file))) (s .level) (s .font) (now (s .params)) (start k .pre .1 .3) (bytes k) (c .rule .result) (c .rule .ensures) in
     let comes = both .0 in
-    asks k (c .before .before .enum-told2 .given .1) (c .character2 .result) (record { does = comes .does; safe = comes .safe; words = comes .words }) (plain-suits Kind.PutCharacter (c .character2 .result .turn) refl (both .1))
+    asks k (c .before .enum-told .given .1) (c .rule .result) (record { does = comes .does; safe = comes .safe; words = comes .words }) (plain-suits Kind.SetRule (c .rule .result .turn) refl (both .1))
 
 returns-3 : tie.Need-returns-3
 returns-3 c =
     let k = c .before .before .before in
     let s = start k .args in
-    let both = rule-sets (s .terms) (now (s .widths)) (history (now (s .file))) (s .level) (s .font) (now (s .params)) (start k .pre .1 .3) (bytes k) (c .rule .result) (c .rule .ensures) in
+    let both = rule-puts (s .terms) (now (s .widths)) (history (now (s .file))) (s .level) (s .font) (now (s .params)) (start k .pre .1 .3) (bytes k) (c .rule2 .result) (c .rule2 .ensures) in
     let comes = both .0 in
-    asks k (c .before .enum-told3 .given .1) (c .rule .result) (record { does = comes .does; safe = comes .safe; words = comes .words }) (plain-suits Kind.SetRule (c .rule .result .turn) refl (both .1))
+    asks k (c .before .enum-told2 .given .1) (c .rule2 .result) (record { does = comes .does; safe = comes .safe; words = comes .words }) (plain-suits Kind.PutRule (c .rule2 .result .turn) refl (both .1))
 
 returns-4 : tie.Need-returns-4
 returns-4 c =
-    let k = c .before .before .before in
-    let s = start k .args in
-    let both = rule-puts (s .terms) (now (s .widths)) (history (now (s .file))) (s .level) (s .font) (now (s .params)) (start k .pre .1 .3) (bytes k) (c .rule2 .result) (c .rule2 .ensures) in
-    let comes = both .0 in
-    asks k (c .before .enum-told4 .given .1) (c .rule2 .result) (record { does = comes .does; safe = comes .safe; words = comes .words }) (plain-suits Kind.PutRule (c .rule2 .result .turn) refl (both .1))
-
-returns-5 : tie.Need-returns-5
-returns-5 c =
     let k = c .before .before .before .before in
     let s = start k .args in
     let read = c .before .selected-font in
     let number-is : toZ w64 (ofZ w64 (read .result)) ≡ selectedFont (s .opcode) (now (s .params)) = toZ-ofZ (sfits-of (read .ok)) ∙ read .ensures .0 in
     let font-is = subst (λ (number : ℤ). FontIs (now (s .file)) (now (s .fonts)) number (c .font-of .result)) number-is (c .font-of .ensures) (history (now (s .file))) (start k .pre .0 .1) in
-    asks k (c .before .before .enum-told5 .given .1) (record { turn = Turn.Select (c .font-of .result); adds = Adds.Nothing; hint = s .hint })
+    asks k (c .before .before .enum-told3 .given .1) (record { turn = Turn.Select (c .font-of .result); adds = Adds.Nothing; hint = s .hint })
     (record { does = λ saved. ap (λ (font : Font). goes (record { level = s .level; saved = saved; font = font }) nothing) (font-is .0); safe = font-is .1; words = tt }) refl
+
+returns-5 : tie.Need-returns-5
+returns-5 c =
+    let k = c .before .before in
+    asks k (c .enum-told4 .given .1) (record { turn = Turn.Stay; adds = Adds.Special; hint = start k .args .hint }) (record { does = λ saved. refl; safe = tt; words = tt }) refl
 
 returns-6 : tie.Need-returns-6
 returns-6 c =
     let k = c .before .before in
-    asks k (c .enum-told6 .given .1) (record { turn = Turn.Stay; adds = Adds.Special; hint = start k .args .hint }) (record { does = λ saved. refl; safe = tt; words = tt }) refl
-
-returns-7 : tie.Need-returns-7
-returns-7 c =
-    let k = c .before .before in
     let s = start k .args in
     let kind = k .kind-of .result in
-    let only = kind-others onlyTurns (λ j. true) (Kind.SetCharacter ∷ Kind.PutCharacter ∷ Kind.SetRule ∷ Kind.PutRule ∷ Kind.Select ∷ Kind.Special ∷ []) refl kind (c .before .match .keys7) in
+    let only = kind-others onlyTurns (λ j. true) (Kind.SetCharacter ∷ Kind.PutCharacter ∷ Kind.SetRule ∷ Kind.PutRule ∷ Kind.Select ∷ Kind.Special ∷ []) refl kind (c .before .match .keys6) in
     let turn-is = c .turn-of .ensures in
     asks k refl (record { turn = c .turn-of .result; adds = Adds.Nothing; hint = s .hint })
     (record {
@@ -188,25 +208,20 @@ asked-by-spec =
     tie.close
     (tie.spec
     kind-of-requires
-    enum-told
     character-code-requires
     character-requires
-    enum-told-2
-    character-code-requires-2
-    character-requires-2
-    enum-told-3
+    enum-told
     rule-requires
-    enum-told-4
+    enum-told-2
     rule-requires-2
-    enum-told-5
+    enum-told-3
     selected-font-requires
     font-of-requires
-    enum-told-6
+    enum-told-4
     turn-of-requires
     returns
     returns-2
     returns-3
     returns-4
     returns-5
-    returns-6
-    returns-7)
+    returns-6)

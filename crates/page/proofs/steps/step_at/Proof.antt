@@ -14,8 +14,8 @@ use Rattle.page.specs.Steps.{settingBy, CommandAsks}
 use Rattle.page.proofs.steps.step_at.Statement.{statement}
 use Rattle.page.proofs.steps.step_at.Tie as tie
 
-read-at-requires : tie.Need-read-at-requires
-read-at-requires c κs = search needs
+read-by-requires : tie.Need-read-by-requires
+read-by-requires c κs = c .before .before .pre .1 .4
 
 enum-told : tie.Need-enum-told
 enum-told c = search needs
@@ -28,7 +28,7 @@ read : (c : tie.After-known-told)
     → Reads (now (c .before .before .before .before .before .before .args .file)) (c .before .before .before .before .before .before .args .at) (c .before .reading .given .0 .0)
 read c =
     given-reads (now (c .before .before .before .before .before .before .args .file)) (c .before .before .before .before .before .before .args .at) (c .before .reading .given .0 .0)
-    (sym (c .before .before .before .read-at .ensures) ∙ ap readAnswer (c .before .reading .given .1))
+    (sym (c .before .before .before .read-by .ensures) ∙ ap readAnswer (c .before .reading .given .1))
 
 sub-params : tie.Need-sub-params
 sub-params c = omega (arith, read c .starts, read c .nexts)
@@ -48,7 +48,7 @@ asked-by-requires c κs =
 returns : tie.Need-returns
 returns c command rest stands =
     let s = c .before .before .before .before .before in
-    let answer = sym (c .before .before .read-at .ensures) ∙ ap readAnswer (c .enum-told .given .1) in
+    let answer = sym (c .before .before .read-by .ensures) ∙ ap readAnswer (c .enum-told .given .1) in
     absurd (given-not-refused _ (c .enum-told .given .0 .0 .number) (c .enum-told .given .0 .0 .place) (sym (ap (reading (s .args .at)) stands) ∙ answer))
 
 returns-2 : tie.Need-returns-2
@@ -67,7 +67,7 @@ pub step-at-spec : {M : Type 1} → statement M
 step-at-spec =
     tie.close
     (tie.spec
-    read-at-requires
+    read-by-requires
     enum-told
     enum-known-reading
     sub-params

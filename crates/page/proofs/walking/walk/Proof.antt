@@ -32,31 +32,36 @@ use Rattle.page.proofs.walking.walk.Statement.{statement}
 use Rattle.page.proofs.walking.walk.Tie as tie
 
 abbrev Inv-loop : tie.InvT-loop
-Inv-loop file widths fonts terms start out₀ ruler page₀ counts₀ at₀ hint₀ out page counts at hint = Walking file fonts widths terms start out₀ out page counts at
+Inv-loop file widths fonts terms start out₀ ruler page₀ counts₀ at₀ hint₀ table out page counts at hint = Walking file fonts widths terms start out₀ out page counts at
 
 abbrev μ-loop : tie.MeasureT-loop
-μ-loop file widths fonts terms start out₀ ruler page₀ counts₀ at₀ hint₀ out page counts at hint = length file - at
+μ-loop file widths fonts terms start out₀ ruler page₀ counts₀ at₀ hint₀ table out page counts at hint = length file - at
 
 fresh-requires : tie.Need-fresh-requires Inv-loop μ-loop
 fresh-requires c κs = tt
 
+length-table-requires : tie.Need-length-table-requires Inv-loop μ-loop
+length-table-requires c κs = tt
+
 loop-holds : tie.Need-loop-holds Inv-loop μ-loop
 loop-holds c =
-    let s = c .before .before .before .before .before in
-    starting (s .pre) (now (s .args .out)) (c .fresh .result) (c .fresh .ensures .0) (c .fresh .ensures .1) (c .fresh .ensures .2)
+    let s = c .before .before .before .before .before .before in
+    let fresh = c .before .fresh in
+    starting (s .pre) (now (s .args .out)) (fresh .result) (fresh .ensures .0) (fresh .ensures .1) (fresh .ensures .2)
 
 step-at-requires : tie.Need-step-at-requires Inv-loop μ-loop
 step-at-requires c κs =
-    let w = c .before .before .loop .inv in
-    (w .ready .told, (w .ready .right, w .ready .unit, w .sound .known, w .sound .bounded))
+    let head = c .before .before .before in
+    let w = head .loop .inv in
+    (w .ready .told, (w .ready .right, w .ready .unit, w .sound .known, w .sound .bounded, head .before .length-table .ensures))
 
 -- what holds as a command has been read
 module _ (c : tie.After-step-at Inv-loop μ-loop) where
   abbrev entry : tie.Start Inv-loop μ-loop
-  entry = c .before .before .before .before .before .before .before .before .before
+  entry = c .before .before .before .before .before .before .before .before .before .before .before
 
   abbrev head : tie.At-loop Inv-loop μ-loop
-  head = c .before .before .before
+  head = c .before .before .before .before
 
   abbrev step : Step
   step = c .step-at .result
@@ -334,6 +339,7 @@ walk-spec =
     Inv-loop
     μ-loop
     fresh-requires
+    length-table-requires
     loop-holds
     step-at-requires
     note-requires

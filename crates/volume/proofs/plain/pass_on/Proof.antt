@@ -29,7 +29,7 @@ reached-requires : tie.Need-reached-requires Inv-loop μ-loop
 reached-requires c κs = tt
 
 returns : tie.Need-returns Inv-loop μ-loop
-returns c = 
+returns c =
     let s = c .before .before .before .before .before in
     let onward = onward-plain (s .pre .1) (s .pre .2) (c .before .before .before .loop .inv .0) (c .before .before .pass-plain .ensures) in
     rw (c .reached .ensures) (onward, omega (arith, c .before .before .before .loop .inv .1, forward (c .before .before .pass-plain .ensures)))
@@ -44,7 +44,7 @@ reached-requires-2 : tie.Need-reached-requires-2 Inv-loop μ-loop
 reached-requires-2 c κs = tt
 
 returns-2 : tie.Need-returns-2 Inv-loop μ-loop
-returns-2 c = 
+returns-2 c =
     let s = c .before .before .before .before .before .before .before .before in
     let onward = onward-plain (s .pre .1) (s .pre .2) (c .before .before .before .before .before .before .loop .inv .0) (c .before .before .before .before .before .pass-plain .ensures) in
     rw (c .reached2 .ensures) (onward, omega (arith, c .before .before .before .before .before .before .loop .inv .1, forward (c .before .before .before .before .before .pass-plain .ensures)))
@@ -68,7 +68,7 @@ loop-less : tie.Need-loop-less Inv-loop μ-loop
 loop-less c = omega (arith, forward (c .before .before .before .before .before .before .before .pass-plain .ensures))
 
 loop-again : tie.Need-loop-again Inv-loop μ-loop
-loop-again c = 
+loop-again c =
     let s = c .before .before .before .before .before .before .before .before .before .before in
     let onward = onward-plain (s .pre .1) (s .pre .2) (c .before .before .before .before .before .before .before .before .loop .inv .0) (c .before .before .before .before .before .before .before .pass-plain .ensures) in
     let may = sym (c .before .before .before .before .may-pass .ensures) ∙ not-false _ (c .before .before .before .if2 .left) in
