@@ -7,10 +7,21 @@ use reader::LookedUp;
 use reader::NamePlace;
 use reader::Placed;
 use reader::TableChecked;
+ghost use mathlib.Core.Path.{_≡_};
+ghost use lib.ListN.{length};
+ghost use Rattle.volume.specs.Judged.{judged};
+ghost use Rattle.volume.specs.Names.{namePlace};
+ghost use Rattle.widths.specs.Table.{checkedTable};
+ghost use Rattle.widths.specs.LookUp.{lookedUp};
+ghost use Rattle.page.specs.Answers.{placedPage, placedCounts, areaAfter};
+ghost use Rattle.clib.specs.Answers.{ifRoom, code, arrayAfter, fileNumbers, placedNumbers, tableNumbers, lookedNumbers, nameNumbers};
 
 // The check of a whole file: pages, fonts, greatest depth, place of post.
 #[no_mangle]
-pub extern "C" fn hurlyburn_check_file(file: &[u8], answer: &mut [u64]) -> u32 {
+pub extern "C" fn hurlyburn_check_file(file: &[u8], answer: &mut [u64]) -> u32
+    ensures { λ r. ⌜ r ≡ code 4 (now (answer .entry)) (judged (now (file .entry))) ⌝ }
+    ensures { λ _. ⌜ now (answer .exit) ≡ arrayAfter 4 fileNumbers (now (answer .entry)) (judged (now (file .entry))) ⌝ }
+{
     if answer.len() < 4 {
         return answers::ARRAY_TOO_SHORT;
     }
@@ -37,7 +48,11 @@ pub extern "C" fn hurlyburn_place_page(
     page: u32,
     area: &mut [u8],
     answer: &mut [u64],
-) -> u32 {
+) -> u32
+    ensures { λ r. ⌜ r ≡ code 3 (now (answer .entry)) (placedCounts (placedPage (now (file .entry)) (now (widths .entry)) resolution page (length (now (area .entry))))) ⌝ }
+    ensures { λ _. ⌜ now (answer .exit) ≡ arrayAfter 3 placedNumbers (now (answer .entry)) (placedCounts (placedPage (now (file .entry)) (now (widths .entry)) resolution page (length (now (area .entry))))) ⌝ }
+    ensures { λ _. ⌜ now (area .exit) ≡ ifRoom 3 (now (answer .entry)) (areaAfter (now (area .entry)) (placedPage (now (file .entry)) (now (widths .entry)) resolution page (length (now (area .entry))))) (now (area .entry)) ⌝ }
+{
     if answer.len() < 3 {
         return answers::ARRAY_TOO_SHORT;
     }
@@ -56,7 +71,10 @@ pub extern "C" fn hurlyburn_place_page(
 
 // The check of a width table: records.
 #[no_mangle]
-pub extern "C" fn hurlyburn_check_table(table: &[u8], answer: &mut [u64]) -> u32 {
+pub extern "C" fn hurlyburn_check_table(table: &[u8], answer: &mut [u64]) -> u32
+    ensures { λ r. ⌜ r ≡ code 1 (now (answer .entry)) (checkedTable (now (table .entry))) ⌝ }
+    ensures { λ _. ⌜ now (answer .exit) ≡ arrayAfter 1 tableNumbers (now (answer .entry)) (checkedTable (now (table .entry))) ⌝ }
+{
     if answer.len() < 1 {
         return answers::ARRAY_TOO_SHORT;
     }
@@ -75,13 +93,16 @@ pub extern "C" fn hurlyburn_look_up(
     table: &[u8],
     checksum: u32,
     scale: u32,
-    code: i32,
+    character: i32,
     answer: &mut [u64],
-) -> u32 {
+) -> u32
+    ensures { λ r. ⌜ r ≡ code 6 (now (answer .entry)) (lookedUp (now (table .entry)) checksum scale character) ⌝ }
+    ensures { λ _. ⌜ now (answer .exit) ≡ arrayAfter 6 lookedNumbers (now (answer .entry)) (lookedUp (now (table .entry)) checksum scale character) ⌝ }
+{
     if answer.len() < 6 {
         return answers::ARRAY_TOO_SHORT;
     }
-    match reader::look_up(table, checksum, scale, code) {
+    match reader::look_up(table, checksum, scale, character) {
         LookedUp::Found {
             escapement,
             b0,
@@ -103,7 +124,10 @@ pub extern "C" fn hurlyburn_look_up(
 
 // Where the name of a font stands in the file: its start, and the place past its end.
 #[no_mangle]
-pub extern "C" fn hurlyburn_font_name_place(file: &[u8], font: i32, answer: &mut [u64]) -> u32 {
+pub extern "C" fn hurlyburn_font_name_place(file: &[u8], font: i32, answer: &mut [u64]) -> u32
+    ensures { λ r. ⌜ r ≡ code 2 (now (answer .entry)) (namePlace (now (file .entry)) font) ⌝ }
+    ensures { λ _. ⌜ now (answer .exit) ≡ arrayAfter 2 nameNumbers (now (answer .entry)) (namePlace (now (file .entry)) font) ⌝ }
+{
     if answer.len() < 2 {
         return answers::ARRAY_TOO_SHORT;
     }
