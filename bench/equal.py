@@ -1,8 +1,10 @@
 #!/usr/bin/env python3
-"""Both readers asked the same: every job of some manifests, and damaged variants of the small ones. Any difference is told and ends the run.
+"""Both readers asked the same. Any difference is told and ends the run.
 
-    equal.py READERS.so SEED VARIANTS MANIFEST...
+    equal.py READERS.so SEED QUESTIONS VARIANTS [MANIFEST...]
 
+Asked are the questions of tests/compare with so many damaged files (none of these questions if 0 is said), every job of the manifests, and so many
+damaged variants of their small ones.
 Compared are the returned code, the whole answer array (with numbers behind the answer) and the whole area with guard bytes before and after it.
 """
 
@@ -12,12 +14,14 @@ import ctypes
 import random
 import sys
 
-from readers import ANSWER_LENGTHS, PLAIN, PROVED, RECORD, Readers, jobs_of
+import questions
+from readers import ANSWER_LENGTHS, PLAIN, PROVED, RECORD, Job, Readers, jobs_of
 
 GUARD = 64
 ANSWER = 8  # two numbers more than the longest answer
 SMALL = 70_000  # bytes; what is longer is asked as it is only
 RESOLUTIONS = (0, 1, 50, 99, 100, 199, 200, 300, 600, 1200, 10_000, 10_001, 4_294_967_295)
+LONGEST_FILE = 16_777_216
 
 
 class Different(Exception):
@@ -28,30 +32,62 @@ class Comparing:
     def __init__(self, readers):
         self.readers, self.codes = readers, collections.Counter()
 
-    def outcome(self, reader, job, area_length, answer_length):
+    def outcome(self, reader, job, answer_length):
         answer = (ctypes.c_int64 * ANSWER)(*[0x5A5A5A5A5A5A5A5A] * ANSWER)
-        area = (ctypes.c_uint8 * (area_length + 2 * GUARD))()
+        area = (ctypes.c_uint8 * (job.area_length + 2 * GUARD))()
         ctypes.memset(area, 0xA5, len(area))
-        question = self.readers.question(job, ctypes.addressof(area) + GUARD, area_length)
+        question = self.readers.question(job, ctypes.addressof(area) + GUARD)
         code = self.readers.ask(reader, question, answer, answer_length)
         return code, list(answer), bytes(area)
 
-    def compare(self, job, what, area_length=None, answer_length=ANSWER):
+    def compare(self, job, answer_length=ANSWER):
         """The outcome of both, where it is one."""
-        if area_length is None:
-            area_length = RECORD * job.most_records()
-        proved, plain = (self.outcome(reader, job, area_length, answer_length) for reader in (PROVED, PLAIN))
+        proved, plain = (self.outcome(reader, job, answer_length) for reader in (PROVED, PLAIN))
         self.codes[proved[0]] += 1
         if proved != plain:
-            lines = [f"different: {job.entry} {job.name}, {what}"]
-            for name, (code, answer, _) in (("proved", proved), ("plain C", plain)):
-                lines.append(f"  {name}: code {code}, answer {answer[:6]}")
-            for at, (one, other) in enumerate(zip(proved[2], plain[2])):
-                if one != other:
-                    lines.append(f"  area from byte {at - GUARD}: {one} and {other}")
-                    break
-            raise Different("\n".join(lines))
+            raise Different(told(job, proved, plain))
         return proved
+
+
+def told(job, proved, plain):
+    lines = [f"different: {job.entry}, {job.group}: {job.name}"]
+    for name, (code, answer, _) in (("proved", proved), ("plain C", plain)):
+        lines.append(f"  {name}: code {code}, answer {answer}")
+    at = next((at for at, (one, other) in enumerate(zip(proved[2], plain[2])) if one != other), None)
+    if at is not None:
+        lines.append(f"  area from byte {at - GUARD}: {proved[2][at]} and {plain[2][at]}")
+    return "\n".join(lines)
+
+
+def with_area(job, area_length):
+    changed = copy.copy(job)
+    changed.area_length = area_length
+    return changed
+
+
+def compare_with_areas(comparing, job):
+    """As it is; and where a page is placed, with an area just long enough, and a byte shorter."""
+    code, answer, _ = comparing.compare(job)
+    if job.entry == "place" and code == 0:
+        enough = RECORD * answer[0]
+        comparing.compare(with_area(job, enough))
+        if enough > 0:
+            comparing.compare(with_area(job, enough - 1))
+
+
+def compare_short_arrays(comparing, jobs):
+    """The first job of each entry, with answer arrays up to just long enough."""
+    for entry, enough in ANSWER_LENGTHS.items():
+        for job in [job for job in jobs if job.entry == entry][:1]:
+            for answer_length in range(enough + 1):
+                comparing.compare(job, answer_length)
+
+
+def compare_too_long(comparing):
+    """Refusal 1, and a file as long as one may be."""
+    for length in (LONGEST_FILE, LONGEST_FILE + 1):
+        for start in (b"", b"\xff"):
+            comparing.compare(Job("check", "long", f"{length} bytes", file=start.ljust(length, b"\x8a")))
 
 
 def damaged(rng, data):
@@ -78,59 +114,55 @@ def damaged(rng, data):
     return bytes(data)
 
 
-def variant(rng, job):
-    """A job with its file or table damaged, and other numbers asked now and then; and the length of the area."""
+def variant(rng, job, number):
+    """A job with its file or table damaged, and other numbers asked now and then."""
     changed = copy.copy(job)
+    changed.name = f"{job.name}, variant {number}"
     if job.file and rng.random() < 0.8:
         changed.file = damaged(rng, job.file)
     if job.table and (not job.file or rng.random() < 0.15):
         changed.table = damaged(rng, job.table)
-    area_length = RECORD * job.most_records()
     if job.entry == "place":
         if rng.random() < 0.25:
             changed.resolution = rng.choice(RESOLUTIONS)
         if rng.random() < 0.25:
             changed.page = rng.randrange(job.page + 3)
-        area_length = rng.choice([area_length, area_length, area_length, rng.randrange(area_length // 4 + 1)])
+        if rng.random() < 0.25:
+            changed.area_length = rng.randrange(job.area_length // 4 + 1)
     elif job.entry == "look" and rng.random() < 0.5:
         changed.code = rng.randrange(-(2**31), 2**31)
-    return changed, area_length
+    return changed
 
 
-def compare_as_it_is(comparing, job):
-    code, answer, _ = comparing.compare(job, "as it is")
-    if job.entry == "place" and code == 0:
-        enough = RECORD * answer[0]
-        comparing.compare(job, "an area just long enough", enough)
-        if enough > 0:
-            comparing.compare(job, "an area a byte too short", enough - 1)
-
-
-def compare_short_arrays(comparing, jobs):
-    """The first job of each entry, with answer arrays up to just long enough."""
-    for entry, enough in ANSWER_LENGTHS.items():
-        for job in [job for job in jobs if job.entry == entry][:1]:
-            for answer_length in range(enough + 1):
-                comparing.compare(job, f"an answer array of {answer_length}", answer_length=answer_length)
+def compare_all(comparing, seed, asked, variants, manifests):
+    if asked:
+        compare_too_long(comparing)
+        questions.ask_all(comparing.compare, seed, asked)
+    jobs = [job for manifest in manifests for job in jobs_of(manifest)]
+    for job in jobs:
+        compare_with_areas(comparing, job)
+    compare_short_arrays(comparing, jobs)
+    rng = random.Random(seed)
+    small = [job for job in jobs if len(job.file) <= SMALL and len(job.table) <= SMALL]
+    for number in range(variants if small else 0):
+        comparing.compare(variant(rng, rng.choice(small), number))
 
 
 def main():
-    shared_object, seed, variants, *manifests = sys.argv[1:]
-    comparing, rng = Comparing(Readers(shared_object)), random.Random(int(seed))
-    jobs = [job for manifest in manifests for job in jobs_of(manifest)]
-    small = [job for job in jobs if len(job.file) <= SMALL and len(job.table) <= SMALL]
+    shared_object, seed, asked, variants, *manifests = sys.argv[1:]
+    comparing = Comparing(Readers(shared_object))
     try:
-        for job in jobs:
-            compare_as_it_is(comparing, job)
-        compare_short_arrays(comparing, jobs)
-        for number in range(int(variants)):
-            job, area_length = variant(rng, rng.choice(small))
-            comparing.compare(job, f"damaged, variant {number} of seed {seed}", area_length)
+        compare_all(comparing, int(seed), int(asked), int(variants), manifests)
     except Different as difference:
         print(difference)
         sys.exit(1)
-    refused = " ".join(f"{code}:{count}" for code, count in sorted(comparing.codes.items()) if code not in (0, 255))
-    print(f"equal: {comparing.codes.total()} answers, {comparing.codes[0]} of them results; refusals by number {refused}")
+    codes = comparing.codes
+    refused = ", ".join(f"{code}: {codes[code]}" for code in sorted(codes) if code not in (0, 255))
+    print(f"equal: {codes.total()} answers, {codes[0]} results; refusals by number {refused}")
+    lacking = [number for number in range(1, 18) if codes[number] == 0]
+    if int(asked) and lacking:
+        print(f"never occurred: {lacking}")
+        sys.exit(1)
 
 
 if __name__ == "__main__":

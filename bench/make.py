@@ -20,9 +20,7 @@ RESOLUTION = 300
 SEED = 1
 
 
-def big(number, size):
-    return (number % 256**size).to_bytes(size, "big")
-
+big = dvi.big
 
 # ---- whole files from pages ----
 
@@ -187,7 +185,7 @@ def selections(most):
 
 
 def definitions(fonts, area, name):
-    """The largest definitions that there can be: that many fonts, each defined twice, with so long an area and name."""
+    """So many fonts, each defined twice, with this area and name."""
     volume = Volume(fonts=[dvi.Font(n, n + 1, 655_360, area=area, name=name) for n in range(fonts)])
     volume.add(b"")
     return volume.finished()
@@ -346,11 +344,10 @@ def check_jobs(work, rng, published, sizes):
         work.check("specials", f"specials-{kib}K", specials(size))
 
 
-def definition_jobs(work):
-    for fonts in (1, 4, 16, MOST_FONTS):
-        work.check("names", f"names-{fonts}", definitions(fonts, b"a" * 255, b"n" * 255))
-    for fonts in (1, 4, 16, MOST_FONTS):
-        work.check("short-names", f"short-names-{fonts}", definitions(fonts, b"", b"cmr10"))
+def definition_jobs(work, counts):
+    for group, area, name in (("names", b"a" * 255, b"n" * 255), ("short-names", b"", b"cmr10")):
+        for fonts in counts:
+            work.check(group, f"{group}-{fonts}", definitions(fonts, area, name))
 
 
 def page_count_jobs(work, counts):
@@ -389,32 +386,44 @@ def table_jobs(work, sizes):
         work.lines.append(f"look look-up look-up-{records} {records} {path} {last} 655360 {records // 3 % 128}")
 
 
-def published_jobs(work, rng, published, pages_each):
-    """Published files as they are: the check, and pages with a width table for their fonts."""
+def published_jobs(work, rng, published):
+    """Published files as they are: the check, and the first, middle and last page with a width table for their fonts."""
     for name, data in published.items():
         units, fonts, pages = published_pages(data)
-        work.lines.append(f"check published {name} {len(data)} {work.keep(name, data)}")
+        file = work.keep(name, data)
+        work.lines.append(f"check published {name} {len(data)} {file}")
         table = work.keep(f"{name}.widths", table_for(rng, fonts.values(), unit_of(units, RESOLUTION)))
-        for page in sorted({1, (len(pages) + 1) // 2, len(pages)})[:pages_each]:
-            work.lines.append(f"place published {name}-{page} {len(data)} {work.keep(name, data)} {table} {RESOLUTION} {page}")
+        for page in sorted({1, (len(pages) + 1) // 2, len(pages)}):
+            work.lines.append(f"place published {name}-{page} {len(data)} {file} {table} {RESOLUTION} {page}")
+
+
+def published_page_jobs(work, published, count):
+    """The fullest page of each of the largest published files. The size is the file's: placing judges the whole file first."""
+    for name, data in sorted(published.items(), key=lambda item: -len(item[1]))[:count]:
+        _, _, pages = published_pages(data)
+        fullest = max(range(len(pages)), key=lambda index: sum(map(len, pages[index][1])))
+        file, table = work.keep(name, data), work.keep(f"{name}.widths", b"")
+        work.lines.append(f"place published-pages {name.removesuffix('.dvi')} {len(data)} {file} {table} {RESOLUTION} {fullest + 1}")
 
 
 def main():
     published_folder, out = Path(sys.argv[1]), Path(sys.argv[2])
     published = {path.name: path.read_bytes() for path in sorted(published_folder.glob("*.dvi"))}
     work, rng = Work(out), random.Random(SEED)
-    published_jobs(work, rng, published, 3)
+    published_jobs(work, rng, published)
     work.manifest("published")
     check_jobs(work, rng, published.values(), [1 << 20])
     page_count_jobs(work, [4096])
-    definition_jobs(work)
+    definition_jobs(work, [1, MOST_FONTS])
     place_jobs(work, rng, [100, 10_000])
+    published_page_jobs(work, published, 1)
     table_jobs(work, [256, 16_384])
     work.manifest("quick")
     check_jobs(work, rng, published.values(), list(steps(1 << 16, LONGEST_FILE, 4)))
-    page_count_jobs(work, [*steps(64, 16_384, 8), MOST_PAGES])
-    definition_jobs(work)
-    place_jobs(work, rng, [100, 1000, 10_000, 100_000])
+    page_count_jobs(work, [*steps(64, 4096, 8), MOST_PAGES])
+    definition_jobs(work, list(steps(1, MOST_FONTS, 4)))
+    place_jobs(work, rng, list(steps(100, 100_000, 10)))
+    published_page_jobs(work, published, 6)
     table_jobs(work, list(steps(16, 65_536, 4)))
     work.manifest("full")
 

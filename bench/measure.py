@@ -11,7 +11,7 @@ ENTRY GROUP NAME SIZE PROVED-NANOSECONDS PLAIN-NANOSECONDS, of one call.
 import ctypes
 import sys
 
-from readers import PLAIN, PROVED, RECORD, Readers, jobs_of
+from readers import PLAIN, PROVED, Readers, jobs_of
 
 
 SLICE = 0.004  # seconds
@@ -45,8 +45,8 @@ def main():
     shared_object, manifest, seconds = sys.argv[1:]
     readers = Readers(shared_object)
     for job in jobs_of(manifest):
-        area = (ctypes.c_uint8 * (RECORD * job.most_records() + 1))()
-        question = readers.question(job, ctypes.addressof(area), len(area) - 1)
+        area = (ctypes.c_uint8 * max(1, job.area_length))()
+        question = readers.question(job, ctypes.addressof(area))
         proved, plain = least(readers, question, float(seconds))
         print(job.entry, job.group, job.name, job.size, f"{proved * 1e9:.1f} {plain * 1e9:.1f}", flush=True)
 

@@ -29,37 +29,46 @@ class Question(ctypes.Structure):
 
 
 class Job:
-    """A line of a manifest with its files: ENTRY GROUP NAME SIZE, then what the entry is asked."""
+    """A question to one entry: where it comes from, its files, and its numbers."""
 
-    def __init__(self, line, files):
-        self.entry, self.group, self.name, size, *asked = line.split()
-        self.size = int(size)
-        self.file = self.table = b""
+    def __init__(self, entry, group, name, size=0, file=b"", table=b"", numbers=(), area_length=None):
+        self.entry, self.group, self.name, self.size = entry, group, name, size
+        self.file, self.table = file, table
         self.resolution = self.page = self.checksum = self.scale = self.code = 0
-        if self.entry in ("check", "place"):
-            self.file = files(asked.pop(0))
-        if self.entry != "check":
-            self.table = files(asked.pop(0))
-        numbers = [int(word) for word in asked]
-        if self.entry == "place":
+        if entry == "place":
             self.resolution, self.page = numbers
-        elif self.entry == "look":
+        elif entry == "look":
             self.checksum, self.scale, self.code = numbers
+        self.area_length = self.enough() if area_length is None else area_length
 
-    def most_records(self):
+    def enough(self):
         """An area that any page of the file fits into: a record takes a command, and a command a byte."""
-        return len(self.file) if self.entry == "place" else 0
+        return RECORD * len(self.file) if self.entry == "place" else 0
+
+
+def job_of(words, files, group, name, size=0):
+    """ENTRY, its files, its numbers; for place the length of the area may follow."""
+    entry, *words = words
+    file = files(words.pop(0)) if entry in ("check", "place") else b""
+    table = files(words.pop(0)) if entry != "check" else b""
+    numbers = [int(word) for word in words]
+    area_length = numbers.pop() if entry == "place" and len(numbers) == 3 else None
+    return Job(entry, group, name, size, file, table, numbers, area_length)
 
 
 def jobs_of(manifest):
-    known = {}
+    """A line a job: ENTRY GROUP NAME SIZE, then the entry's files and numbers."""
+    known, jobs = {}, []
 
     def files(name):
         if name not in known:
             known[name] = Path(name).read_bytes()
         return known[name]
 
-    return [Job(line, files) for line in Path(manifest).read_text().splitlines()]
+    for line in Path(manifest).read_text().splitlines():
+        entry, group, name, size, *rest = line.split()
+        jobs.append(job_of([entry, *rest], files, group, name, int(size)))
+    return jobs
 
 
 class Readers:
@@ -71,9 +80,9 @@ class Readers:
         self.library.seconds_of.argtypes = [ctypes.c_uint32, ctypes.POINTER(Question), ctypes.c_uint64]
 
     @staticmethod
-    def question(job, area, area_length):
+    def question(job, area):
         return Question(
-            ENTRIES.index(job.entry), job.file, len(job.file), job.table, len(job.table), area, area_length,
+            ENTRIES.index(job.entry), job.file, len(job.file), job.table, len(job.table), area, job.area_length,
             job.resolution, job.page, job.checksum, job.scale, job.code,
         )  # fmt: skip
 

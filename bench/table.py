@@ -5,6 +5,7 @@ import math
 import sys
 
 UNITS = {"check": "byte", "place": "record", "table": "record", "look": "record"}
+OTHER_UNITS = {"moves": "move", "published-pages": "byte"}
 
 
 def exponent(points):
@@ -22,18 +23,18 @@ def time_text(nanoseconds):
     return f"{nanoseconds:.1f} ns"
 
 
-def row(entry, name, size, proved, plain):
-    each = f"{proved / size:9.2f} {plain / size:9.2f} ns/{UNITS[entry]}"
-    return f"{entry:6} {name:24} {size:>10} {time_text(proved):>11} {time_text(plain):>11} {each:29} {proved / plain:6.2f}"
+def row(entry, group, name, size, proved, plain):
+    each = f"{proved / size:9.2f} {plain / size:9.2f} ns/{OTHER_UNITS.get(group, UNITS[entry])}"
+    return f"{entry:6} {name:34} {size:>10} {time_text(proved):>11} {time_text(plain):>11} {each:29} {proved / plain:6.2f}"
 
 
 def main():
     groups = {}
-    print(f"{'entry':6} {'work':24} {'size':>10} {'proved':>11} {'plain C':>11} {'proved':>9} {'plain C':>9} {'':9} {'ratio':>6}")
+    print(f"{'entry':6} {'work':34} {'size':>10} {'proved':>11} {'plain C':>11} {'proved':>9} {'plain C':>9} {'':9} {'ratio':>6}")
     for line in sys.stdin:
         entry, group, name, *numbers = line.split()
         size, proved, plain = int(numbers[0]), float(numbers[1]), float(numbers[2])
-        print(row(entry, name, size, proved, plain), flush=True)
+        print(row(entry, group, name, size, proved, plain), flush=True)
         groups.setdefault((entry, group), []).append((size, proved, plain))
     print()
     print(f"{'entry':6} {'group':24} {'exponent: proved':>17} {'plain C':>9} {'ratios':>15}")
