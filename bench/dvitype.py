@@ -13,7 +13,7 @@ import subprocess
 import sys
 from pathlib import Path
 
-RUNS = 5
+RUNS = 3
 
 
 def processor_seconds(command):

@@ -15,7 +15,7 @@ import random
 import sys
 
 import questions
-from readers import ANSWER_LENGTHS, PLAIN, PROVED, RECORD, Job, Readers, jobs_of
+from readers import ANSWER_LENGTHS, PLAIN, PROVED, RECORD, Job, Readers, works_of
 
 GUARD = 64
 ANSWER = 8  # two numbers more than the longest answer
@@ -138,7 +138,7 @@ def compare_all(comparing, seed, asked, variants, manifests):
     if asked:
         compare_too_long(comparing)
         questions.ask_all(comparing.compare, seed, asked)
-    jobs = [job for manifest in manifests for job in jobs_of(manifest)]
+    jobs = [job for manifest in manifests for work in works_of(manifest) for job in work]
     for job in jobs:
         compare_with_areas(comparing, job)
     compare_short_arrays(comparing, jobs)

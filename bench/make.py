@@ -3,9 +3,12 @@
 
     make.py PUBLISHED OUT     the folder of published files; where the work goes
 
-A line of the manifest: ENTRY GROUP NAME SIZE, then what the entry is asked. Sizes rise in geometric steps inside a group, so that growth can be fitted.
+A line of the manifest: ENTRY GROUP NAME SIZE, then the entry's files and numbers. Sizes rise in geometric steps inside a group, so that growth can be
+fitted. A small work of many different commands is several files alike: asked over and over, a single small one would be learnt by heart by the
+processor, which foresees its branches then, and growth would look steeper than it is.
 """
 
+import itertools
 import random
 import sys
 from pathlib import Path
@@ -18,6 +21,8 @@ MOST_PAGES = 65_535
 MOST_FONTS = 64
 RESOLUTION = 300
 SEED = 1
+QUICK = {"-1024K", "-1", "-64", "-4096", "-100", "-10000"}  # ends of names
+DIFFERENT_BYTES, DIFFERENT_RECORDS = 1 << 20, 10_000  # in all files of a work together, at least
 
 
 big = dvi.big
@@ -98,42 +103,42 @@ def renumbered(inside, new_number):
     return b"".join(out), deepest
 
 
-def joined_pages(published):
-    """Pages of the published files of one unit, as many files as 64 fonts allow, and those fonts under new numbers.
+def sayings_of(fonts):
+    """What each font's definition says without its number."""
+    return {number: dvi.Font(0, f.check_sum, f.scale, f.design, f.area, f.name).definition() for number, f in fonts.items()}
 
-    A font that two files define alike (check sum, s, d, area, name) is one font here.
-    """
-    fonts, by_saying, pages = [], {}, []
-    for data in published:
-        units, own, own_pages = published_pages(data)
-        if units != dvi.TEX_UNITS:
-            continue
-        sayings = {number: font.definition()[2:] if font.number < 256 else None for number, font in own.items()}
-        fresh = {saying for saying in sayings.values() if saying not in by_saying}
-        if None in sayings.values() or len(fonts) + len(fresh) > MOST_FONTS:
-            continue
-        new_number = {}
-        for number, saying in sayings.items():
-            if saying not in by_saying:
-                font = own[number]
-                by_saying[saying] = len(fonts)
-                fonts.append(dvi.Font(len(fonts), font.check_sum, font.scale, font.design, font.area, font.name))
-            new_number[number] = by_saying[saying]
-        pages += [(*renumbered(inside, new_number), counts) for counts, inside in own_pages]
+
+def joined_pages(published):
+    """Pages of published files of TeX's units, and their fonts under new numbers: of the files those first that bring most bytes for each font
+    that is new, as many as 64 fonts allow. A font that two files define alike is one font here."""
+    files = [file for file in map(published_pages, published) if file[0] == dvi.TEX_UNITS]
+    sayings = [sayings_of(fonts) for _, fonts, _ in files]
+    lengths = [sum(len(command) for _, inside in pages for command in inside) for _, _, pages in files]
+    new_numbers, pages, left = {}, [], set(range(len(files)))
+
+    def fresh(index):
+        return len(set(sayings[index].values()) - new_numbers.keys())
+
+    while fitting := [index for index in left if len(new_numbers) + fresh(index) <= MOST_FONTS]:
+        best = max(fitting, key=lambda index: (lengths[index] / (1 + fresh(index)), index))
+        left.remove(best)
+        for saying in sayings[best].values():
+            new_numbers.setdefault(saying, len(new_numbers))
+        numbers = {number: new_numbers[saying] for number, saying in sayings[best].items()}
+        pages += [(*renumbered(inside, numbers), counts) for counts, inside in files[best][2]]
+    fonts = [dvi.Font.read(saying) for saying in new_numbers]
+    for number, font in enumerate(fonts):
+        font.number = number
     return fonts, pages
 
 
 def joined(fonts, pages, most):
     """Those pages over and over, up to a length."""
     volume = Volume(fonts=fonts)
-    at = 0
-    while volume.pages < MOST_PAGES:
-        inside, depth, counts = pages[at % len(pages)]
-        if volume.length + 46 + len(inside) + volume.end_length() > most:
-            break
+    for inside, depth, counts in itertools.cycle(pages):
+        if volume.pages == MOST_PAGES or volume.length + 46 + len(inside) + volume.end_length() > most:
+            return volume.finished()
         volume.add(inside, depth, counts)
-        at += 1
-    return volume.finished()
 
 
 # ---- worst cases of the check ----
@@ -313,17 +318,21 @@ class Work:
             self.known[name] = path
         return path
 
-    def check(self, group, name, data):
-        path = self.keep(f"{name}.dvi", data)
-        self.lines.append(f"check {group} {name} {len(data)} {path}")
+    def keep_all(self, name, files):
+        """Files alike, as the manifest lists them, and their mean length."""
+        paths = [self.keep(f"{name}.dvi" if index == 0 else f"{name}.{index}.dvi", data) for index, data in enumerate(files)]
+        return ",".join(map(str, paths)), sum(map(len, files)) // len(files)
 
-    def place(self, group, name, size, data, table, page=1, resolution=RESOLUTION):
-        file, widths = self.keep(f"{name}.dvi", data), self.keep(*table)
-        self.lines.append(f"place {group} {name} {size} {file} {widths} {resolution} {page}")
+    def check(self, group, name, *files):
+        paths, size = self.keep_all(name, files)
+        self.lines.append(f"check {group} {name} {size} {paths}")
 
-    def manifest(self, name):
-        (self.folder / name).write_text("".join(line + "\n" for line in self.lines))
-        self.lines = []
+    def place(self, group, name, size, files, table):
+        paths, _ = self.keep_all(name, files)
+        self.lines.append(f"place {group} {name} {size} {paths} {self.keep(*table)} {RESOLUTION} 1")
+
+    def manifest(self, name, lines):
+        (self.folder / name).write_text("".join(line + "\n" for line in lines))
 
 
 def steps(first, last, factor):
@@ -336,7 +345,8 @@ def check_jobs(work, rng, published, sizes):
     fonts, pages = joined_pages(published)
     for size in sizes:
         kib = size // 1024
-        work.check("joined", f"joined-{kib}K", joined(fonts, pages, size))
+        shuffled = (rng.sample(pages, len(pages)) for _ in range(max(1, DIFFERENT_BYTES // size)))
+        work.check("joined", f"joined-{kib}K", *(joined(fonts, order, size) for order in shuffled))
         work.check("one-byte", f"one-byte-{kib}K", one_byte_commands(rng, size))
         work.check("characters", f"characters-{kib}K", characters_only(size))
         work.check("push-pop", f"push-pop-{kib}K", pushes_and_pops(size))
@@ -359,21 +369,22 @@ def place_jobs(work, rng, sizes):
     unit = unit_of(dvi.TEX_UNITS, RESOLUTION)
     one = [dvi.Font(0, 0x1234, 655_360)]
     many = [dvi.Font(n, 0x1000 + 77 * n, 655_360 + 1000 * n) for n in range(MOST_FONTS)]
-    tables = {len(fonts): (f"widths-{len(fonts)}", table_for(rng, fonts, unit)) for fonts in (one, many)}
+    tables = {len(fonts): (f"widths-{len(fonts)}", table_for(rng, fonts, unit)) for fonts in ((), one, many)}
 
-    def page(fonts, inside, depth):
-        volume = Volume(fonts=fonts)
-        volume.add(inside, depth)
-        return volume.finished()
+    def add(group, size, fonts, page_of):
+        files = []
+        for _ in range(max(1, DIFFERENT_RECORDS // size)):
+            volume = Volume(fonts=fonts)
+            volume.add(*page_of())
+            files.append(volume.finished())
+        work.place(group, f"{group}-{size}", size, files, tables[len(fonts)])
 
-    for records in sizes:
+    for size in sizes:
         for fonts, which in ((one, "one-font"), (many, "64-fonts")):
-            for deep in (False, True):
-                form = "deep" if deep else "flat"
-                group = f"{form}-{which}"
-                work.place(group, f"{group}-{records}", records, page(fonts, *text_page(rng, records, fonts, deep)), tables[len(fonts)])
-        work.place("moves", f"moves-{records}", records, page(one, *moves_page(rng, records)), tables[1])
-        work.place("rules", f"rules-{records}", records, page((), *rules_page(rng, records)), ("widths-0", b""))
+            add(f"flat-{which}", size, fonts, lambda: text_page(rng, size, fonts, False))
+            add(f"deep-{which}", size, fonts, lambda: text_page(rng, size, fonts, True))
+        add("moves", size, one, lambda: moves_page(rng, size))
+        add("rules", size, (), lambda: rules_page(rng, size))
 
 
 def table_jobs(work, sizes):
@@ -406,26 +417,27 @@ def published_page_jobs(work, published, count):
         work.lines.append(f"place published-pages {name.removesuffix('.dvi')} {len(data)} {file} {table} {RESOLUTION} {fullest + 1}")
 
 
+def is_quick(line):
+    """Whether a work is in the short form: one size or two of each group."""
+    _, group, name, *_ = line.split()
+    return group == "published-pages" or name.removeprefix(group) in QUICK
+
+
 def main():
     published_folder, out = Path(sys.argv[1]), Path(sys.argv[2])
     published = {path.name: path.read_bytes() for path in sorted(published_folder.glob("*.dvi"))}
     work, rng = Work(out), random.Random(SEED)
     published_jobs(work, rng, published)
-    work.manifest("published")
-    check_jobs(work, rng, published.values(), [1 << 20])
-    page_count_jobs(work, [4096])
-    definition_jobs(work, [1, MOST_FONTS])
-    place_jobs(work, rng, [100, 10_000])
-    published_page_jobs(work, published, 1)
-    table_jobs(work, [256, 16_384])
-    work.manifest("quick")
+    work.manifest("published", work.lines)
+    work.lines = []
     check_jobs(work, rng, published.values(), list(steps(1 << 16, LONGEST_FILE, 4)))
     page_count_jobs(work, [*steps(64, 4096, 8), MOST_PAGES])
     definition_jobs(work, list(steps(1, MOST_FONTS, 4)))
     place_jobs(work, rng, list(steps(100, 100_000, 10)))
     published_page_jobs(work, published, 6)
     table_jobs(work, list(steps(16, 65_536, 4)))
-    work.manifest("full")
+    work.manifest("quick", filter(is_quick, work.lines))
+    work.manifest("full", work.lines)
 
 
 if __name__ == "__main__":

@@ -56,9 +56,10 @@ def job_of(words, files, group, name, size=0):
     return Job(entry, group, name, size, file, table, numbers, area_length)
 
 
-def jobs_of(manifest):
-    """A line a job: ENTRY GROUP NAME SIZE, then the entry's files and numbers."""
-    known, jobs = {}, []
+def works_of(manifest):
+    """A line a work: ENTRY GROUP NAME SIZE, then the entry's files and numbers. A work is one job, or several alike: the first file may be
+    a list with commas between."""
+    known = {}
 
     def files(name):
         if name not in known:
@@ -66,9 +67,8 @@ def jobs_of(manifest):
         return known[name]
 
     for line in Path(manifest).read_text().splitlines():
-        entry, group, name, size, *rest = line.split()
-        jobs.append(job_of([entry, *rest], files, group, name, int(size)))
-    return jobs
+        entry, group, name, size, first, *rest = line.split()
+        yield [job_of([entry, one, *rest], files, group, name, int(size)) for one in first.split(",")]
 
 
 class Readers:
@@ -77,7 +77,7 @@ class Readers:
         self.library.ask.restype = ctypes.c_uint32
         self.library.ask.argtypes = [ctypes.c_uint32, ctypes.POINTER(Question), ctypes.c_void_p, ctypes.c_size_t]
         self.library.seconds_of.restype = ctypes.c_double
-        self.library.seconds_of.argtypes = [ctypes.c_uint32, ctypes.POINTER(Question), ctypes.c_uint64]
+        self.library.seconds_of.argtypes = [ctypes.c_uint32, ctypes.POINTER(Question), ctypes.c_uint64, ctypes.c_uint64]
 
     @staticmethod
     def question(job, area):
@@ -89,5 +89,6 @@ class Readers:
     def ask(self, reader, question, answer, answer_length):
         return self.library.ask(reader, question, answer, answer_length)
 
-    def seconds_of(self, reader, question, calls):
-        return self.library.seconds_of(reader, question, calls)
+    def seconds_of(self, reader, questions, calls):
+        """The processor time of so many calls, the questions of an array in turn."""
+        return self.library.seconds_of(reader, questions, len(questions), calls)

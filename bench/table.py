@@ -41,7 +41,8 @@ def main():
     for (entry, group), points in groups.items():
         ratios = [proved / plain for _, proved, plain in points]
         spread = f"{min(ratios):.2f} to {max(ratios):.2f}" if len(points) > 1 else f"{ratios[0]:.2f}"
-        if len({size for size, _, _ in points}) > 1:
+        sizes = [size for size, _, _ in points]
+        if len(points) > 1 and sizes == sorted(sizes):
             grown = [f"{exponent([(size, times[which]) for size, *times in points]):.3f}" for which in (0, 1)]
         else:
             grown = ["", ""]
