@@ -1,5 +1,6 @@
 -- `clib::hurlyburn_check_table` meets its contract: the array is measured first, then it is what `reader::check_table` answers. Assumes nothing.
 use mathlib.Core.Path.{_≡_, sym, ap, _∙_}
+use native.Mathlib.Omega.{arith}
 use borrow.Author.Needs.{needs}
 use denote.Ref.{now}
 use Rattle.widths.specs.Table.{checkedTable}
@@ -12,7 +13,7 @@ use Rattle.clib.proofs.hurlyburn_check_table.Tie as tie
 returns : tie.Need-returns
 returns c =
     let a = c .before .before .before .args in
-    leaves-short 1 tableNumbers (now (a .answer)) (checkedTable (now (a .table))) (c .if1 .taken)
+    leaves-short 1 tableNumbers (now (a .answer)) (checkedTable (now (a .table))) (omega (arith, c .if1 .taken))
 
 check-table-requires : tie.Need-check-table-requires
 check-table-requires c κs = search needs
@@ -39,7 +40,7 @@ returns-2 : tie.Need-returns-2
 returns-2 c =
     let a = c .before .before .before .before .before .before .before .before .before .before .before .before .args in
     let g = c .before .before .give in
-    leaves-given 1 tableNumbers (now (a .answer)) (checkedTable (now (a .table))) (c .before .before .before .before .before .before .before .before .before .if1 .left) _
+    leaves-given 1 tableNumbers (now (a .answer)) (checkedTable (now (a .table))) (omega (arith, c .before .before .before .before .before .before .before .before .before .if1 .left)) _
     (sym (c .before .before .before .before .before .before .before .before .check-table .ensures) ∙ ap tableAnswer (c .before .before .before .before .before .before .records .given .1)) (g .result) (g .last .0) (g .ensures)
 
 same-length-2 : tie.Need-same-length-2
@@ -49,7 +50,7 @@ returns-3 : tie.Need-returns-3
 returns-3 c =
     let a = c .before .before .before .before .before .before .before .before .before .before .before .args in
     let g = c .before .before .refuse in
-    leaves-refused 1 tableNumbers (now (a .answer)) (checkedTable (now (a .table))) (c .before .before .before .before .before .before .before .before .if1 .left) _ _
+    leaves-refused 1 tableNumbers (now (a .answer)) (checkedTable (now (a .table))) (omega (arith, c .before .before .before .before .before .before .before .before .if1 .left)) _ _
     (sym (c .before .before .before .before .before .before .before .check-table .ensures) ∙ ap tableAnswer (c .before .before .before .before .before .number .given .1)) (g .result) (g .last .0) (g .ensures)
 
 pub hurlyburn-check-table-spec : {M : Type 1} → statement M

@@ -1,5 +1,6 @@
 -- `clib::hurlyburn_font_name_place` meets its contract: the array is measured first, then it is what `reader::font_name_place` answers. Assumes nothing.
 use mathlib.Core.Path.{_≡_, sym, ap, _∙_}
+use native.Mathlib.Omega.{arith}
 use borrow.Author.Needs.{needs}
 use denote.Ref.{now}
 use mir.Facts.{toZ-ofZ}
@@ -19,7 +20,7 @@ name-is p =
 returns : tie.Need-returns
 returns c =
     let a = c .before .before .before .args in
-    leaves-short 2 nameNumbers (now (a .answer)) (namePlace (now (a .file)) (a .font)) (c .if1 .taken)
+    leaves-short 2 nameNumbers (now (a .answer)) (namePlace (now (a .file)) (a .font)) (omega (arith, c .if1 .taken))
 
 font-name-place-requires : tie.Need-font-name-place-requires
 font-name-place-requires c κs = search needs
@@ -46,7 +47,7 @@ returns-2 : tie.Need-returns-2
 returns-2 c =
     let a = c .before .before .before .before .before .before .before .before .before .before .before .before .args in
     let g = c .before .before .give in
-    leaves-given 2 nameNumbers (now (a .answer)) (namePlace (now (a .file)) (a .font)) (c .before .before .before .before .before .before .before .before .before .if1 .left) _
+    leaves-given 2 nameNumbers (now (a .answer)) (namePlace (now (a .file)) (a .font)) (omega (arith, c .before .before .before .before .before .before .before .before .before .if1 .left)) _
     (sym (name-is (c .before .before .before .before .before .before .before .before)) ∙ ap nameAnswer (c .before .before .before .before .before .before .start .given .1)) (g .result) (g .last .0) (g .ensures)
 
 same-length-2 : tie.Need-same-length-2
@@ -56,7 +57,7 @@ returns-3 : tie.Need-returns-3
 returns-3 c =
     let a = c .before .before .before .before .before .before .before .before .before .before .before .args in
     let g = c .before .before .refuse in
-    leaves-refused 2 nameNumbers (now (a .answer)) (namePlace (now (a .file)) (a .font)) (c .before .before .before .before .before .before .before .before .if1 .left) _ _
+    leaves-refused 2 nameNumbers (now (a .answer)) (namePlace (now (a .file)) (a .font)) (omega (arith, c .before .before .before .before .before .before .before .before .if1 .left)) _ _
     (sym (name-is (c .before .before .before .before .before .before .before)) ∙ ap nameAnswer (c .before .before .before .before .before .number .given .1)) (g .result) (g .last .0) (g .ensures)
 
 pub hurlyburn-font-name-place-spec : {M : Type 1} → statement M

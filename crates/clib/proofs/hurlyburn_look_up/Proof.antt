@@ -2,6 +2,7 @@
 use mathlib.Core.Path.{_≡_, sym, ap, _∙_}
 use Prim.Native.Nat.{ℕ, _^_}
 use mathlib.Core.List.{[], _∷_}
+use native.Mathlib.Omega.{arith}
 use borrow.Author.Needs.{needs}
 use denote.Ref.{now}
 use mir.Syntax.{w64}
@@ -24,7 +25,7 @@ looked-is p =
 returns : tie.Need-returns
 returns c =
     let a = c .before .before .before .args in
-    leaves-short 6 lookedNumbers (now (a .answer)) (lookedUp (now (a .table)) (a .checksum) (a .scale) (a .character)) (c .if1 .taken)
+    leaves-short 6 lookedNumbers (now (a .answer)) (lookedUp (now (a .table)) (a .checksum) (a .scale) (a .character)) (omega (arith, c .if1 .taken))
 
 look-up-requires : tie.Need-look-up-requires
 look-up-requires c κs = search needs
@@ -78,7 +79,7 @@ returns-2 c =
     let f = c .before .before .before .before .before .before .before .escapement .given .0 in
     let e : toZ w64 (ofZ w64 (f .0)) ≡ f .0 = search needs in
     let w : c .before .before .before .before .before .word-of .result ≡ toTwos (2 ^ 64) (f .0) = c .before .before .before .before .before .word-of .ensures ∙ ap (toTwos (2 ^ 64)) e in
-    leaves-given 6 lookedNumbers (now (a .answer)) (lookedUp (now (a .table)) (a .checksum) (a .scale) (a .character)) (c .before .before .before .before .before .before .before .before .before .before .if1 .left) _
+    leaves-given 6 lookedNumbers (now (a .answer)) (lookedUp (now (a .table)) (a .checksum) (a .scale) (a .character)) (omega (arith, c .before .before .before .before .before .before .before .before .before .before .if1 .left)) _
     (sym (looked-is (c .before .before .before .before .before .before .before .before .before)) ∙ ap lookedAnswer (c .before .before .before .before .before .before .before .escapement .given .1)) (g .result) (g .last .0)
     (g .ensures .0, g .ensures .1 ∙ ap (λ (word : ℕ). inFront (1 ∷ word ∷ f .1 .0 ∷ f .1 .1 .0 ∷ f .1 .1 .1 .0 ∷ f .1 .1 .1 .1 .0 ∷ []) (now (a .answer))) w)
 
@@ -89,7 +90,7 @@ returns-3 : tie.Need-returns-3
 returns-3 c =
     let a = c .before .before .before .before .before .before .before .before .before .before .before .args in
     let g = c .before .before .give2 in
-    leaves-given 6 lookedNumbers (now (a .answer)) (lookedUp (now (a .table)) (a .checksum) (a .scale) (a .character)) (c .before .before .before .before .before .before .before .before .if1 .left) _
+    leaves-given 6 lookedNumbers (now (a .answer)) (lookedUp (now (a .table)) (a .checksum) (a .scale) (a .character)) (omega (arith, c .before .before .before .before .before .before .before .before .if1 .left)) _
     (sym (looked-is (c .before .before .before .before .before .before .before)) ∙ ap lookedAnswer (c .before .before .before .before .before .enum-told .given .1)) (g .result) (g .last .0) (g .ensures)
 
 same-length-3 : tie.Need-same-length-3
@@ -99,7 +100,7 @@ returns-4 : tie.Need-returns-4
 returns-4 c =
     let a = c .before .before .before .before .before .before .before .before .before .before .before .args in
     let g = c .before .before .refuse in
-    leaves-refused 6 lookedNumbers (now (a .answer)) (lookedUp (now (a .table)) (a .checksum) (a .scale) (a .character)) (c .before .before .before .before .before .before .before .before .if1 .left) _ _
+    leaves-refused 6 lookedNumbers (now (a .answer)) (lookedUp (now (a .table)) (a .checksum) (a .scale) (a .character)) (omega (arith, c .before .before .before .before .before .before .before .before .if1 .left)) _ _
     (sym (looked-is (c .before .before .before .before .before .before .before)) ∙ ap lookedAnswer (c .before .before .before .before .before .number .given .1)) (g .result) (g .last .0) (g .ensures)
 
 pub hurlyburn-look-up-spec : {M : Type 1} → statement M

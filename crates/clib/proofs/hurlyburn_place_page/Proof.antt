@@ -2,6 +2,7 @@
 use Prim.Native.Nat.{ℕ, _≤_}
 use mathlib.Core.Path.{_≡_, sym, ap, _∙_}
 use mathlib.Core.List.{List}
+use native.Mathlib.Omega.{arith}
 use borrow.Author.Needs.{needs}
 use denote.Ref.{now}
 use lib.ListN.{length}
@@ -19,8 +20,8 @@ returns : tie.Need-returns
 returns c =
     let a = c .before .before .before .before .before .args in
     let placed = placedPage (now (a .file)) (now (a .widths)) (a .resolution) (a .page) (length (now (a .area))) in
-    let left = leaves-short 3 placedNumbers (now (a .answer)) (placedCounts placed) (c .if1 .taken) in
-    (left .0, (left .1, too-short 3 (now (a .answer)) _ _ (c .if1 .taken)))
+    let left = leaves-short 3 placedNumbers (now (a .answer)) (placedCounts placed) (omega (arith, c .if1 .taken)) in
+    (left .0, (left .1, too-short 3 (now (a .answer)) _ _ (omega (arith, c .if1 .taken))))
 
 place-page-requires : tie.Need-place-page-requires
 place-page-requires c κs = search needs
@@ -55,7 +56,7 @@ module _ (p : tie.After-place-page) where
   placed = placedPage (now (start .args .file)) (now (start .args .widths)) (start .args .resolution) (start .args .page) (length area)
 
   room : 3 ≤ length array
-  room = p .before .before .if1 .left
+  room = omega (arith, p .before .before .if1 .left)
 
   counts-are : (r : reader.Placed) → p .place-page .result ≡ r → placedCounts placed ≡ placedAnswer r
   counts-are r e = sym (p .place-page .ensures .0) ∙ ap placedAnswer e
