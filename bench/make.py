@@ -307,29 +307,28 @@ def rules_page(rng, rules):
 
 class Work:
     def __init__(self, folder):
-        self.folder, self.lines, self.known = folder, [], {}
+        self.folder, self.lines, self.known = folder, [], set()
         folder.mkdir(parents=True, exist_ok=True)
 
     def keep(self, name, data):
-        """A file of the work; equal names are one file."""
-        path = self.folder / name
+        """A file of the work, by its name; equal names are one file."""
         if name not in self.known:
-            path.write_bytes(data)
-            self.known[name] = path
-        return path
+            (self.folder / name).write_bytes(data)
+            self.known.add(name)
+        return name
 
     def keep_all(self, name, files):
         """Files alike, as the manifest lists them, and their mean length."""
-        paths = [self.keep(f"{name}.dvi" if index == 0 else f"{name}.{index}.dvi", data) for index, data in enumerate(files)]
-        return ",".join(map(str, paths)), sum(map(len, files)) // len(files)
+        names = [self.keep(f"{name}.dvi" if index == 0 else f"{name}.{index}.dvi", data) for index, data in enumerate(files)]
+        return ",".join(names), sum(map(len, files)) // len(files)
 
     def check(self, group, name, *files):
-        paths, size = self.keep_all(name, files)
-        self.lines.append(f"check {group} {name} {size} {paths}")
+        names, size = self.keep_all(name, files)
+        self.lines.append(f"check {group} {name} {size} {names}")
 
     def place(self, group, name, size, files, table):
-        paths, _ = self.keep_all(name, files)
-        self.lines.append(f"place {group} {name} {size} {paths} {self.keep(*table)} {RESOLUTION} 1")
+        names, _ = self.keep_all(name, files)
+        self.lines.append(f"place {group} {name} {size} {names} {self.keep(*table)} {RESOLUTION} 1")
 
     def manifest(self, name, lines):
         (self.folder / name).write_text("".join(line + "\n" for line in lines))
@@ -389,12 +388,10 @@ def place_jobs(work, rng, sizes):
 
 def table_jobs(work, sizes):
     for records in sizes:
-        path = work.keep(f"table-{records}", table_of(records))
-        work.lines.append(f"table table table-{records} {records} {path}")
+        work.lines.append(f"table table table-{records} {records} {work.keep(f'table-{records}', table_of(records))}")
     for records in sizes:
-        path = work.keep(f"table-{records}", b"")
-        last = 7 * ((records - 1) // 128) + 1
-        work.lines.append(f"look look-up look-up-{records} {records} {path} {last} 655360 {records // 3 % 128}")
+        last_font = 7 * ((records - 1) // 128) + 1
+        work.lines.append(f"look look-up look-up-{records} {records} table-{records} {last_font} 655360 {records // 3 % 128}")
 
 
 def published_jobs(work, rng, published):
@@ -409,12 +406,11 @@ def published_jobs(work, rng, published):
 
 
 def published_page_jobs(work, published, count):
-    """The fullest page of each of the largest published files. The size is the file's: placing judges the whole file first."""
+    """The fullest page of each of the largest published files, as `published_jobs` kept them. The size is the file's: placing judges it whole."""
     for name, data in sorted(published.items(), key=lambda item: -len(item[1]))[:count]:
         _, _, pages = published_pages(data)
         fullest = max(range(len(pages)), key=lambda index: sum(map(len, pages[index][1])))
-        file, table = work.keep(name, data), work.keep(f"{name}.widths", b"")
-        work.lines.append(f"place published-pages {name.removesuffix('.dvi')} {len(data)} {file} {table} {RESOLUTION} {fullest + 1}")
+        work.lines.append(f"place published-pages {name.removesuffix('.dvi')} {len(data)} {name} {name}.widths {RESOLUTION} {fullest + 1}")
 
 
 def is_quick(line):

@@ -57,13 +57,13 @@ def job_of(words, files, group, name, size=0):
 
 
 def works_of(manifest):
-    """A line a work: ENTRY GROUP NAME SIZE, then the entry's files and numbers. A work is one job, or several alike: the first file may be
-    a list with commas between."""
-    known = {}
+    """A line a work: ENTRY GROUP NAME SIZE, then the entry's files, in the manifest's folder, and numbers. A work is one job, or several
+    alike: the first file may be a list with commas between."""
+    folder, known = Path(manifest).parent, {}
 
     def files(name):
         if name not in known:
-            known[name] = Path(name).read_bytes()
+            known[name] = (folder / name).read_bytes()
         return known[name]
 
     for line in Path(manifest).read_text().splitlines():
