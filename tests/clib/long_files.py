@@ -27,24 +27,27 @@ def fonts(count, name_length):
             for n in range(count)]
 
 
-def two_pages_apart(keep):
-    """A long run of nops, fonts and a second page behind it: everything of interest stands near the end."""
+def three_pages_apart(keep):
+    """Long specials and a run of nops over the file's middle, then fonts and a third page: most of interest stands near the end."""
     defined = fonts(64, 255)
 
     def make(filling):
+        nops = filling // 16
+        first = (filling - nops) // 2
         definitions = [font.definition() for font in defined]
-        return dvi.volume(PLAIN_UNITS, [*dvi.page([MARK]), NOTHING * filling, *definitions, *dvi.page([dvi.right(1000), MARK])], defined)
+        long_pages = [*dvi.page([dvi.special(b"1" * first, 4)]), NOTHING * nops, *dvi.page([dvi.special(b"2" * (filling - nops - first), 4)])]
+        return dvi.volume(PLAIN_UNITS, [*long_pages, *definitions, *dvi.page([dvi.right(1000), MARK])], defined)
 
     data = filled(make)
     start = LONGEST - 4 - 6 - sum(len(font.definition()) for font in defined) - 29  # post
     file, empty = keep(data), keep(b"")
     yield "the longest file", [
-        (b"check %s" % file, b"accepted 2 64 0 %d" % start),
+        (b"check %s" % file, b"accepted 3 64 0 %d" % start),
         (b"name %s 63" % file, b"name 16"),
         (b"name %s 64" % file, b"refused 8 at 0"),
-        (b"place %s %s 300 2 20" % (file, empty), b"r 2 0 300 0 1 1\nend 1 0 0"),
-        (b"place %s %s 300 2 19" % (file, empty), b"refused 17 at 0"),
-        (b"place %s %s 300 3 20" % (file, empty), b"refused 15 at 0"),
+        (b"place %s %s 300 3 20" % (file, empty), b"r 3 0 300 0 1 1\nend 1 0 0"),
+        (b"place %s %s 300 3 19" % (file, empty), b"refused 17 at 0"),
+        (b"place %s %s 300 4 20" % (file, empty), b"refused 15 at 0"),
     ]
     longer = keep(filled(make, LONGEST + 1))
     yield "a byte too long", [
@@ -67,12 +70,18 @@ def damaged_at(keep, data, post):
         (changed(middle, 250), b"refused 3 at %d" % middle),
         (changed(middle, dvi.POP), b"refused 5 at %d" % middle),
         (changed(post + 4, data[post + 4] ^ 1), b"refused 9 at %d" % post),
-        (changed(post + 28, 3), b"refused 10 at %d" % post),
+        (changed(post + 28, data[post + 28] ^ 1), b"refused 10 at %d" % post),
         (changed(LONGEST - 1, 0), b"refused 11 at %d" % (LONGEST - 1)),
         (b"check %s" % keep(data[:-1]), b"refused 11 at %d" % (LONGEST - 1)),
         (b"check %s" % keep(data[:-5]), b"refused 2 at %d" % (LONGEST - 10)),
         (b"check %s" % keep(data[:middle]), b"refused 2 at %d" % middle),
     ]
+
+
+def shortest_commands(keep):
+    """The longest file of commands of one byte."""
+    file = keep(filled(lambda filling: dvi.volume(PLAIN_UNITS, [*dvi.page([]), NOTHING * filling])))
+    yield "the most commands", [(b"check %s" % file, b"accepted 1 0 0 %d" % (LONGEST - 39))]
 
 
 def one_long_special(keep):
@@ -160,7 +169,8 @@ def long_tables(keep, rng):
 
 
 def cases(keep, rng):
-    yield from two_pages_apart(keep)
+    yield from three_pages_apart(keep)
+    yield from shortest_commands(keep)
     yield from one_long_special(keep)
     yield from many_pages(keep)
     yield from many_records(keep, rng)
