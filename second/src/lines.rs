@@ -13,17 +13,17 @@ use std::io::Read;
 use std::os::unix::ffi::OsStrExt;
 
 const NO_INPUT: &str = "no input";
-const GREATEST_AREA: u64 = 60_000;
 
-/// How long the files may be; none when any length will do.
+/// How long the files may be, none when any length will do; and the output area.
 #[derive(Clone, Copy)]
 pub struct Limits {
     pub dvi: Option<u64>,
     pub table: Option<u64>,
+    pub area: u64,
 }
 
-pub const DESK: Limits = Limits { dvi: Some(262_144), table: Some(65_536) };
-pub const LONG: Limits = Limits { dvi: None, table: None };
+pub const DESK: Limits = Limits { dvi: Some(262_144), table: Some(65_536), area: 60_000 };
+pub const LONG: Limits = Limits { dvi: None, table: None, area: u64::MAX };
 
 /// The line could not be understood, or a file not be read.
 struct NoInput;
@@ -88,7 +88,7 @@ fn asked(line: &[u8], limits: Limits) -> Result<Result<String, Refusal>, NoInput
         }
         [b"place", file, widths, resolution, page, area] => {
             let (resolution, page) = (unsigned_word(resolution)?, unsigned_word(page)?);
-            let area = plain(area, GREATEST_AREA)?;
+            let area = plain(area, limits.area)?;
             let (file, widths) = (dvi(file)?, table(widths)?);
             Ok(place(&file, &widths, resolution, page, area).map(|placed| {
                 let mut lines: Vec<String> = placed.records.iter().map(record_line).collect();

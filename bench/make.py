@@ -1,0 +1,440 @@
+#!/usr/bin/env python3
+"""The bench's work: DVI files, width tables and the manifest that names each job. Standard library only; the same bytes each time.
+
+    make.py PUBLISHED OUT     the folder of published files; where the work goes
+
+A line of the manifest: ENTRY GROUP NAME SIZE, then the entry's files and numbers. Sizes rise in geometric steps inside a group, so that growth can be
+fitted. A small work of many different commands is several files alike: asked over and over, a single small one would be learnt by heart by the
+processor, which foresees its branches then, and growth would look steeper than it is.
+"""
+
+import itertools
+import random
+import sys
+from pathlib import Path
+
+sys.path.insert(0, str(Path(__file__).resolve().parent.parent / "tests" / "compare"))
+import dvi  # noqa: E402
+
+LONGEST_FILE = 16_777_216
+MOST_PAGES = 65_535
+MOST_FONTS = 64
+RESOLUTION = 300
+SEED = 1
+QUICK = {"-1024K", "-1", "-64", "-4096", "-100", "-10000"}  # ends of names
+DIFFERENT_BYTES, DIFFERENT_RECORDS = 1 << 20, 10_000  # in all files of a work together, at least
+
+
+big = dvi.big
+
+# ---- whole files from pages ----
+
+
+class Volume:
+    """A lawful file that grows page by page; pointers, depth and page count are kept right."""
+
+    def __init__(self, units=dvi.TEX_UNITS, fonts=()):
+        self.units, self.fonts = units, list(fonts)
+        self.parts = [dvi.pre(units), *(font.definition() for font in self.fonts)]
+        self.length = sum(map(len, self.parts))
+        self.last_bop, self.pages, self.depth = -1, 0, 0
+
+    def add(self, inside, depth=0, counts=bytes(40)):
+        """A page: the bytes between bop and eop, and the greatest depth reached there."""
+        page = bytes([dvi.BOP]) + counts + big(self.last_bop, 4) + inside + bytes([dvi.EOP])
+        self.last_bop, self.pages, self.depth = self.length, self.pages + 1, max(self.depth, depth)
+        self.parts.append(page)
+        self.length += len(page)
+
+    def end_length(self):
+        return 29 + sum(len(font.definition()) for font in self.fonts) + 6 + 4
+
+    def finished(self):
+        units = b"".join(big(unit, 4) for unit in self.units)
+        post = bytes([dvi.POST]) + big(self.last_bop, 4) + units + bytes(8) + big(self.depth, 2) + big(self.pages, 2)
+        again = [font.definition() for font in self.fonts]
+        last = bytes([dvi.POST_POST]) + big(self.length, 4) + b"\x02" + bytes([dvi.TAIL]) * 4
+        return b"".join([*self.parts, post, *again, last])
+
+
+# ---- published files joined ----
+
+
+def published_pages(data):
+    """Units, fonts by number, and the pages: the commands between bop and eop, and the ten counts."""
+    commands, _ = dvi.commands_of(data)
+    units = tuple(dvi.signed(data[at : at + 4]) for at in (2, 6, 10))
+    fonts = {font.number: font for font in dvi.fonts_of(commands)}
+    pages, inside = [], None
+    for command in commands:
+        if command[0] == dvi.BOP:
+            counts, inside = command[1:41], []
+        elif command[0] == dvi.EOP:
+            pages.append((counts, inside))
+            inside = None
+        elif inside is not None:
+            inside.append(command)
+    return units, fonts, pages
+
+
+def number_of(command):
+    """The font that a selection names."""
+    if command[0] < dvi.FNT1:
+        return command[0] - dvi.FNT_NUM_0
+    return dvi.signed(command[1:]) if command[0] == dvi.FNT1 + 3 else dvi.unsigned(command[1:])
+
+
+def renumbered(inside, new_number):
+    """A page's bytes with its selections naming the new numbers and without its definitions, and its greatest depth."""
+    depth = deepest = 0
+    out = []
+    for command in inside:
+        opcode = command[0]
+        if opcode == dvi.PUSH:
+            depth += 1
+            deepest = max(deepest, depth)
+        elif opcode == dvi.POP:
+            depth -= 1
+        elif dvi.FNT_NUM_0 <= opcode < dvi.XXX1:
+            command = dvi.select(new_number[number_of(command)])
+        elif dvi.FNT_DEF1 <= opcode < dvi.PRE:
+            continue
+        out.append(command)
+    return b"".join(out), deepest
+
+
+def sayings_of(fonts):
+    """What each font's definition says without its number."""
+    return {number: dvi.Font(0, f.check_sum, f.scale, f.design, f.area, f.name).definition() for number, f in fonts.items()}
+
+
+def joined_pages(published):
+    """Pages of published files of TeX's units, and their fonts under new numbers: of the files those first that bring most bytes for each font
+    that is new, as many as 64 fonts allow. A font that two files define alike is one font here."""
+    files = [file for file in map(published_pages, published) if file[0] == dvi.TEX_UNITS]
+    sayings = [sayings_of(fonts) for _, fonts, _ in files]
+    lengths = [sum(len(command) for _, inside in pages for command in inside) for _, _, pages in files]
+    new_numbers, pages, left = {}, [], set(range(len(files)))
+
+    def fresh(index):
+        return len(set(sayings[index].values()) - new_numbers.keys())
+
+    while fitting := [index for index in left if len(new_numbers) + fresh(index) <= MOST_FONTS]:
+        best = max(fitting, key=lambda index: (lengths[index] / (1 + fresh(index)), index))
+        left.remove(best)
+        for saying in sayings[best].values():
+            new_numbers.setdefault(saying, len(new_numbers))
+        numbers = {number: new_numbers[saying] for number, saying in sayings[best].items()}
+        pages += [(*renumbered(inside, numbers), counts) for counts, inside in files[best][2]]
+    fonts = [dvi.Font.read(saying) for saying in new_numbers]
+    for number, font in enumerate(fonts):
+        font.number = number
+    return fonts, pages
+
+
+def joined(fonts, pages, most):
+    """Those pages over and over, up to a length."""
+    volume = Volume(fonts=fonts)
+    for inside, depth, counts in itertools.cycle(pages):
+        if volume.pages == MOST_PAGES or volume.length + 46 + len(inside) + volume.end_length() > most:
+            return volume.finished()
+        volume.add(inside, depth, counts)
+
+
+# ---- worst cases of the check ----
+
+
+def filled(inside_of, most, fonts=()):
+    """One page as long as fits: `inside_of(room)` gives its bytes and depth."""
+    volume = Volume(fonts=fonts)
+    inside, depth = inside_of(most - volume.length - 46 - volume.end_length())
+    volume.add(inside, depth)
+    return volume.finished()
+
+
+def one_byte_commands(rng, most):
+    """Every opcode of one byte that may stand on a page, in random order: characters, nop, push and pop, w0 to z0, fonts."""
+    font = dvi.Font(0, 1, 655_360)
+
+    def inside_of(room):
+        out, depth, deepest = bytearray([dvi.FNT_NUM_0]), 0, 0
+        choices = [*range(128), *[dvi.NOP, dvi.PUSH, dvi.POP, dvi.W0, dvi.X0, dvi.Y0, dvi.Z0, dvi.FNT_NUM_0] * 16]
+        for opcode in rng.choices(choices, k=min(room, 1 << 16) - 200):
+            if opcode == dvi.PUSH and depth < 100:
+                depth += 1
+                deepest = max(deepest, depth)
+            elif opcode == dvi.POP and depth > 0:
+                depth -= 1
+            elif opcode in (dvi.PUSH, dvi.POP):
+                opcode = dvi.NOP
+            out.append(opcode)
+        out += bytes([dvi.POP]) * depth
+        return bytes(out) * (room // len(out)), deepest
+
+    return filled(inside_of, most, [font])
+
+
+def characters_only(most):
+    font = dvi.Font(0, 1, 655_360)
+    return filled(lambda room: (bytes([dvi.FNT_NUM_0]) + bytes(i % 128 for i in range(128)) * ((room - 1) // 128), 0), most, [font])
+
+
+def pushes_and_pops(most):
+    return filled(lambda room: ((bytes([dvi.PUSH]) * 100 + bytes([dvi.POP]) * 100) * (room // 200), 100), most)
+
+
+def selections(most):
+    fonts = [dvi.Font(n, n + 1, 655_360) for n in range(MOST_FONTS)]
+    each = b"".join(dvi.select(n, size) for n in range(MOST_FONTS) for size in (0, 1, 4))
+    return filled(lambda room: (each * (room // len(each)), 0), most, fonts)
+
+
+def definitions(fonts, area, name):
+    """So many fonts, each defined twice, with this area and name."""
+    volume = Volume(fonts=[dvi.Font(n, n + 1, 655_360, area=area, name=name) for n in range(fonts)])
+    volume.add(b"")
+    return volume.finished()
+
+
+def many_pages(pages):
+    volume = Volume()
+    for _ in range(pages):
+        volume.add(b"")
+    return volume.finished()
+
+
+def specials(most):
+    """Short specials one after the other."""
+    each = dvi.special(b"")
+    return filled(lambda room: (each * (room // len(each)), 0), most)
+
+
+# ---- width tables and pages to be placed ----
+
+
+def width_record(check_sum, scale, code, escapement, width):
+    return big(check_sum, 4) + big(scale, 4) + bytes([code, 0]) + big(escapement, 2) + big(width, 4)
+
+
+def table_for(rng, fonts, unit):
+    """Records of all 256 codes for each font; widths up to an em, escapements a pixel around the true ones."""
+    rows = []
+    for check_sum, scale in sorted({(font.check_sum, font.scale) for font in fonts}):
+        for code in range(256):
+            width = rng.randrange(1 << 18, 1 << 20)
+            pixels = round(unit * width * scale / (1 << 20)) + rng.choice([-1, 0, 0, 0, 1])
+            rows.append(width_record(check_sum, scale, code, max(-32768, min(32767, pixels)), width))
+    return b"".join(rows)
+
+
+def table_of(records):
+    """So many records, 128 codes a font."""
+    return b"".join(width_record(7 * (i // 128) + 1, 655_360, i % 128, i % 40, (i * 977) % (1 << 20)) for i in range(records))
+
+
+def unit_of(units, resolution):
+    num, den, mag = units
+    return num * mag * resolution / (den * 1000 * 254_000)
+
+
+def text_page(rng, records, fonts, deep):
+    """Lines of words as TeX sets them: a push around each line, down to the next, words with w0 and small kerns between; fonts in turn.
+
+    Deep: each word stands in a push and pop of its own, up to ninety levels deep on a line. The line is taken back sideways, so h stays small.
+    """
+    out, left, depth, deepest, word_number = [dvi.select(0)], records, 0, 0, 0
+    while left > 0:
+        out += [bytes([dvi.PUSH])]
+        depth += 1
+        for word in range(12 if not deep else 90):
+            if left == 0:
+                break
+            length = min(left, rng.randrange(2, 10))
+            left -= length
+            if len(fonts) > 1:
+                out.append(dvi.select(word_number % len(fonts)))
+            word_number += 1
+            out.append(dvi.sized(dvi.W0 + 1, rng.randrange(150_000, 300_000), 3) if word == 0 else bytes([dvi.W0]))
+            if deep:
+                out.append(bytes([dvi.PUSH]))
+                depth += 1
+                deepest = max(deepest, depth)
+            letters = bytes(rng.randrange(97, 123) for _ in range(length))
+            if length > 4:
+                letters = letters[:3] + dvi.right(-rng.randrange(1, 30_000), 3) + letters[3:]
+            out.append(letters)
+        out.append(bytes([dvi.POP]) * depth)
+        deepest = max(deepest, depth)
+        depth = 0
+        out.append(dvi.sized(dvi.Y0 + 1, 786_432, 3) if rng.random() < 0.1 else bytes([dvi.Y0]))
+        if rng.random() < 0.02:
+            out.append(dvi.down(-40 * 786_432, 4))
+    return b"".join(out), deepest
+
+
+def moves_page(rng, moves):
+    """Moves only, of every form, near and far, forth and back."""
+    out, h, v = [dvi.select(0)], 0, 0
+    forms = {"right": dvi.RIGHT1, "w": dvi.W0 + 1, "x": dvi.X0 + 1, "down": dvi.DOWN1, "y": dvi.Y0 + 1, "z": dvi.Z0 + 1}
+    for _ in range(moves):
+        form = rng.choice(list(forms))
+        size = rng.choice([1, 2, 3, 3, 4])
+        limit = min(1 << (8 * size - 1), 1 << 24)
+        distance = rng.randrange(limit)
+        sideways = form in ("right", "w", "x")
+        if (h if sideways else v) > 0:
+            distance = -distance
+        if sideways:
+            h += distance
+        else:
+            v += distance
+        out.append(dvi.sized(forms[form], distance, size))
+    return b"".join(out), 0
+
+
+def rules_page(rng, rules):
+    """Rules only, set and put in turn, the pen taken back now and then by a rule of negative width (which gives no record)."""
+    out = []
+    for i in range(rules):
+        out.append(dvi.rule(rng.randrange(1, 1 << 20), rng.randrange(1, 1 << 20), dvi.SET_RULE if i % 2 else dvi.PUT_RULE))
+        if i % 64 == 63:
+            out.append(dvi.rule(1, -16 << 20))
+    return b"".join(out), 0
+
+
+# ---- the manifest ----
+
+
+class Work:
+    def __init__(self, folder):
+        self.folder, self.lines, self.known = folder, [], set()
+        folder.mkdir(parents=True, exist_ok=True)
+
+    def keep(self, name, data):
+        """A file of the work, by its name; equal names are one file."""
+        if name not in self.known:
+            (self.folder / name).write_bytes(data)
+            self.known.add(name)
+        return name
+
+    def keep_all(self, name, files):
+        """Files alike, as the manifest lists them, and their mean length."""
+        names = [self.keep(f"{name}.dvi" if index == 0 else f"{name}.{index}.dvi", data) for index, data in enumerate(files)]
+        return ",".join(names), sum(map(len, files)) // len(files)
+
+    def check(self, group, name, *files):
+        names, size = self.keep_all(name, files)
+        self.lines.append(f"check {group} {name} {size} {names}")
+
+    def place(self, group, name, size, files, table):
+        names, _ = self.keep_all(name, files)
+        self.lines.append(f"place {group} {name} {size} {names} {self.keep(*table)} {RESOLUTION} 1")
+
+    def manifest(self, name, lines):
+        (self.folder / name).write_text("".join(line + "\n" for line in lines))
+
+
+def steps(first, last, factor):
+    while first <= last:
+        yield first
+        first *= factor
+
+
+def check_jobs(work, rng, published, sizes):
+    fonts, pages = joined_pages(published)
+    for size in sizes:
+        kib = size // 1024
+        shuffled = (rng.sample(pages, len(pages)) for _ in range(max(1, DIFFERENT_BYTES // size)))
+        work.check("joined", f"joined-{kib}K", *(joined(fonts, order, size) for order in shuffled))
+        work.check("one-byte", f"one-byte-{kib}K", one_byte_commands(rng, size))
+        work.check("characters", f"characters-{kib}K", characters_only(size))
+        work.check("push-pop", f"push-pop-{kib}K", pushes_and_pops(size))
+        work.check("selections", f"selections-{kib}K", selections(size))
+        work.check("specials", f"specials-{kib}K", specials(size))
+
+
+def definition_jobs(work, counts):
+    for group, area, name in (("names", b"a" * 255, b"n" * 255), ("short-names", b"", b"cmr10")):
+        for fonts in counts:
+            work.check(group, f"{group}-{fonts}", definitions(fonts, area, name))
+
+
+def page_count_jobs(work, counts):
+    for pages in counts:
+        work.check("pages", f"pages-{pages}", many_pages(pages))
+
+
+def place_jobs(work, rng, sizes):
+    unit = unit_of(dvi.TEX_UNITS, RESOLUTION)
+    one = [dvi.Font(0, 0x1234, 655_360)]
+    many = [dvi.Font(n, 0x1000 + 77 * n, 655_360 + 1000 * n) for n in range(MOST_FONTS)]
+    tables = {len(fonts): (f"widths-{len(fonts)}", table_for(rng, fonts, unit)) for fonts in ((), one, many)}
+
+    def add(group, size, fonts, page_of):
+        files = []
+        for _ in range(max(1, DIFFERENT_RECORDS // size)):
+            volume = Volume(fonts=fonts)
+            volume.add(*page_of())
+            files.append(volume.finished())
+        work.place(group, f"{group}-{size}", size, files, tables[len(fonts)])
+
+    for size in sizes:
+        for fonts, which in ((one, "one-font"), (many, "64-fonts")):
+            add(f"flat-{which}", size, fonts, lambda: text_page(rng, size, fonts, False))
+            add(f"deep-{which}", size, fonts, lambda: text_page(rng, size, fonts, True))
+        add("moves", size, one, lambda: moves_page(rng, size))
+        add("rules", size, (), lambda: rules_page(rng, size))
+
+
+def table_jobs(work, sizes):
+    for records in sizes:
+        work.lines.append(f"table table table-{records} {records} {work.keep(f'table-{records}', table_of(records))}")
+    for records in sizes:
+        last_font = 7 * ((records - 1) // 128) + 1
+        work.lines.append(f"look look-up look-up-{records} {records} table-{records} {last_font} 655360 {records // 3 % 128}")
+
+
+def published_jobs(work, rng, published):
+    """Published files as they are: the check, and the first, middle and last page with a width table for their fonts."""
+    for name, data in published.items():
+        units, fonts, pages = published_pages(data)
+        file = work.keep(name, data)
+        work.lines.append(f"check published {name} {len(data)} {file}")
+        table = work.keep(f"{name}.widths", table_for(rng, fonts.values(), unit_of(units, RESOLUTION)))
+        for page in sorted({1, (len(pages) + 1) // 2, len(pages)}):
+            work.lines.append(f"place published {name}-{page} {len(data)} {file} {table} {RESOLUTION} {page}")
+
+
+def published_page_jobs(work, published, count):
+    """The fullest page of each of the largest published files, as `published_jobs` kept them. The size is the file's: placing judges it whole."""
+    for name, data in sorted(published.items(), key=lambda item: -len(item[1]))[:count]:
+        _, _, pages = published_pages(data)
+        fullest = max(range(len(pages)), key=lambda index: sum(map(len, pages[index][1])))
+        work.lines.append(f"place published-pages {name.removesuffix('.dvi')} {len(data)} {name} {name}.widths {RESOLUTION} {fullest + 1}")
+
+
+def is_quick(line):
+    """Whether a work is in the short form: one size or two of each group."""
+    _, group, name, *_ = line.split()
+    return group == "published-pages" or name.removeprefix(group) in QUICK
+
+
+def main():
+    published_folder, out = Path(sys.argv[1]), Path(sys.argv[2])
+    published = {path.name: path.read_bytes() for path in sorted(published_folder.glob("*.dvi"))}
+    work, rng = Work(out), random.Random(SEED)
+    published_jobs(work, rng, published)
+    work.manifest("published", work.lines)
+    work.lines = []
+    check_jobs(work, rng, published.values(), list(steps(1 << 16, LONGEST_FILE, 4)))
+    page_count_jobs(work, [*steps(64, 4096, 8), MOST_PAGES])
+    definition_jobs(work, list(steps(1, MOST_FONTS, 4)))
+    place_jobs(work, rng, list(steps(100, 100_000, 10)))
+    published_page_jobs(work, published, 6)
+    table_jobs(work, list(steps(16, 65_536, 4)))
+    work.manifest("quick", filter(is_quick, work.lines))
+    work.manifest("full", work.lines)
+
+
+if __name__ == "__main__":
+    main()

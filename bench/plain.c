@@ -1,0 +1,758 @@
+/* The reader's jobs in plain C, from document 01, written for speed: one scan of the file that notes the wanted page; a page
+   walked twice, first with h and v alone (16 and 17 must be known before a byte is written), then with the pixels; the metrics
+   of a font's characters kept once they are found. */
+#include "plain.h"
+#include <string.h>
+
+#define LONGEST_FILE 16777216u
+#define MOST_FONTS 64u
+#define DEEPEST 100u
+#define LARGEST_SIZE 134217727u
+#define WIDTH_RECORD 16u
+#define PLACED_RECORD 20u
+#define TOO_SHORT_ANSWER 255u
+
+struct refusal {
+    uint32_t number; /* 0: none */
+    size_t place;
+};
+
+static struct refusal refuse(uint32_t number, size_t place)
+{
+    struct refusal refusal = { number, place };
+    return refusal;
+}
+
+static const struct refusal nothing_wrong = { 0, 0 };
+
+/* ---- numbers in bytes ---- */
+
+static inline uint32_t unsigned2(const uint8_t *b)
+{
+    return (uint32_t)b[0] << 8 | b[1];
+}
+
+static inline uint32_t unsigned3(const uint8_t *b)
+{
+    return (uint32_t)b[0] << 16 | (uint32_t)b[1] << 8 | b[2];
+}
+
+static inline uint32_t unsigned4(const uint8_t *b)
+{
+    uint32_t word;
+    memcpy(&word, b, 4);
+    return __builtin_bswap32(word);
+}
+
+static inline uint64_t unsigned8(const uint8_t *b)
+{
+    uint64_t word;
+    memcpy(&word, b, 8);
+    return __builtin_bswap64(word);
+}
+
+static inline uint32_t unsigned_in(const uint8_t *b, unsigned bytes)
+{
+    switch (bytes) {
+    case 1: return b[0];
+    case 2: return unsigned2(b);
+    case 3: return unsigned3(b);
+    default: return unsigned4(b);
+    }
+}
+
+static inline int32_t signed1(const uint8_t *b) { return (int8_t)b[0]; }
+static inline int32_t signed2(const uint8_t *b) { return (int16_t)unsigned2(b); }
+static inline int32_t signed3(const uint8_t *b) { return (int32_t)(unsigned3(b) << 8) >> 8; }
+static inline int32_t signed4(const uint8_t *b) { return (int32_t)unsigned4(b); }
+
+static inline void put4(uint8_t *b, uint32_t number)
+{
+    number = __builtin_bswap32(number);
+    memcpy(b, &number, 4);
+}
+
+/* ---- the file ---- */
+
+/* The length of each command, its opcode with it, without names, comments and specials. */
+#define FOUR_LENGTHS 2, 3, 4, 5
+static const uint8_t command_length[250] = {
+    [0 ... 127] = 1, [128] = FOUR_LENGTHS, [132] = 9, [133] = FOUR_LENGTHS, [137] = 9, [138] = 1, [139] = 45,
+    [140 ... 142] = 1, [143] = FOUR_LENGTHS, [147] = 1, FOUR_LENGTHS, [152] = 1, FOUR_LENGTHS, [157] = FOUR_LENGTHS,
+    [161] = 1, FOUR_LENGTHS, [166] = 1, FOUR_LENGTHS, [171 ... 234] = 1, [235] = FOUR_LENGTHS, [239] = FOUR_LENGTHS,
+    [243] = 16, 17, 18, 19, [247] = 15, [248] = 29, [249] = 6,
+};
+
+/* The same for commands that on a page change nothing but the place, else 0: with a font selected, and without. */
+static const uint8_t passed_with_font[256] = {
+    [0 ... 127] = 1, [128] = FOUR_LENGTHS, [132] = 9, [133] = FOUR_LENGTHS, [137] = 9, [138] = 1,
+    [143] = FOUR_LENGTHS, [147] = 1, FOUR_LENGTHS, [152] = 1, FOUR_LENGTHS, [157] = FOUR_LENGTHS,
+    [161] = 1, FOUR_LENGTHS, [166] = 1, FOUR_LENGTHS,
+};
+static const uint8_t passed_without[256] = {
+    [132] = 9, [137] = 9, [138] = 1,
+    [143] = FOUR_LENGTHS, [147] = 1, FOUR_LENGTHS, [152] = 1, FOUR_LENGTHS, [157] = FOUR_LENGTHS,
+    [161] = 1, FOUR_LENGTHS, [166] = 1, FOUR_LENGTHS,
+};
+
+enum stage { BEFORE_PAGES, ON_PAGE, BETWEEN_PAGES, AFTER_POST };
+
+struct volume {
+    uint32_t num, den, mag;
+    uint32_t pages, fonts, depth;
+    size_t post;
+    size_t wanted;            /* the place of the wanted page's bop */
+    uint32_t definition[256]; /* the place of a font's check sum in its definition before post, or 0 */
+};
+
+/* The length of the command at a place, opcode below 250, or 0 if it does not fit. */
+static inline size_t length_at(const uint8_t *file, size_t length, size_t at)
+{
+    uint8_t opcode = file[at];
+    size_t size = command_length[opcode], left = length - at;
+    if (left < size)
+        return 0;
+    if (opcode >= 239) {
+        if (opcode <= 242)
+            size += unsigned_in(file + at + 1, opcode - 238);
+        else if (opcode <= 246)
+            size += (size_t)file[at + size - 2] + file[at + size - 1];
+        else if (opcode == 247)
+            size += file[at + 14];
+        if (left < size)
+            return 0;
+    }
+    return size;
+}
+
+static inline int lawful_size(uint32_t size)
+{
+    return size - 1 < LARGEST_SIZE;
+}
+
+/* The whole file: 1 to 11, from the front. */
+static struct refusal scan(const uint8_t *file, size_t length, uint32_t wanted_page, struct volume *volume)
+{
+    if (length > LONGEST_FILE)
+        return refuse(1, 0);
+    if (length == 0)
+        return refuse(2, 0);
+    if (file[0] >= 250)
+        return refuse(3, 0);
+    size_t size = length_at(file, length, 0);
+    if (size == 0)
+        return refuse(2, 0);
+    if (file[0] != 247 || file[1] != 2)
+        return refuse(4, 0);
+    const uint32_t num = unsigned4(file + 2), den = unsigned4(file + 6), mag = unsigned4(file + 10);
+    if ((int32_t)num <= 0 || (int32_t)den <= 0 || (int32_t)mag <= 0)
+        return refuse(4, 0);
+
+    uint8_t defined_again[256] = { 0 };
+    memset(volume->definition, 0, sizeof volume->definition);
+    enum stage stage = BEFORE_PAGES;
+    uint32_t pages = 0, fonts = 0, fonts_again = 0, depth = 0, deepest = 0;
+    uint32_t bop = 0xffffffff; /* what the next bop or post must point to */
+    size_t post = 0, at = size;
+    const uint8_t *passed = passed_without;
+
+    for (;;) {
+        if (stage == ON_PAGE)
+            for (; at < length; at += size) {
+                /* runs of characters, by a branch that is foreseen well; the rest by the table */
+                if (passed == passed_with_font)
+                    while (file[at] < 128)
+                        if (++at == length)
+                            return refuse(2, at);
+                size = passed[file[at]];
+                if (size == 0 || size > length - at)
+                    break;
+            }
+        if (at >= length)
+            return refuse(2, at);
+        const uint8_t opcode = file[at];
+        if (opcode >= 250)
+            return refuse(3, at);
+        size = length_at(file, length, at);
+        if (size == 0)
+            return refuse(2, at);
+        const uint8_t *parameters = file + at + 1;
+
+        switch (opcode) {
+        case 138:
+            break;
+        case 139:
+            if (stage != BEFORE_PAGES && stage != BETWEEN_PAGES)
+                return refuse(5, at);
+            if (unsigned4(parameters + 40) != bop)
+                return refuse(9, at);
+            stage = ON_PAGE;
+            passed = passed_without;
+            bop = (uint32_t)at;
+            if (++pages == wanted_page)
+                volume->wanted = at;
+            break;
+        case 140:
+            if (stage != ON_PAGE)
+                return refuse(5, at);
+            if (depth > 0)
+                return refuse(6, at);
+            stage = BETWEEN_PAGES;
+            break;
+        case 141:
+            if (stage != ON_PAGE)
+                return refuse(5, at);
+            if (depth == DEEPEST)
+                return refuse(6, at);
+            if (++depth > deepest)
+                deepest = depth;
+            break;
+        case 142:
+            if (stage != ON_PAGE)
+                return refuse(5, at);
+            if (depth == 0)
+                return refuse(6, at);
+            depth--;
+            break;
+        case 171 ... 234:
+            if (stage != ON_PAGE)
+                return refuse(5, at);
+            if (volume->definition[opcode - 171] == 0)
+                return refuse(8, at);
+            passed = passed_with_font;
+            break;
+        case 235 ... 238: {
+            if (stage != ON_PAGE)
+                return refuse(5, at);
+            uint32_t number = unsigned_in(parameters, opcode - 234);
+            if (number > 255 || volume->definition[number] == 0)
+                return refuse(8, at);
+            passed = passed_with_font;
+            break;
+        }
+        case 239 ... 242:
+            if (stage != ON_PAGE)
+                return refuse(5, at);
+            break;
+        case 243 ... 246: {
+            uint32_t number = unsigned_in(parameters, opcode - 242);
+            const uint8_t *said = parameters + (opcode - 242);
+            if (number > 255 || !lawful_size(unsigned4(said + 4)) || !lawful_size(unsigned4(said + 8)))
+                return refuse(7, at);
+            uint32_t before = volume->definition[number];
+            if (stage == AFTER_POST) {
+                if (before == 0 || defined_again[number]
+                    || memcmp(file + before, said, 14u + said[12] + said[13]) != 0)
+                    return refuse(7, at);
+                defined_again[number] = 1;
+                fonts_again++;
+            } else {
+                if (before != 0 || fonts == MOST_FONTS)
+                    return refuse(7, at);
+                volume->definition[number] = (uint32_t)(said - file);
+                fonts++;
+            }
+            break;
+        }
+        case 247:
+            return refuse(5, at);
+        case 248:
+            if (stage != BETWEEN_PAGES)
+                return refuse(5, at);
+            if (unsigned4(parameters) != bop)
+                return refuse(9, at);
+            if (unsigned4(parameters + 4) != num || unsigned4(parameters + 8) != den
+                || unsigned4(parameters + 12) != mag || unsigned2(parameters + 24) != deepest
+                || unsigned2(parameters + 26) != pages)
+                return refuse(10, at);
+            stage = AFTER_POST;
+            post = at;
+            break;
+        case 249:
+            if (stage != AFTER_POST)
+                return refuse(5, at);
+            if (fonts_again != fonts)
+                return refuse(7, at);
+            if (unsigned4(parameters) != post)
+                return refuse(9, at);
+            if (parameters[4] != 2)
+                return refuse(10, at);
+            at += size;
+            size_t fillers = at;
+            while (fillers < length && file[fillers] == 223)
+                fillers++;
+            if (fillers < length || fillers - at < 4)
+                return refuse(11, fillers);
+            volume->num = num;
+            volume->den = den;
+            volume->mag = mag;
+            volume->pages = pages;
+            volume->fonts = fonts;
+            volume->depth = deepest;
+            volume->post = post;
+            return nothing_wrong;
+        default: /* characters, rules and moves; those that may stand there were passed */
+            if (stage != ON_PAGE)
+                return refuse(5, at);
+            return refuse(8, at);
+        }
+        at += size;
+    }
+}
+
+/* ---- the width table ---- */
+
+/* 14: the number of records, or the place of the first wrong one. */
+static struct refusal judge_table(const uint8_t *table, size_t length)
+{
+    const size_t whole = length - length % WIDTH_RECORD;
+    uint64_t last = 0; /* a lawful scale is not 0, so every lawful key is above it */
+    uint8_t last_code = 0;
+    for (size_t at = 0; at < whole; at += WIDTH_RECORD) {
+        const uint8_t *record = table + at;
+        const uint64_t key = unsigned8(record);
+        const uint8_t code = record[8];
+        if (key < last || (key == last && code <= last_code) || !lawful_size((uint32_t)key)
+            || record[9] != 0 || (uint8_t)(record[12] + 1) > 1)
+            return refuse(14, at);
+        last = key;
+        last_code = code;
+    }
+    if (whole != length)
+        return refuse(14, whole);
+    return nothing_wrong;
+}
+
+/* The index of the first record, from low to below high, whose key and code are not below these. */
+static size_t first_from(const uint8_t *table, size_t low, size_t high, uint64_t key, uint8_t code)
+{
+    while (low < high) {
+        size_t middle = low + (high - low) / 2;
+        const uint8_t *record = table + WIDTH_RECORD * middle;
+        uint64_t found = unsigned8(record);
+        if (found < key || (found == key && record[8] < code))
+            low = middle + 1;
+        else
+            high = middle;
+    }
+    return low;
+}
+
+/* ---- a page ---- */
+
+struct unit {
+    uint64_t p, q, twice_p, twice_q; /* K is p/q in lowest terms */
+    int64_t drift;
+};
+
+static uint64_t common_divisor(uint64_t a, uint64_t b)
+{
+    while (b != 0) {
+        uint64_t rest = a % b;
+        a = b;
+        b = rest;
+    }
+    return a;
+}
+
+/* 12 and 13. */
+static uint32_t judge_unit(const struct volume *volume, uint32_t resolution, struct unit *unit)
+{
+    if (resolution < 1 || resolution > 10000)
+        return 12;
+    uint64_t p = (uint64_t)volume->num * volume->mag, r = resolution;
+    uint64_t q = (uint64_t)volume->den * (1000u * 254000u);
+    uint64_t common = common_divisor(p, q);
+    p /= common;
+    q /= common;
+    common = common_divisor(r, q);
+    r /= common;
+    q /= common;
+    if (__builtin_mul_overflow(p, r, &p) || p > 1073741823 || 2 * p > q)
+        return 13;
+    unit->p = p;
+    unit->q = q;
+    unit->twice_p = 2 * p;
+    unit->twice_q = 2 * q;
+    unit->drift = resolution >= 200 ? 2 : resolution >= 100 ? 1 : 0;
+    return 0;
+}
+
+static inline int64_t rounded(const struct unit *unit, int64_t n)
+{
+    uint64_t size = n < 0 ? -(uint64_t)n : (uint64_t)n;
+    int64_t pixels = (int64_t)((unit->twice_p * size + unit->q) / unit->twice_q);
+    return n < 0 ? -pixels : pixels;
+}
+
+static inline int64_t rounded_up(const struct unit *unit, int64_t n)
+{
+    return (int64_t)((unit->p * (uint64_t)n + unit->q - 1) / unit->q);
+}
+
+struct metric {
+    int32_t width;
+    int16_t escapement;
+    uint8_t known; /* 0: not looked up yet */
+};
+enum { UNKNOWN, PRESENT, ABSENT };
+
+/* A font that is selected on the page: its records in the table, its scale taken apart, and the metrics found so far. */
+struct font {
+    int64_t scale, z, alpha;
+    unsigned beta_bits;
+    uint64_t key;
+    size_t first, past;
+    uint8_t number;
+    struct metric metric[256];
+};
+
+static void set_up_font(struct font *font, uint8_t number, const uint8_t *definition, const uint8_t *table, size_t records)
+{
+    font->number = number;
+    font->key = unsigned8(definition);
+    font->scale = unsigned4(definition + 4);
+    font->z = font->scale;
+    font->alpha = 16;
+    font->beta_bits = 4;
+    while (font->z >= 8388608) {
+        font->z >>= 1;
+        font->alpha <<= 1;
+        font->beta_bits--;
+    }
+    font->first = first_from(table, 0, records, font->key, 0);
+    size_t most = records - font->first < 256 ? records : font->first + 256;
+    font->past = first_from(table, font->first, most, font->key + 1, 0);
+    memset(font->metric, 0, sizeof font->metric);
+}
+
+static __attribute__((noinline)) void find_metric(struct font *font, uint8_t code, const uint8_t *table)
+{
+    struct metric *metric = &font->metric[code];
+    size_t index = first_from(table, font->first, font->past, font->key, code);
+    const uint8_t *record = table + WIDTH_RECORD * index;
+    if (index == font->past || record[8] != code) {
+        metric->known = ABSENT;
+        return;
+    }
+    int64_t width = (record[15] * font->z) >> 8;
+    width = (width + record[14] * font->z) >> 8;
+    width = (width + record[13] * font->z) >> font->beta_bits;
+    if (record[12] == 255)
+        width -= font->alpha * font->z;
+    metric->width = (int32_t)width;
+    metric->escapement = (int16_t)unsigned2(record + 10);
+    metric->known = PRESENT;
+}
+
+struct level {
+    int64_t h, v, w, x, y, z, hh, vv;
+};
+
+struct page {
+    const uint8_t *file, *table;
+    size_t records;
+    const struct volume *volume;
+    struct unit unit;
+    uint32_t number;
+    size_t start;
+    uint32_t fonts;
+    uint8_t slot[256]; /* one more than a font's index in font, or 0 */
+    struct font font[MOST_FONTS];
+};
+
+struct counts {
+    size_t records, missing, specials;
+};
+
+static inline int leaves(int64_t n)
+{
+    return (uint64_t)(n + 2147483647) > 4294967294u;
+}
+
+static inline int64_t held(int64_t pixels, int64_t exact, int64_t drift)
+{
+    if (pixels > exact + drift)
+        return exact + drift;
+    if (pixels < exact - drift)
+        return exact - drift;
+    return pixels;
+}
+
+static inline uint8_t *put_record(uint8_t *to, uint8_t kind, uint8_t font, uint32_t page, const struct level *now,
+                                  int64_t content, int64_t extent)
+{
+    put4(to, (uint32_t)kind << 24 | (uint32_t)font << 16 | page);
+    put4(to + 4, (uint32_t)now->hh);
+    put4(to + 8, (uint32_t)now->vv);
+    put4(to + 12, (uint32_t)content);
+    put4(to + 16, (uint32_t)extent);
+    return to + PLACED_RECORD;
+}
+
+/* A walk over the page's commands, which the scan found lawful. Without writing: 16, and the counts, from h and v alone. With
+   writing: the pixels and the records, of a page that stays in range. */
+static inline __attribute__((always_inline)) struct refusal walk(struct page *page, uint8_t *to, const int writing,
+                                                                 struct counts *counts)
+{
+    const struct unit unit = page->unit;
+    const uint8_t *file = page->file, *at = file + page->start + 45;
+    struct level now = { 0, 0, 0, 0, 0, 0, 0, 0 };
+    struct level stack[DEEPEST];
+    unsigned depth = 0;
+    struct font *font = NULL;
+    int64_t scale = 0;
+    size_t records = 0, missing = 0, specials = 0;
+
+    for (;;) {
+        const uint8_t *command = at, *parameters = at + 1;
+        const uint8_t opcode = *command;
+        int32_t code, n;
+        switch (opcode) {
+        case 0 ... 127: code = opcode; at += 1; goto set;
+        case 128: code = parameters[0]; at += 2; goto set;
+        case 129: code = (int32_t)unsigned2(parameters); at += 3; goto set;
+        case 130: code = (int32_t)unsigned3(parameters); at += 4; goto set;
+        case 131: code = signed4(parameters); at += 5; goto set;
+        case 132: case 137: {
+            int32_t height = signed4(parameters), width = signed4(parameters + 4);
+            if (height > 0 && width > 0) {
+                if (writing)
+                    to = put_record(to, 2, 0, page->number, &now, rounded_up(&unit, height), rounded_up(&unit, width));
+                else
+                    records++;
+            }
+            at += 9;
+            if (opcode == 137)
+                continue;
+            n = width;
+            goto sideways;
+        }
+        case 133: code = parameters[0]; at += 2; goto put;
+        case 134: code = (int32_t)unsigned2(parameters); at += 3; goto put;
+        case 135: code = (int32_t)unsigned3(parameters); at += 4; goto put;
+        case 136: code = signed4(parameters); at += 5; goto put;
+        case 138: at += 1; continue;
+        case 140:
+            counts->records = records;
+            counts->missing = missing;
+            counts->specials = specials;
+            return nothing_wrong;
+        case 141: stack[depth++] = now; at += 1; continue;
+        case 142: now = stack[--depth]; at += 1; continue;
+        case 143: n = signed1(parameters); at += 2; goto sideways;
+        case 144: n = signed2(parameters); at += 3; goto sideways;
+        case 145: n = signed3(parameters); at += 4; goto sideways;
+        case 146: n = signed4(parameters); at += 5; goto sideways;
+        case 147: n = (int32_t)now.w; at += 1; goto sideways;
+        case 148: now.w = n = signed1(parameters); at += 2; goto sideways;
+        case 149: now.w = n = signed2(parameters); at += 3; goto sideways;
+        case 150: now.w = n = signed3(parameters); at += 4; goto sideways;
+        case 151: now.w = n = signed4(parameters); at += 5; goto sideways;
+        case 152: n = (int32_t)now.x; at += 1; goto sideways;
+        case 153: now.x = n = signed1(parameters); at += 2; goto sideways;
+        case 154: now.x = n = signed2(parameters); at += 3; goto sideways;
+        case 155: now.x = n = signed3(parameters); at += 4; goto sideways;
+        case 156: now.x = n = signed4(parameters); at += 5; goto sideways;
+        case 157: n = signed1(parameters); at += 2; goto down;
+        case 158: n = signed2(parameters); at += 3; goto down;
+        case 159: n = signed3(parameters); at += 4; goto down;
+        case 160: n = signed4(parameters); at += 5; goto down;
+        case 161: n = (int32_t)now.y; at += 1; goto down;
+        case 162: now.y = n = signed1(parameters); at += 2; goto down;
+        case 163: now.y = n = signed2(parameters); at += 3; goto down;
+        case 164: now.y = n = signed3(parameters); at += 4; goto down;
+        case 165: now.y = n = signed4(parameters); at += 5; goto down;
+        case 166: n = (int32_t)now.z; at += 1; goto down;
+        case 167: now.z = n = signed1(parameters); at += 2; goto down;
+        case 168: now.z = n = signed2(parameters); at += 3; goto down;
+        case 169: now.z = n = signed3(parameters); at += 4; goto down;
+        case 170: now.z = n = signed4(parameters); at += 5; goto down;
+        case 171 ... 234: code = opcode - 171; at += 1; goto select;
+        case 235 ... 238: code = (int32_t)unsigned_in(parameters, opcode - 234u); at += opcode - 233; goto select;
+        case 239 ... 242:
+            specials++;
+            at += opcode - 237 + (size_t)unsigned_in(parameters, opcode - 238u);
+            continue;
+        default: { /* a definition: bop, pre, post and post_post stand on no page */
+            const uint8_t *lengths = parameters + (opcode - 242) + 12;
+            at = lengths + 2 + lengths[0] + lengths[1];
+            continue;
+        }
+        }
+
+    set: {
+            struct metric *metric = &font->metric[(uint8_t)code];
+            if (metric->known != PRESENT) {
+                if (metric->known == UNKNOWN)
+                    find_metric(font, (uint8_t)code, page->table);
+                if (metric->known == ABSENT) {
+                    missing++;
+                    continue;
+                }
+            }
+            now.h += metric->width;
+            if (writing) {
+                to = put_record(to, 1, font->number, page->number, &now, code, metric->escapement);
+                now.hh = held(now.hh + metric->escapement, rounded(&unit, now.h), unit.drift);
+            } else {
+                records++;
+                if (leaves(now.h))
+                    return refuse(16, (size_t)(command - file));
+            }
+            continue;
+        }
+
+    put: {
+            struct metric *metric = &font->metric[(uint8_t)code];
+            if (metric->known == UNKNOWN)
+                find_metric(font, (uint8_t)code, page->table);
+            if (metric->known == ABSENT) {
+                missing++;
+                continue;
+            }
+            if (writing)
+                to = put_record(to, 1, font->number, page->number, &now, code, metric->escapement);
+            else
+                records++;
+            continue;
+        }
+
+    sideways:
+        now.h += n;
+        if (writing) {
+            int64_t far = n;
+            int near = n >= 0 ? 5 * far < scale : -10 * far < 9 * scale;
+            int64_t exact = rounded(&unit, now.h);
+            now.hh = near ? held(now.hh + rounded(&unit, n), exact, unit.drift) : exact;
+        } else if (leaves(now.h))
+            return refuse(16, (size_t)(command - file));
+        continue;
+
+    down:
+        now.v += n;
+        if (writing) {
+            int64_t far = n < 0 ? -(int64_t)n : n;
+            int64_t exact = rounded(&unit, now.v);
+            now.vv = 5 * far < 4 * scale ? held(now.vv + rounded(&unit, n), exact, unit.drift) : exact;
+        } else if (leaves(now.v))
+            return refuse(16, (size_t)(command - file));
+        continue;
+
+    select:
+        if (page->slot[code] == 0) {
+            set_up_font(&page->font[page->fonts], (uint8_t)code, file + page->volume->definition[code], page->table,
+                        page->records);
+            page->slot[code] = (uint8_t)++page->fonts;
+        }
+        font = &page->font[page->slot[code] - 1];
+        scale = font->scale;
+    }
+}
+
+static struct refusal place(const uint8_t *file, size_t file_length, const uint8_t *widths, size_t widths_length,
+                            uint32_t resolution, uint32_t number, uint8_t *area, size_t area_length, struct counts *counts)
+{
+    struct volume volume;
+    struct refusal refusal = scan(file, file_length, number, &volume);
+    if (refusal.number != 0)
+        return refusal;
+    struct page page;
+    uint32_t wrong = judge_unit(&volume, resolution, &page.unit);
+    if (wrong != 0)
+        return refuse(wrong, 0);
+    refusal = judge_table(widths, widths_length);
+    if (refusal.number != 0)
+        return refusal;
+    if (number < 1 || number > volume.pages)
+        return refuse(15, 0);
+    page.file = file;
+    page.table = widths;
+    page.records = widths_length / WIDTH_RECORD;
+    page.volume = &volume;
+    page.number = number;
+    page.start = volume.wanted;
+    page.fonts = 0;
+    memset(page.slot, 0, sizeof page.slot);
+    refusal = walk(&page, NULL, 0, counts);
+    if (refusal.number != 0)
+        return refusal;
+    if (area_length < PLACED_RECORD * counts->records)
+        return refuse(17, 0);
+    struct counts again;
+    walk(&page, area, 1, &again);
+    return nothing_wrong;
+}
+
+/* ---- the entries ---- */
+
+static uint32_t refused(struct refusal refusal, int64_t *answer)
+{
+    answer[0] = (int64_t)refusal.place;
+    return refusal.number;
+}
+
+uint32_t plain_check_file(const uint8_t *file, size_t file_length, int64_t *answer, size_t answer_length)
+{
+    if (answer_length < 4)
+        return TOO_SHORT_ANSWER;
+    struct volume volume;
+    struct refusal refusal = scan(file, file_length, 0, &volume);
+    if (refusal.number != 0)
+        return refused(refusal, answer);
+    answer[0] = volume.pages;
+    answer[1] = volume.fonts;
+    answer[2] = volume.depth;
+    answer[3] = (int64_t)volume.post;
+    return 0;
+}
+
+uint32_t plain_place_page(const uint8_t *file, size_t file_length, const uint8_t *widths, size_t widths_length,
+                          uint32_t resolution, uint32_t page, uint8_t *area, size_t area_length,
+                          int64_t *answer, size_t answer_length)
+{
+    if (answer_length < 3)
+        return TOO_SHORT_ANSWER;
+    struct counts counts;
+    struct refusal refusal = place(file, file_length, widths, widths_length, resolution, page, area, area_length, &counts);
+    if (refusal.number != 0)
+        return refused(refusal, answer);
+    answer[0] = (int64_t)counts.records;
+    answer[1] = (int64_t)counts.missing;
+    answer[2] = (int64_t)counts.specials;
+    return 0;
+}
+
+uint32_t plain_check_table(const uint8_t *table, size_t table_length, int64_t *answer, size_t answer_length)
+{
+    if (answer_length < 1)
+        return TOO_SHORT_ANSWER;
+    struct refusal refusal = judge_table(table, table_length);
+    if (refusal.number != 0)
+        return refused(refusal, answer);
+    answer[0] = (int64_t)(table_length / WIDTH_RECORD);
+    return 0;
+}
+
+uint32_t plain_look_up(const uint8_t *table, size_t table_length, uint32_t checksum, uint32_t scale, int32_t code,
+                       int64_t *answer, size_t answer_length)
+{
+    if (answer_length < 6)
+        return TOO_SHORT_ANSWER;
+    struct refusal refusal = judge_table(table, table_length);
+    if (refusal.number != 0)
+        return refused(refusal, answer);
+    const size_t records = table_length / WIDTH_RECORD;
+    const uint64_t key = (uint64_t)checksum << 32 | scale;
+    size_t index = first_from(table, 0, records, key, (uint8_t)code);
+    const uint8_t *record = table + WIDTH_RECORD * index;
+    if (index == records || unsigned8(record) != key || record[8] != (uint8_t)code) {
+        answer[0] = 0;
+        return 0;
+    }
+    answer[0] = 1;
+    answer[1] = (int16_t)unsigned2(record + 10);
+    for (int i = 0; i < 4; i++)
+        answer[2 + i] = record[12 + i];
+    return 0;
+}

@@ -1,0 +1,61 @@
+"""The questions of tests/compare as jobs: made-up files, each group for one notion, published files, and damaged ones."""
+
+import contextlib
+import random
+import sys
+from pathlib import Path
+
+TESTS = Path(__file__).resolve().parent.parent / "tests"
+sys.path.insert(0, str(TESTS / "compare"))
+import damaged  # noqa: E402
+import made_up  # noqa: E402
+import published  # noqa: E402
+
+from readers import ENTRIES, job_of  # noqa: E402
+
+
+class Group:
+    """What tests/compare fills: files by a name, and lines that name them."""
+
+    def __init__(self):
+        self.lines, self.files, self.names = [], {}, {}
+
+    def keep(self, data):
+        if data not in self.names:
+            self.names[data] = b"%d" % len(self.names)
+            self.files[self.names[data]] = data
+        return self.names[data]
+
+    def ask(self, *lines):
+        self.lines += lines
+
+    def jobs(self, name):
+        """Those lines that an entry of the bench answers."""
+        for line in self.lines:
+            words = line.split(b" ")
+            if words[0].decode() in ENTRIES:
+                yield job_of([words[0].decode(), *words[1:]], self.files.get, name, line.decode())
+
+
+class Gathered:
+    """Jobs, handed on group by group."""
+
+    def __init__(self, take):
+        self.take = take
+
+    @contextlib.contextmanager
+    def gather(self, name):
+        group = Group()
+        yield group
+        for job in group.jobs(name):
+            self.take(job)
+
+
+def ask_all(take, seed, damaged_files):
+    """Every question of the short form, with that many damaged files."""
+    gather = Gathered(take).gather
+    paths = sorted((TESTS / "published").glob("*.dvi"))
+    published.groups(gather, random.Random(f"{seed} published"), paths)
+    made_up.groups(gather, random.Random(f"{seed} made-up"), False)
+    small = [path.read_bytes() for path in paths if path.stat().st_size <= 2000]
+    damaged.groups(gather, random.Random(f"{seed} damaged"), small, damaged_files, False)

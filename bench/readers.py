@@ -1,0 +1,94 @@
+"""The proved reader and plain C, asked alike: one shared object (bench/build) with both behind the door of bench/time.c."""
+
+import ctypes
+from pathlib import Path
+
+PROVED, PLAIN = 0, 1
+ENTRIES = ("check", "place", "table", "look")
+ANSWER_LENGTHS = {"check": 4, "place": 3, "table": 1, "look": 6}
+RECORD = 20
+
+
+class Question(ctypes.Structure):
+    """The fields of `struct question`."""
+
+    _fields_ = [
+        ("entry", ctypes.c_uint64),
+        ("file", ctypes.c_char_p),
+        ("file_length", ctypes.c_size_t),
+        ("table", ctypes.c_char_p),
+        ("table_length", ctypes.c_size_t),
+        ("area", ctypes.c_void_p),
+        ("area_length", ctypes.c_size_t),
+        ("resolution", ctypes.c_uint32),
+        ("page", ctypes.c_uint32),
+        ("checksum", ctypes.c_uint32),
+        ("scale", ctypes.c_uint32),
+        ("code", ctypes.c_int32),
+    ]
+
+
+class Job:
+    """A question to one entry: where it comes from, its files, and its numbers."""
+
+    def __init__(self, entry, group, name, size=0, file=b"", table=b"", numbers=(), area_length=None):
+        self.entry, self.group, self.name, self.size = entry, group, name, size
+        self.file, self.table = file, table
+        self.resolution = self.page = self.checksum = self.scale = self.code = 0
+        if entry == "place":
+            self.resolution, self.page = numbers
+        elif entry == "look":
+            self.checksum, self.scale, self.code = numbers
+        self.area_length = self.enough() if area_length is None else area_length
+
+    def enough(self):
+        """An area that any page of the file fits into: a record takes a command, and a command a byte."""
+        return RECORD * len(self.file) if self.entry == "place" else 0
+
+
+def job_of(words, files, group, name, size=0):
+    """ENTRY, its files, its numbers; for place the length of the area may follow."""
+    entry, *words = words
+    file = files(words.pop(0)) if entry in ("check", "place") else b""
+    table = files(words.pop(0)) if entry != "check" else b""
+    numbers = [int(word) for word in words]
+    area_length = numbers.pop() if entry == "place" and len(numbers) == 3 else None
+    return Job(entry, group, name, size, file, table, numbers, area_length)
+
+
+def works_of(manifest):
+    """A line a work: ENTRY GROUP NAME SIZE, then the entry's files, in the manifest's folder, and numbers. A work is one job, or several
+    alike: the first file may be a list with commas between."""
+    folder, known = Path(manifest).parent, {}
+
+    def files(name):
+        if name not in known:
+            known[name] = (folder / name).read_bytes()
+        return known[name]
+
+    for line in Path(manifest).read_text().splitlines():
+        entry, group, name, size, first, *rest = line.split()
+        yield [job_of([entry, one, *rest], files, group, name, int(size)) for one in first.split(",")]
+
+
+class Readers:
+    def __init__(self, shared_object):
+        self.library = ctypes.CDLL(str(shared_object))
+        self.library.ask.restype = ctypes.c_uint32
+        self.library.ask.argtypes = [ctypes.c_uint32, ctypes.POINTER(Question), ctypes.c_void_p, ctypes.c_size_t]
+        self.library.seconds_of.restype = ctypes.c_double
+        self.library.seconds_of.argtypes = [ctypes.c_uint32, ctypes.POINTER(Question), ctypes.c_uint64, ctypes.c_uint64]
+
+    @staticmethod
+    def question(job, area):
+        return Question(
+            ENTRIES.index(job.entry), job.file, len(job.file), job.table, len(job.table), area, job.area_length,
+            job.resolution, job.page, job.checksum, job.scale, job.code,
+        )  # fmt: skip
+
+    def ask(self, reader, question, answer, answer_length):
+        return self.library.ask(reader, question, answer, answer_length)
+
+    def seconds_of(self, reader, questions, calls):
+        """The processor time of so many calls, the questions of an array in turn."""
+        return self.library.seconds_of(reader, questions, len(questions), calls)

@@ -1,0 +1,32 @@
+-- Any two outcomes that the contract of an entry of C allows for the same inputs are equal: the code, every number of the array, every byte of the area.
+-- Stated of the contracts themselves. Assumes nothing.
+use mathlib.Core.Path.{_≡_, sym, _∙_}
+use Prim.Native.Nat.{ℕ}
+use contract.Lifetimes.{Lfts}
+use denote.Ref.{now}
+use Rattle.clib.proofs.hurlyburn_check_file.Reads as check-file
+use Rattle.clib.proofs.hurlyburn_place_page.Reads as place-page
+use Rattle.clib.proofs.hurlyburn_check_table.Reads as check-table
+use Rattle.clib.proofs.hurlyburn_look_up.Reads as look-up
+use Rattle.clib.proofs.hurlyburn_font_name_place.Reads as font-name-place
+
+pub check-file-outcomes : (κs : Lfts 2) → (a : _) → (r s : ℕ) → (x y : _) → check-file.Post κs a r x → check-file.Post κs a s y
+    → (r ≡ s) × (now (x .1 .0) ≡ now (y .1 .0))
+check-file-outcomes κs a r s x y p q = (p .0 ∙ sym (q .0), p .1 ∙ sym (q .1))
+
+-- the array, then the area
+pub place-page-outcomes : (κs : Lfts 4) → (a : _) → (r s : ℕ) → (x y : _) → place-page.Post κs a r x → place-page.Post κs a s y
+    → (r ≡ s) × (now (x .1 .1 .1 .1 .1 .0) ≡ now (y .1 .1 .1 .1 .1 .0)) × (now (x .1 .1 .1 .1 .0) ≡ now (y .1 .1 .1 .1 .0))
+place-page-outcomes κs a r s x y p q = (p .0 ∙ sym (q .0), p .1 .0 ∙ sym (q .1 .0), p .1 .1 ∙ sym (q .1 .1))
+
+pub check-table-outcomes : (κs : Lfts 2) → (a : _) → (r s : ℕ) → (x y : _) → check-table.Post κs a r x → check-table.Post κs a s y
+    → (r ≡ s) × (now (x .1 .0) ≡ now (y .1 .0))
+check-table-outcomes κs a r s x y p q = (p .0 ∙ sym (q .0), p .1 ∙ sym (q .1))
+
+pub look-up-outcomes : (κs : Lfts 2) → (a : _) → (r s : ℕ) → (x y : _) → look-up.Post κs a r x → look-up.Post κs a s y
+    → (r ≡ s) × (now (x .1 .1 .1 .1 .0) ≡ now (y .1 .1 .1 .1 .0))
+look-up-outcomes κs a r s x y p q = (p .0 ∙ sym (q .0), p .1 ∙ sym (q .1))
+
+pub font-name-place-outcomes : (κs : Lfts 2) → (a : _) → (r s : ℕ) → (x y : _) → font-name-place.Post κs a r x → font-name-place.Post κs a s y
+    → (r ≡ s) × (now (x .1 .1 .0) ≡ now (y .1 .1 .0))
+font-name-place-outcomes κs a r s x y p q = (p .0 ∙ sym (q .0), p .1 ∙ sym (q .1))

@@ -1,0 +1,65 @@
+-- What a call leaves in the caller's array of numbers, and the code that it returns: one rule for every entry of C. Assumes nothing.
+use Prim.Native.Nat.{ℕ, _^_}
+use mathlib.Core.Bool.{Bool, cond}
+use mathlib.Core.List.{List, [], _∷_, _++_}
+use lib.Dec.{ltb}
+use lib.ListN.{length, drop}
+use Rattle.refusals.specs.Answer.{Answer, refused, given}
+use Rattle.numbers.specs.Signs.{toTwos}
+use Rattle.widths.specs.LookUp.{LookUp, found, absent}
+use Rattle.volume.specs.declared.Summary.{Summary}
+use Rattle.volume.specs.declared.Part.{Part}
+use Rattle.page.specs.declared.Counts.{Counts}
+
+-- ---- the rule
+
+-- what happens where the array has so many numbers at least, and what where it has not: then nothing is judged
+abbrev pub ifRoom : {B : Type 0} → ℕ → List ℕ → B → B → B
+ifRoom least array room short = cond (ltb (length array) least) short room
+
+-- 0 for a result, the number of a refusal
+abbrev pub numberOf : {A : Type 0} → Answer A → ℕ
+numberOf (refused number place) = number
+numberOf (given a) = 0
+
+-- what is returned: 255 where the array is too short
+abbrev pub code : {A : Type 0} → ℕ → List ℕ → Answer A → ℕ
+code least array answer = ifRoom least array (numberOf answer) 255
+
+-- the numbers that an answer has: a result's own, or the place of a refusal
+abbrev pub numbersOf : {A : Type 0} → (A → List ℕ) → Answer A → List ℕ
+numbersOf result (refused number place) = place ∷ []
+numbersOf result (given a) = result a
+
+-- numbers in front of what an array holds behind them
+abbrev pub inFront : List ℕ → List ℕ → List ℕ
+inFront numbers array = numbers ++ drop (length numbers) array
+
+-- the array after the call: the answer's numbers in front of its own; one that is too short as it was
+abbrev pub arrayAfter : {A : Type 0} → ℕ → (A → List ℕ) → List ℕ → Answer A → List ℕ
+arrayAfter least result array answer = ifRoom least array (inFront (numbersOf result answer) array) array
+
+-- ---- each entry's result as numbers, 64-bit words
+
+-- "the number of pages, the number of fonts, the greatest stack depth and the place of post"
+abbrev pub fileNumbers : Summary → List ℕ
+fileNumbers s = s .pages ∷ s .fonts ∷ s .depth ∷ s .post ∷ []
+
+-- "the number of records written, of missing characters and of specials on that page"
+abbrev pub placedNumbers : Counts → List ℕ
+placedNumbers c = c .records ∷ c .missing ∷ c .specials ∷ []
+
+-- how many records a table has
+abbrev pub tableNumbers : ℕ → List ℕ
+tableNumbers records = records ∷ []
+
+-- 1, "escapement, fix word", the escapement in two's complement of 64 bits; or 0 for "a result named absent"
+abbrev pub lookedNumbers : LookUp → List ℕ
+lookedNumbers (found m) =
+    let w = m .width in
+    1 ∷ toTwos (2 ^ 64) (m .escapement) ∷ w .b0 ∷ w .b1 ∷ w .b2 ∷ w .b3 ∷ []
+lookedNumbers absent = 0 ∷ []
+
+-- the part of the file that holds a name: its first byte, and the place past its last
+abbrev pub nameNumbers : Part → List ℕ
+nameNumbers part = part .start ∷ part .end ∷ []

@@ -1,0 +1,72 @@
+/* example FILE R PAGE: checks a DVI file through the C interface and prints what is on one page, at R dots per inch, with an empty
+   width table: its rules alone, since every character is missing then. A real caller lends a width table of its fonts.
+
+       cc -I include include/example.c target/staticlib/libclib.a -o example */
+#include "hurlyburn.h"
+#include <stdio.h>
+#include <stdlib.h>
+
+/* A whole file, in memory that the caller frees; NULL if it cannot be read. */
+static uint8_t *contents(const char *name, size_t *length)
+{
+    FILE *file = fopen(name, "rb");
+    if (!file)
+        return NULL;
+    long end = fseek(file, 0, SEEK_END) ? -1 : ftell(file);
+    uint8_t *bytes = end < 0 || fseek(file, 0, SEEK_SET) ? NULL : malloc((size_t)end + 1);
+    *length = bytes ? fread(bytes, 1, (size_t)end, file) : 0;
+    fclose(file);
+    return bytes;
+}
+
+/* Numbers in a record have their greatest byte first. */
+static int32_t number(const uint8_t *bytes)
+{
+    return (int32_t)((uint32_t)bytes[0] << 24 | (uint32_t)bytes[1] << 16 | (uint32_t)bytes[2] << 8 | bytes[3]);
+}
+
+static int refused(uint32_t code, const int64_t *answer)
+{
+    printf("refused %u at %lld\n", code, (long long)answer[0]);
+    return 1;
+}
+
+int main(int count, char **words)
+{
+    size_t length;
+    uint8_t *file = count == 4 ? contents(words[1], &length) : NULL;
+    if (!file) {
+        fprintf(stderr, "use: example FILE R PAGE\n");
+        return 2;
+    }
+
+    int64_t answer[HURLYBURN_CHECK_NUMBERS];
+    uint32_t code = hurlyburn_check_file(file, length, answer, HURLYBURN_CHECK_NUMBERS);
+    if (code != HURLYBURN_GIVEN)
+        return refused(code, answer);
+    printf("%lld pages, %lld fonts, depth %lld, post at %lld\n", (long long)answer[0], (long long)answer[1], (long long)answer[2],
+           (long long)answer[3]);
+
+    /* The area is doubled until the page fits: a refusal writes nothing, so the same call can be made again. */
+    uint32_t resolution = (uint32_t)strtoul(words[2], NULL, 10), page = (uint32_t)strtoul(words[3], NULL, 10);
+    size_t room = 64 * HURLYBURN_RECORD_BYTES;
+    uint8_t *area = malloc(room);
+    while (area && (code = hurlyburn_place_page(file, length, NULL, 0, resolution, page, area, room, answer,
+                                                HURLYBURN_PLACE_NUMBERS)) == 17) {
+        free(area);
+        area = malloc(room *= 2);
+    }
+    if (!area)
+        return 2;
+    if (code != HURLYBURN_GIVEN)
+        return refused(code, answer);
+    for (int64_t i = 0; i < answer[0]; i++) {
+        const uint8_t *record = area + HURLYBURN_RECORD_BYTES * i;
+        printf("%s at %d %d: %d %d\n", record[0] == 1 ? "character" : "rule", number(record + 4), number(record + 8),
+               number(record + 12), number(record + 16));
+    }
+    printf("%lld records, %lld missing characters, %lld specials\n", (long long)answer[0], (long long)answer[1], (long long)answer[2]);
+    free(area);
+    free(file);
+    return 0;
+}

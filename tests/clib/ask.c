@@ -1,0 +1,235 @@
+/* Answers the desk's lines for check, place, table, look and name (README.md at the top) through the C interface, for files of up to
+   17 MiB and areas of up to 32 MiB. What a call must leave alone is looked at after each: where it did not, the answer is `guard broken`,
+   which no other program gives. */
+#include "hurlyburn.h"
+#include "lent.h"
+#include <stdio.h>
+#include <stdlib.h>
+#include <string.h>
+
+#define LONGEST_AREA (32u << 20)
+#define MOST_WORDS 7
+
+static void no_input(void)
+{
+    puts("no input");
+}
+
+/* ---- words */
+
+static size_t split(char *line, char *words[MOST_WORDS])
+{
+    size_t count = 0;
+    while (count < MOST_WORDS) {
+        words[count++] = line;
+        char *space = strchr(line, ' ');
+        if (!space)
+            break;
+        *space = 0;
+        line = space + 1;
+    }
+    return count;
+}
+
+/* Decimal digits alone, one at least. */
+static int read_number(const char *word, uint64_t greatest, uint64_t *number)
+{
+    uint64_t value = 0;
+    if (!*word)
+        return 0;
+    for (; *word; word++) {
+        if (*word < '0' || *word > '9')
+            return 0;
+        value = value * 10 + (uint64_t)(*word - '0');
+        if (value > greatest)
+            return 0;
+    }
+    *number = value;
+    return 1;
+}
+
+static int read_unsigned(const char *word, uint32_t *number)
+{
+    uint64_t value;
+    if (!read_number(word, UINT32_MAX, &value))
+        return 0;
+    *number = (uint32_t)value;
+    return 1;
+}
+
+static int read_signed(const char *word, int32_t *number)
+{
+    uint64_t value;
+    int negative = *word == '-';
+    if (!read_number(word + negative, negative ? 2147483648u : 2147483647u, &value))
+        return 0;
+    *number = (int32_t)(negative ? -(int64_t)value : (int64_t)value);
+    return 1;
+}
+
+/* ---- answers */
+
+/* Whether it is a result to be printed; a refusal, and what must not be, is printed here. `count` numbers are a result's. */
+static int is_result(uint32_t code, const struct numbers *answer, size_t count)
+{
+    if (!only_front_numbers_written(answer, code == 0 ? count : 1))
+        puts("guard broken");
+    else if (code == 0)
+        return 1;
+    else if (code == HURLYBURN_ARRAY_TOO_SHORT)
+        puts("array too short");
+    else
+        printf("refused %u at %lld\n", code, (long long)answer->number[0]);
+    return 0;
+}
+
+static void check(const char *name)
+{
+    struct input file;
+    struct numbers answer;
+    if (!lend_file(name, &file)) {
+        no_input();
+        return;
+    }
+    lend_numbers(&answer);
+    uint32_t code = hurlyburn_check_file(file.bytes, file.length, answer.number, HURLYBURN_CHECK_NUMBERS);
+    if (is_result(code, &answer, HURLYBURN_CHECK_NUMBERS))
+        printf("accepted %lld %lld %lld %lld\n", (long long)answer.number[0], (long long)answer.number[1],
+               (long long)answer.number[2], (long long)answer.number[3]);
+    take_back(&file);
+}
+
+static void table(const char *name)
+{
+    struct input widths;
+    struct numbers answer;
+    if (!lend_file(name, &widths)) {
+        no_input();
+        return;
+    }
+    lend_numbers(&answer);
+    uint32_t code = hurlyburn_check_table(widths.bytes, widths.length, answer.number, HURLYBURN_TABLE_NUMBERS);
+    if (is_result(code, &answer, HURLYBURN_TABLE_NUMBERS))
+        printf("right %lld\n", (long long)answer.number[0]);
+    take_back(&widths);
+}
+
+static void look(char *words[])
+{
+    struct input widths;
+    struct numbers answer;
+    uint32_t checksum, scale;
+    int32_t code;
+    if (!read_unsigned(words[2], &checksum) || !read_unsigned(words[3], &scale) || !read_signed(words[4], &code) ||
+        !lend_file(words[1], &widths)) {
+        no_input();
+        return;
+    }
+    lend_numbers(&answer);
+    uint32_t result =
+        hurlyburn_look_up(widths.bytes, widths.length, checksum, scale, code, answer.number, HURLYBURN_LOOK_NUMBERS);
+    int absent = answer.number[0] == 0;
+    if (is_result(result, &answer, absent ? 1 : HURLYBURN_LOOK_NUMBERS)) {
+        if (absent)
+            puts("absent");
+        else
+            printf("found %lld %lld %lld %lld %lld\n", (long long)answer.number[1], (long long)answer.number[2],
+                   (long long)answer.number[3], (long long)answer.number[4], (long long)answer.number[5]);
+    }
+    take_back(&widths);
+}
+
+static void name(char *words[])
+{
+    struct input file;
+    struct numbers answer;
+    int32_t font;
+    if (!read_signed(words[2], &font) || !lend_file(words[1], &file)) {
+        no_input();
+        return;
+    }
+    lend_numbers(&answer);
+    uint32_t code = hurlyburn_font_name_place(file.bytes, file.length, font, answer.number, HURLYBURN_NAME_NUMBERS);
+    if (is_result(code, &answer, HURLYBURN_NAME_NUMBERS))
+        printf("name %lld %lld\n", (long long)answer.number[0], (long long)answer.number[1]);
+    take_back(&file);
+}
+
+static int four_bytes(const uint8_t *bytes)
+{
+    return (int32_t)((uint32_t)bytes[0] << 24 | (uint32_t)bytes[1] << 16 | (uint32_t)bytes[2] << 8 | bytes[3]);
+}
+
+static void print_record(const uint8_t *r)
+{
+    printf("%s %d %d %d %d %d %d\n", r[0] == 1 ? "c" : r[0] == 2 ? "r" : "?", r[2] << 8 | r[3], r[1], four_bytes(r + 4),
+           four_bytes(r + 8), four_bytes(r + 12), four_bytes(r + 16));
+}
+
+static void placed(const struct input *file, const struct input *widths, uint32_t resolution, uint32_t page, size_t room)
+{
+    struct output area;
+    struct numbers answer;
+    lend_output(room, &area);
+    lend_numbers(&answer);
+    uint32_t code = hurlyburn_place_page(file->bytes, file->length, widths->bytes, widths->length, resolution, page, area.bytes,
+                                         area.length, answer.number, HURLYBURN_PLACE_NUMBERS);
+    size_t records = code == 0 ? (size_t)answer.number[0] : 0;
+    if (!only_front_written(&area, HURLYBURN_RECORD_BYTES * records))
+        puts("guard broken");
+    else if (is_result(code, &answer, HURLYBURN_PLACE_NUMBERS)) {
+        for (size_t i = 0; i < records; i++)
+            print_record(area.bytes + HURLYBURN_RECORD_BYTES * i);
+        printf("end %lld %lld %lld\n", (long long)answer.number[0], (long long)answer.number[1], (long long)answer.number[2]);
+    }
+    take_output_back(&area);
+}
+
+static void place(char *words[])
+{
+    struct input file, widths;
+    uint32_t resolution, page;
+    uint64_t room;
+    if (!read_unsigned(words[3], &resolution) || !read_unsigned(words[4], &page) || !read_number(words[5], LONGEST_AREA, &room) ||
+        !lend_file(words[1], &file)) {
+        no_input();
+        return;
+    }
+    if (lend_file(words[2], &widths)) {
+        placed(&file, &widths, resolution, page, (size_t)room);
+        take_back(&widths);
+    } else
+        no_input();
+    take_back(&file);
+}
+
+static void answer_line(char *line)
+{
+    char *words[MOST_WORDS];
+    size_t count = split(line, words);
+    if (count == 2 && !strcmp(words[0], "check"))
+        check(words[1]);
+    else if (count == 2 && !strcmp(words[0], "table"))
+        table(words[1]);
+    else if (count == 5 && !strcmp(words[0], "look"))
+        look(words);
+    else if (count == 3 && !strcmp(words[0], "name"))
+        name(words);
+    else if (count == 6 && !strcmp(words[0], "place"))
+        place(words);
+    else
+        no_input();
+}
+
+int main(void)
+{
+    char *line = NULL;
+    size_t room = 0;
+    for (long length; (length = getline(&line, &room, stdin)) > 0;) {
+        if (line[length - 1] == '\n')
+            line[length - 1] = 0;
+        answer_line(line);
+        fflush(stdout);
+    }
+    return 0;
+}

@@ -1,0 +1,11 @@
+/* The kit brings its C library without headers. Of this one, what the programs here use, as x86-64 Linux has it. */
+#ifndef STDINT_H
+#define STDINT_H
+typedef __UINT8_TYPE__ uint8_t;
+typedef __UINT16_TYPE__ uint16_t;
+typedef __UINT32_TYPE__ uint32_t;
+typedef __UINT64_TYPE__ uint64_t;
+typedef __INT32_TYPE__ int32_t;
+typedef __INT64_TYPE__ int64_t;
+#define UINT32_MAX 4294967295u
+#endif

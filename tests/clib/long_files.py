@@ -1,0 +1,177 @@
+"""Questions about files and tables that the desk cannot hold: up to the longest that is read, and one byte more.
+
+A case is a name and its questions; a question is a line and what the answer must start with, or None where only the two
+programs' agreement counts.
+"""
+
+import dvi
+import tables
+from dvi import MARK, NOTHING, PLAIN_UNITS, big
+
+LONGEST = 16_777_216
+MOST_PAGES = 65_535
+CHARACTERS = 100_000
+RECORD = 20
+
+
+def filled(make, length=LONGEST):
+    """What `make` gives for as many filling bytes as bring it to this length."""
+    data = make(length - len(make(0)))
+    if len(data) != length:
+        raise AssertionError("the filling does not fill")
+    return data
+
+
+def fonts(count, name_length):
+    return [dvi.Font(n, 1000 + n, 655_360 + n, name=bytes([97 + n % 26]) * name_length, area=bytes([65 + n % 26]) * name_length)
+            for n in range(count)]
+
+
+def three_pages_apart(keep):
+    """Long specials and a run of nops over the file's middle, then fonts and a third page: most of interest stands near the end."""
+    defined = fonts(64, 255)
+
+    def make(filling):
+        nops = filling // 16
+        first = (filling - nops) // 2
+        definitions = [font.definition() for font in defined]
+        long_pages = [*dvi.page([dvi.special(b"1" * first, 4)]), NOTHING * nops, *dvi.page([dvi.special(b"2" * (filling - nops - first), 4)])]
+        return dvi.volume(PLAIN_UNITS, [*long_pages, *definitions, *dvi.page([dvi.right(1000), MARK])], defined)
+
+    data = filled(make)
+    start = LONGEST - 4 - 6 - sum(len(font.definition()) for font in defined) - 29  # post
+    file, empty = keep(data), keep(b"")
+    yield "the longest file", [
+        (b"check %s" % file, b"accepted 3 64 0 %d" % start),
+        (b"name %s 63" % file, b"name 16"),
+        (b"name %s 64" % file, b"refused 8 at 0"),
+        (b"place %s %s 300 3 20" % (file, empty), b"r 3 0 300 0 1 1\nend 1 0 0"),
+        (b"place %s %s 300 3 19" % (file, empty), b"refused 17 at 0"),
+        (b"place %s %s 300 4 20" % (file, empty), b"refused 15 at 0"),
+    ]
+    longer = keep(filled(make, LONGEST + 1))
+    yield "a byte too long", [
+        (b"check %s" % longer, b"refused 1 at 0"),
+        (b"name %s 0" % longer, b"refused 1 at 0"),
+        (b"place %s %s 0 0 0" % (longer, empty), b"refused 1 at 0"),
+    ]
+    yield "far too long", [(b"check %s" % keep(bytes(17 << 20)), b"refused 1 at 0")]
+    yield from damaged_at(keep, data, start)
+
+
+def damaged_at(keep, data, post):
+    """One step away from an accepted file, in the middle and near its end."""
+    middle = LONGEST // 2
+
+    def changed(at, byte):
+        return b"check %s" % keep(data[:at] + bytes([byte]) + data[at + 1 :])
+
+    yield "damaged", [
+        (changed(middle, 250), b"refused 3 at %d" % middle),
+        (changed(middle, dvi.POP), b"refused 5 at %d" % middle),
+        (changed(post + 4, data[post + 4] ^ 1), b"refused 9 at %d" % post),
+        (changed(post + 28, data[post + 28] ^ 1), b"refused 10 at %d" % post),
+        (changed(LONGEST - 1, 0), b"refused 11 at %d" % (LONGEST - 1)),
+        (b"check %s" % keep(data[:-1]), b"refused 11 at %d" % (LONGEST - 1)),
+        (b"check %s" % keep(data[:-5]), b"refused 2 at %d" % (LONGEST - 10)),
+        (b"check %s" % keep(data[:middle]), b"refused 2 at %d" % middle),
+    ]
+
+
+def shortest_commands(keep):
+    """The longest file of commands of one byte."""
+    file = keep(filled(lambda filling: dvi.volume(PLAIN_UNITS, [*dvi.page([]), NOTHING * filling])))
+    yield "the most commands", [(b"check %s" % file, b"accepted 1 0 0 %d" % (LONGEST - 39))]
+
+
+def one_long_special(keep):
+    """A length of three bytes' worth inside a command, and one that reaches a byte past the end."""
+    data = filled(lambda filling: dvi.volume(PLAIN_UNITS, dvi.page([dvi.special(b"s" * filling, 4), MARK])))
+    at = 15 + 45
+    length = dvi.unsigned(data[at + 1 : at + 5])
+    past = data[: at + 1] + big(LONGEST - at - 5 + 1, 4) + data[at + 5 :]
+    greatest = data[: at + 1] + bytes([255]) * 4 + data[at + 5 :]
+    file, empty = keep(data), keep(b"")
+    yield "a long special", [
+        (b"check %s" % file, b"accepted 1 0 0 %d" % (at + 5 + length + len(MARK) + 1)),
+        (b"place %s %s 100 1 20" % (file, empty), b"r 1 0 0 0 1 1\nend 1 0 1"),
+        (b"check %s" % keep(past), b"refused 2 at %d" % at),
+        (b"check %s" % keep(greatest), b"refused 2 at %d" % at),
+    ]
+
+
+def many_pages(keep):
+    """As many pages as post can count, and one more."""
+
+    def make(count):
+        return dvi.volume(PLAIN_UNITS, [*(dvi.page([]) * (count - 1)), *dvi.page([MARK])])
+
+    file, empty = keep(make(MOST_PAGES)), keep(b"")
+    more = make(MOST_PAGES + 1)
+    yield "many pages", [
+        (b"check %s" % file, b"accepted 65535 0 0 "),
+        (b"place %s %s 100 65535 20" % (file, empty), b"r 65535 0 0 0 1 1\nend 1 0 0"),
+        (b"place %s %s 100 65534 20" % (file, empty), b"end 0 0 0"),
+        (b"place %s %s 100 65536 20" % (file, empty), b"refused 15 at 0"),
+        (b"check %s" % keep(more), b"refused 10 at %d" % (len(more) - 39)),
+    ]
+
+
+def many_records(keep, rng):
+    """A page of many characters, present and missing, and rules; the area just long enough, and a byte shorter."""
+    font = dvi.Font(7, 77, 655_360)
+    text = bytes(rng.choice(b"abcdef\x84\x8a" if i % 50 else b"abc") for i in range(CHARACTERS))
+    body = [font.definition(), *dvi.page([dvi.select(7), *(bytes([c]) if c < 128 else MARK if c == 132 else dvi.right(-rng.randrange(3000)) for c in text)])]
+    file = keep(dvi.volume(dvi.TEX_UNITS, body, [font]))
+    widths = keep(b"".join(tables.record(77, 655_360, code, 5 + code % 3, big(3000, 4)) for code in b"abcd"))
+    records = sum(c in b"abcd\x84" for c in text)
+    missing = sum(c in b"ef" for c in text)
+    yield "many records", [
+        (b"place %s %s 300 1 %d" % (file, widths, RECORD * records), b"c 1 7 0 0 "),
+        (b"place %s %s 72 1 %d" % (file, widths, RECORD * records + 3), b"c 1 7 0 0 "),
+        (b"place %s %s 300 1 %d" % (file, widths, RECORD * records - 1), b"refused 17 at 0"),
+        (b"place %s %s 300 1 %d" % (file, keep(b""), RECORD * text.count(132)), b"r 1 0 "),
+    ]
+    if not records or not missing:
+        raise AssertionError("the page has not both characters and missing ones")
+
+
+def long_tables(keep, rng):
+    """Width tables of 65,536 records and more; look-ups at their ends; wrong records near the end."""
+    for count in (65_536, 300_000):
+        keys = [(rng.randrange(1 << 32), rng.randrange(1, dvi.GREATEST_SCALE + 1)) for _ in range(count // 256 + 1)]
+        every = [(*key, code) for key in sorted(set(keys)) for code in range(256)][:count]
+        rows = [tables.record(*key, rng.randrange(-32768, 32768), tables.made_up_width(rng)) for key in every]
+        data = b"".join(rows)
+        file = keep(data)
+        yield f"a table of {count} records", [(b"table %s" % file, b"right %d" % count)] + [
+            (b"look %s %d %d %d" % (file, c, s, code), b"found ") for c, s, code in (every[0], every[-1], *rng.sample(every, 8))
+        ] + [
+            (b"look %s %d %d %d" % (file, c, s, code - 256), b"found ") for c, s, code in rng.sample(every, 2)
+        ] + [
+            (b"look %s %d %d %d" % (file, c, s + 1, code), b"absent") for c, s, code in (every[-1], *rng.sample(every, 3))
+        ]
+        last = len(data) - 16
+        wrong = {
+            data[:-4] + b"\1" + data[-3:]: last,
+            data[:-7] + b"\1" + data[-6:]: last,
+            data[:last] + data[last - 16 : last]: last,
+            data + data[:7]: len(data),
+            data[: last - 16] + rows[-1] + rows[-2]: last,
+        }
+        c, s, code = every[0]
+        yield f"wrong near the end of {count} records", [
+            question for table, at in wrong.items() for question in (
+                (b"table %s" % keep(table), b"refused 14 at %d" % at),
+                (b"look %s %d %d %d" % (keep(table), c, s, code), b"refused 14 at %d" % at),
+            )
+        ]
+
+
+def cases(keep, rng):
+    yield from three_pages_apart(keep)
+    yield from shortest_commands(keep)
+    yield from one_long_special(keep)
+    yield from many_pages(keep)
+    yield from many_records(keep, rng)
+    yield from long_tables(keep, rng)
