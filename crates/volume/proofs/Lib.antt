@@ -11,6 +11,7 @@ pub mod History
 pub mod Bounds
 pub mod Tables
 pub mod PlainLaws
+pub mod RunLaws
 pub mod Going
 pub mod ShortLaws
 pub mod ScanTurns

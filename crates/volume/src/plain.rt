@@ -22,13 +22,31 @@ fn is_plain(opcode: u8) -> bool
     }
 }
 
+// The place after the characters of one byte that stand at a place: most of a page is runs of them.
+fn pass_characters(file: &[u8], at: usize) -> usize
+    ensures { λ r. ⌜ Passes (now (file .entry)) at r ⌝ }
+{
+    let mut place = at;
+    while place < file.len() {
+        if 128 <= file[place] {
+            return place;
+        }
+        place = place + 1;
+    }
+    place
+}
+
 // The place after the plain commands that stand at a place.
 fn pass_plain(table: &[u8; 122], file: &[u8], at: usize) -> usize
     requires { ⌜ now table ≡ lengths ⌝ }
     ensures { λ r. ⌜ Passes (now (file .entry)) at r ⌝ }
 {
     let mut place = at;
-    while place < file.len() {
+    loop {
+        place = pass_characters(file, place);
+        if file.len() <= place {
+            return place;
+        }
         let opcode = file[place];
         if !is_plain(opcode) {
             return place;
@@ -39,7 +57,6 @@ fn pass_plain(table: &[u8; 122], file: &[u8], at: usize) -> usize
         }
         place = place + (1 + length);
     }
-    place
 }
 
 // Whether an opcode, at a depth, is a push, a pop or a short selection that keeps the rules.
