@@ -1,8 +1,8 @@
--- Laws of numbers in bytes: one byte more, and what was written is read back. Assumes nothing.
+-- Laws of numbers in bytes: one byte more, how large, two parts joined, and what was written is read back. Assumes nothing.
 use mathlib.Core.Path.{_≡_, refl, sym, ap, ap₂, _∙_, subst}
 use mathlib.Core.List.{List, [], _∷_, _++_}
 use Prim.Native.Nat.{ℕ, zero, suc, _+_, _*_, _/_, _%_, _^_, _≤_, _<_}
-use native.Mathlib.Nat.{zero-add, pow-suc, pow-le-pow-right, div-add-mod', div-lt-iff-lt-mul}
+use native.Mathlib.Nat.{zero-add, add-zero, add-suc, add-assoc, mul-assoc, pow-suc, pow-le-pow-right, div-add-mod', div-lt-iff-lt-mul}
 use native.Mathlib.Numerals.{add-one}
 use native.Mathlib.Omega.{arith}
 use lib.ListN.{getD, drop, length, length-append, List·getD-append}
@@ -24,6 +24,24 @@ power-more count = ap (λ (j : ℕ). 256 ^ j) (add-one count) ∙ pow-suc 256 co
 
 pub power-le : (i k : ℕ) → i ≤ k → 256 ^ i ≤ 256 ^ k
 power-le i k h = pow-le-pow-right (lit< tt) h
+
+-- ---- how large
+
+pub unsigned-below : (bytes : List ℕ) (at count : ℕ) → ((i : ℕ) → i < count → getD bytes (at + i) 0 < 256) → unsignedAt bytes at count < 256 ^ count
+unfolding unsignedAt
+unsigned-below bytes at zero byte = omega arith
+unsigned-below bytes at (suc count) byte = omega (arith, unsigned-below bytes at count (λ i h. byte i (omega arith)), byte count (omega arith), pow-suc 256 count)
+
+-- ---- the bytes in two parts
+
+pub unsigned-join : (bytes : List ℕ) (at front back : ℕ) → unsignedAt bytes at (front + back) ≡ unsignedAt bytes at front * 256 ^ back + unsignedAt bytes (at + front) back
+unfolding unsignedAt
+unsigned-join bytes at front zero = omega (arith, ap (unsignedAt bytes at) (add-zero front))
+unsigned-join bytes at front (suc back) =
+    let high = unsignedAt bytes at front in
+    let last : getD bytes (at + front + back) 0 ≡ getD bytes (at + (front + back)) 0 = ap (λ (n : ℕ). getD bytes n 0) (add-assoc at front back) in
+    let power : high * 256 ^ suc back ≡ high * 256 ^ back * 256 = ap (λ (n : ℕ). high * n) (pow-suc 256 back) ∙ sym (mul-assoc high (256 ^ back) 256) in
+    omega (arith, ap (unsignedAt bytes at) (add-suc front back), unsigned-join bytes at front back, last, power)
 
 -- ---- what was written is read back
 

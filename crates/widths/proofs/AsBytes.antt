@@ -11,6 +11,7 @@ use lib.ListN.{length, getD, take, drop, length-drop}
 use lib.Seq.{length-take-le, getD-take, getD-drop}
 use borrow.Author.Tests.{eqb-true, eqb-false}
 use Rattle.numbers.specs.Bytes.{unsignedAt}
+use Rattle.numbers.proofs.Bytes.{unsigned-below}
 use Rattle.widths.specs.Table.{recordSize, recordOf, rises}
 use Rattle.widths.proofs.Keys.{same-less}
 
@@ -32,11 +33,6 @@ first-byte x xs (suc count) =
     let last : getD (x ∷ xs) (0 + suc count) 0 ≡ getD xs (0 + count) 0 = ap (λ (n : ℕ). getD (x ∷ xs) n 0) (zero-add (suc count)) ∙ ap (λ (n : ℕ). getD xs n 0) (sym (zero-add count)) in
     let power : x * 256 ^ suc count ≡ x * 256 ^ count * 256 = ap (λ (n : ℕ). x * n) (pow-suc 256 count) ∙ sym (mul-assoc x (256 ^ count) 256) in
     omega (arith, first-byte x xs count, last, power)
-
-unsigned-below : (xs : List ℕ) → Bytes xs → (count : ℕ) → count ≤ length xs → unsignedAt xs 0 count < 256 ^ count
-unfolding unsignedAt
-unsigned-below xs bytes zero h = omega arith
-unsigned-below xs bytes (suc count) h = omega (arith, unsigned-below xs bytes count (omega arith), bytes (0 + count) (omega arith), pow-suc 256 count)
 
 -- ---- the order
 
@@ -70,7 +66,7 @@ rises-by (x ∷ xs) (y ∷ ys) (suc count) a b p q =
     let q-rest : Bytes ys = λ i h. q (suc i) (omega arith) in
     let rest : risesAsBytes xs ys ≡ ltb (unsignedAt xs 0 count) (unsignedAt ys 0 count) = rises-by xs ys count (omega arith) (omega arith) p-rest q-rest in
     rw (first-byte x xs count, first-byte y ys count, rest)
-    (decided x y (256 ^ count) (unsignedAt xs 0 count) (unsignedAt ys 0 count) (unsigned-below xs p-rest count (omega arith)) (unsigned-below ys q-rest count (omega arith)) (eqb x y) refl)
+    (decided x y (256 ^ count) (unsignedAt xs 0 count) (unsignedAt ys 0 count) (unsigned-below xs 0 count (λ i h. p-rest (0 + i) (omega arith))) (unsigned-below ys 0 count (λ i h. q-rest (0 + i) (omega arith))) (eqb x y) refl)
 
 pub as-bytes : (xs ys : List ℕ) → length xs ≡ length ys → Bytes xs → Bytes ys → risesAsBytes xs ys ≡ ltb (unsignedAt xs 0 (length xs)) (unsignedAt ys 0 (length ys))
 as-bytes xs ys e p q = rises-by xs ys (length xs) refl (sym e) p q ∙ ap (λ (n : ℕ). ltb (unsignedAt xs 0 (length xs)) (unsignedAt ys 0 n)) e

@@ -3,14 +3,13 @@ use mathlib.Core.Path.{_≡_, refl, sym, ap, ap₂, _∙_}
 use mathlib.Core.Logic.{_⊎_, inl, inr}
 use mathlib.Core.Bool.{Bool, true, false, _&&_, and-eq-true-iff}
 use mathlib.Core.List.{List}
-use Prim.Native.Nat.{ℕ, zero, suc, _+_, _*_, _^_, _≤_, _<_}
-use native.Mathlib.Nat.{pow-suc, add-zero, add-suc, add-assoc, mul-assoc}
+use Prim.Native.Nat.{ℕ, _+_, _*_, _^_, _≤_, _<_}
 use native.Mathlib.Omega.{arith}
 use lib.Dec.{ltb, eqb}
 use lib.ListN.{getD}
 use borrow.Author.Tests.{ltb-true, ltb-false, eqb-true, eqb-false, lt-ltb, le-ltb, eq-eqb, ne-eqb}
 use Rattle.numbers.specs.Bytes.{unsignedAt}
-use Rattle.numbers.proofs.Bytes.{unsigned-more}
+use Rattle.numbers.proofs.Bytes.{unsigned-more, unsigned-join}
 use Rattle.widths.specs.declared.table.Key.{Key}
 use Rattle.widths.specs.Table.{recordSize, recordOf}
 use Rattle.widths.specs.LookUp.{isFor}
@@ -43,15 +42,6 @@ module _ (a b c d : ℕ) where
   same-equal forth back = equal-by (eqb a b) refl forth back
 
 -- ---- nine bytes as one number
-
-pub unsigned-join : (bytes : List ℕ) (at front back : ℕ) → unsignedAt bytes at (front + back) ≡ unsignedAt bytes at front * 256 ^ back + unsignedAt bytes (at + front) back
-unfolding unsignedAt
-unsigned-join bytes at front zero = omega (arith, ap (unsignedAt bytes at) (add-zero front))
-unsigned-join bytes at front (suc back) =
-    let high = unsignedAt bytes at front in
-    let last : getD bytes (at + front + back) 0 ≡ getD bytes (at + (front + back)) 0 = ap (λ (n : ℕ). getD bytes n 0) (add-assoc at front back) in
-    let power : high * 256 ^ suc back ≡ high * 256 ^ back * 256 = ap (λ (n : ℕ). high * n) (pow-suc 256 back) ∙ sym (mul-assoc high (256 ^ back) 256) in
-    omega (arith, ap (unsignedAt bytes at) (add-suc front back), unsigned-join bytes at front back, last, power)
 
 -- check sum, scale and code as one number
 abbrev pub characterKey : ℕ → ℕ → ℕ → ℕ

@@ -11,10 +11,8 @@ ghost use Rattle.widths.specs.Table.{recordAt, recordOf, lawfulFields, c
 ghost use Rattle.widths.specs.LookUp.{metricOf, walk};
 ghost use Rattle.widths.specs.Steps.{keyNumber, KeyAt, tableAnswer, foundAt, Among, FirstNotBelow};
 
-// The layout of a width record: its size, and where each field starts. The check sum stands first.
+// The layout of a width record: its size, and where the fields after check sum and scale start.
 const RECORD_SIZE: usize = 16;
-
-const SCALE_AT: usize = 4;
 
 const CODE_AT: usize = 8;
 
@@ -23,6 +21,9 @@ const ZERO_AT: usize = 9;
 const ESCAPEMENT_AT: usize = 10;
 
 const WIDTH_AT: usize = 12;
+
+// How many values the four bytes of a scale have. In a key's head the check sum counts so many.
+const SCALE_SPAN: u64 = 4294967296;
 
 // A record's key: check sum and scale as one number, and the code
 pub struct Key {
@@ -48,20 +49,21 @@ fn key_of(checksum: u64, scale: u64, code: u64) -> Key
     ensures { λ r. ⌜ (r .head ≡ checksum * 2 ^ 32 + scale) × (r .code ≡ code) ⌝ }
 {
     Key {
-        head: checksum * 4294967296 + scale,
+        head: checksum * SCALE_SPAN + scale,
         code: code,
     }
 }
 
-// The key of the record at a place.
+// The key of the record at a place. Check sum and scale, the bytes before the code, are read as one number because that is one load.
 fn key_at(table: &[u8], at: usize) -> Key
     requires { ⌜ at + 16 ≤ length (now table) ⌝ }
     ensures { λ r. ⌜ KeyAt (now (table .entry)) at r ⌝ }
 {
-    let checksum = numbers::unsigned_at(table, at, 4);
-    let scale = numbers::unsigned_at(table, at + SCALE_AT, 4);
     let code = numbers::wide(table[at + CODE_AT]);
-    key_of(checksum, scale, code)
+    Key {
+        head: numbers::unsigned_at(table, at, CODE_AT),
+        code: code,
+    }
 }
 
 // Whether key a is below key b. The key that a next record must reach may be one past the last code.
@@ -89,12 +91,13 @@ fn same(a: Key, b: Key) -> bool
     a.code == b.code
 }
 
-// Whether scale, zero byte and the width's first byte of the record at a place are right.
-fn lawful_fields(table: &[u8], at: usize) -> bool
-    requires { ⌜ at + 16 ≤ length (now table) ⌝ }
+// Whether scale, zero byte and the width's first byte of the record at a place are right. The scale is taken from the
+// record's key: reading its bytes again would keep the key from being one load.
+fn lawful_fields(table: &[u8], at: usize, key: Key) -> bool
+    requires { ⌜ (at + 16 ≤ length (now table)) × KeyAt (now table) at key ⌝ }
     ensures { λ r. ⌜ r ≡ lawfulFields (recordAt (now (table .entry)) at) ⌝ }
 {
-    if !scaling::lawful_scale(numbers::unsigned_at(table, at + SCALE_AT, 4)) {
+    if !scaling::lawful_scale(key.head % SCALE_SPAN) {
         return false;
     }
     if table[at + ZERO_AT] != 0 {
@@ -103,21 +106,20 @@ fn lawful_fields(table: &[u8], at: usize) -> bool
     scaling::lawful_first(table[at + WIDTH_AT])
 }
 
-// The check of a whole table. A next record must reach `least`: one past the key before it, 0 at first.
+// The check of a whole table. A next record must reach `least`: one past the key before it, 0 at first. Bytes after the
+// whole records are judged once, after the loop.
 pub fn check_table(table: &[u8]) -> Table
     ensures { λ r. ⌜ tableAnswer r ≡ checkedTable (now (table .entry)) ⌝ }
 {
     let mut at: usize = 0;
     let mut least = Key { head: 0, code: 0 };
-    while at < table.len() {
-        if table.len() - at < RECORD_SIZE {
-            return Table::Wrong(at);
-        }
+    let whole = table.len() - table.len() % RECORD_SIZE;
+    while at < whole {
         let key = key_at(table, at);
         if below(key, least) {
             return Table::Wrong(at);
         }
-        if !lawful_fields(table, at) {
+        if !lawful_fields(table, at, key) {
             return Table::Wrong(at);
         }
         let next_code = key.code + 1;
@@ -126,6 +128,9 @@ pub fn check_table(table: &[u8]) -> Table
             code: next_code,
         };
         at += RECORD_SIZE;
+    }
+    if at < table.len() {
+        return Table::Wrong(at);
     }
     Table::Right(at / RECORD_SIZE)
 }

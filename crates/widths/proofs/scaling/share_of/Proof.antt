@@ -1,8 +1,10 @@
 -- `widths::scaling::share_of` meets its contract: each product and each sum is below 2^31. Assumes nothing.
+use mathlib.Core.Path.{_≡_, sym, ap, _∙_}
 use Prim.Native.Nat.{ℕ, _+_, _*_, _/_, _^_, _≤_, _<_}
 use native.Mathlib.Nat.{div-le-self, le-div-iff-mul-le}
 use native.Mathlib.Omega.{arith}
 use borrow.Author.Needs.{needs}
+use Rattle.widths.specs.Scaling.{share}
 use Rattle.widths.proofs.Halving.{product, sum-bound}
 use Rattle.widths.proofs.scaling.share_of.Statement.{statement}
 use Rattle.widths.proofs.scaling.share_of.Tie as tie
@@ -30,8 +32,8 @@ add-middle c =
 wide-requires-3 : tie.Need-wide-requires-3
 wide-requires-3 c κs = search needs
 
-mul-result : tie.Need-mul-result
-mul-result c = omega (arith, small (c .before .before .before) (c .wide3 .result) (c .wide3 .ensures .1))
+mul-whole : tie.Need-mul-whole
+mul-whole c = omega (arith, small (c .before .before .before) (c .wide3 .result) (c .wide3 .ensures .1))
 
 -- what is divided last
 abbrev whole : tie.After-wide3 → ℕ
@@ -44,22 +46,29 @@ whole-small c =
     let s = c .before .before .before in
     omega (arith, s .pre .z-small, sum-bound (c .wide3 .result) (c .before .wide2 .result) (c .before .before .wide .result) (s .args .k .z) (c .wide3 .ensures .1) (c .before .wide2 .ensures .1) (c .before .before .wide .ensures .1))
 
-add-result : tie.Need-add-result
-add-result c = omega (arith, whole-small c)
+add-whole : tie.Need-add-whole
+add-whole c = omega (arith, whole-small c)
+
+-- divided by β it is the share
+whole-share : (c : tie.After-wide3) → whole c / (256 / c .before .before .before .args .k .alpha) ≡ share (c .before .before .before .args .k) (c .before .before .before .args .w)
+whole-share c = cc
+
+-- α is 16, and so is β
+returns : tie.Need-returns
+returns c =
+    let e : whole (c .before) / 16 ≡ share (c .before .before .before .before .args .k) (c .before .before .before .before .args .w) = ap (λ (alpha : ℕ). whole (c .before) / (256 / alpha)) (sym (c .if1 .taken)) ∙ whole-share (c .before) in
+    (e, omega (arith, whole-small (c .before)))
 
 div-result : tie.Need-div-result
 div-result c = search needs
 
 div-result-2 : tie.Need-div-result-2
 div-result-2 c =
-    let k = c .before .before .before .pre in
+    let k = c .before .before .before .before .pre in
     le-div-iff-mul-le (k .alpha-some) .1 (omega (arith, k .alpha-small))
 
-returns : tie.Need-returns
-returns c = (
-  cc,
-  omega (arith, whole-small c, div-le-self (whole c) (256 / c .before .before .before .args .k .alpha)),
-)
+returns-2 : tie.Need-returns-2
+returns-2 c = (whole-share (c .before), omega (arith, whole-small (c .before), div-le-self (whole (c .before)) (256 / c .before .before .before .before .args .k .alpha)))
 
 pub share-of-spec : {M : Type 1} → statement M
 share-of-spec =
@@ -71,8 +80,9 @@ share-of-spec =
     mul-middle
     add-middle
     wide-requires-3
-    mul-result
-    add-result
+    mul-whole
+    add-whole
+    returns
     div-result
     div-result-2
-    returns)
+    returns-2)

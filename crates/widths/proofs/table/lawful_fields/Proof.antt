@@ -1,6 +1,7 @@
 -- `widths::table::lawful_fields` meets its contract. Assumes nothing.
-use mathlib.Core.Path.{_≡_, sym, ap, _∙_}
-use Prim.Native.Nat.{_+_}
+use mathlib.Core.Path.{_≡_, sym, subst, _∙_}
+use Prim.Native.Nat.{ℕ, _+_, _%_, _^_}
+use native.Mathlib.Omega.{arith}
 use denote.Ref.{now}
 use Rattle.numbers.specs.Bytes.{unsignedAt}
 use borrow.Author.Tests.{not-true, not-false, eq-eqb, ne-eqb}
@@ -9,18 +10,15 @@ use borrow.Author.Needs.{needs}
 use Rattle.widths.proofs.table.lawful_fields.Statement.{statement}
 use Rattle.widths.proofs.table.lawful_fields.Tie as tie
 
-add-unsigned-at : tie.Need-add-unsigned-at
-add-unsigned-at c = search needs
-
-unsigned-at-requires : tie.Need-unsigned-at-requires
-unsigned-at-requires c κs = search needs
-
 lawful-scale-requires : tie.Need-lawful-scale-requires
 lawful-scale-requires c κs = search needs
 
 -- the scale's test, on the record's scale
 scale-test : (c : tie.After-lawful-scale) → c .lawful-scale .result ≡ lawfulScale (unsignedAt (now (c .before .before .before .args .table)) (c .before .before .before .args .at + 4) 4)
-scale-test c = c .lawful-scale .ensures ∙ ap lawfulScale (c .before .unsigned-at .ensures .0)
+scale-test c =
+    let scale = unsignedAt (now (c .before .before .before .args .table)) (c .before .before .before .args .at + 4) 4 in
+    let is : c .before .before .before .args .key .head % 2 ^ 32 ≡ scale = omega (arith, c .before .before .before .pre .1 .head-is, c .before .before .before .pre .1 .scale-below) in
+    subst (λ (n : ℕ). c .lawful-scale .result ≡ lawfulScale n) is (c .lawful-scale .ensures)
 
 returns : tie.Need-returns
 returns c = simp (sym (scale-test (c .before)) ∙ not-true _ (c .if1 .taken))
@@ -52,8 +50,6 @@ pub lawful-fields-spec : {M : Type 1} → statement M
 lawful-fields-spec =
     tie.close
     (tie.spec
-    add-unsigned-at
-    unsigned-at-requires
     lawful-scale-requires
     returns
     add-if2
