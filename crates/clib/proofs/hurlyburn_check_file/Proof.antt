@@ -6,7 +6,7 @@ use denote.Ref.{now}
 use Rattle.volume.specs.Judged.{judged}
 use Rattle.reader.specs.Answers.{fileAnswer}
 use Rattle.clib.specs.Answers.{fileNumbers}
-use Rattle.clib.proofs.Laws.{leaves-short, leaves-given, leaves-refused}
+use Rattle.clib.proofs.Endings.{leaves-short, leaves-given, leaves-refused}
 use Rattle.clib.proofs.hurlyburn_check_file.Statement.{statement}
 use Rattle.clib.proofs.hurlyburn_check_file.Tie as tie
 

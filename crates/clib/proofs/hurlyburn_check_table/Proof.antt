@@ -6,7 +6,7 @@ use denote.Ref.{now}
 use Rattle.widths.specs.Table.{checkedTable}
 use Rattle.reader.specs.Answers.{tableAnswer}
 use Rattle.clib.specs.Answers.{tableNumbers}
-use Rattle.clib.proofs.Laws.{leaves-short, leaves-given, leaves-refused}
+use Rattle.clib.proofs.Endings.{leaves-short, leaves-given, leaves-refused}
 use Rattle.clib.proofs.hurlyburn_check_table.Statement.{statement}
 use Rattle.clib.proofs.hurlyburn_check_table.Tie as tie
 
