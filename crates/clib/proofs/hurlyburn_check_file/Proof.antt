@@ -1,5 +1,5 @@
 -- `clib::hurlyburn_check_file` meets its contract: the array is measured first, then it is what `reader::check_file` answers. Assumes nothing.
-use mathlib.Core.Path.{_≡_, sym, ap, _∙_}
+use mathlib.Core.Path.{sym, ap, _∙_}
 use native.Mathlib.Omega.{arith}
 use borrow.Author.Needs.{needs}
 use denote.Ref.{now}
