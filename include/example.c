@@ -31,6 +31,32 @@ static int refused(uint32_t code, const int64_t *answer)
     return 1;
 }
 
+/* Prints a page's records. The area is doubled until they fit: a refusal writes nothing, so the same call can be made again. */
+static int print_page(const uint8_t *file, size_t length, uint32_t resolution, uint32_t page)
+{
+    int64_t answer[HURLYBURN_PLACE_NUMBERS] = {0};
+    uint32_t code = 17;
+    size_t room = 64 * HURLYBURN_RECORD_BYTES;
+    uint8_t *area = malloc(room);
+    while (area && (code = hurlyburn_place_page(file, length, NULL, 0, resolution, page, area, room, answer,
+                                                HURLYBURN_PLACE_NUMBERS)) == 17) {
+        free(area);
+        area = malloc(room *= 2);
+    }
+    if (code != HURLYBURN_GIVEN) {
+        free(area);
+        return refused(code, answer);
+    }
+    for (int64_t i = 0; i < answer[0]; i++) {
+        const uint8_t *record = area + HURLYBURN_RECORD_BYTES * i;
+        printf("%s at %d %d: %d %d\n", record[0] == 1 ? "character" : "rule", number(record + 4), number(record + 8),
+               number(record + 12), number(record + 16));
+    }
+    printf("%lld records, %lld missing characters, %lld specials\n", (long long)answer[0], (long long)answer[1], (long long)answer[2]);
+    free(area);
+    return 0;
+}
+
 int main(int count, char **words)
 {
     size_t length;
@@ -39,34 +65,15 @@ int main(int count, char **words)
         fprintf(stderr, "use: example FILE R PAGE\n");
         return 2;
     }
-
     int64_t answer[HURLYBURN_CHECK_NUMBERS];
     uint32_t code = hurlyburn_check_file(file, length, answer, HURLYBURN_CHECK_NUMBERS);
-    if (code != HURLYBURN_GIVEN)
-        return refused(code, answer);
-    printf("%lld pages, %lld fonts, depth %lld, post at %lld\n", (long long)answer[0], (long long)answer[1], (long long)answer[2],
-           (long long)answer[3]);
-
-    /* The area is doubled until the page fits: a refusal writes nothing, so the same call can be made again. */
-    uint32_t resolution = (uint32_t)strtoul(words[2], NULL, 10), page = (uint32_t)strtoul(words[3], NULL, 10);
-    size_t room = 64 * HURLYBURN_RECORD_BYTES;
-    uint8_t *area = malloc(room);
-    while (area && (code = hurlyburn_place_page(file, length, NULL, 0, resolution, page, area, room, answer,
-                                                HURLYBURN_PLACE_NUMBERS)) == 17) {
-        free(area);
-        area = malloc(room *= 2);
-    }
-    if (!area)
-        return 2;
-    if (code != HURLYBURN_GIVEN)
-        return refused(code, answer);
-    for (int64_t i = 0; i < answer[0]; i++) {
-        const uint8_t *record = area + HURLYBURN_RECORD_BYTES * i;
-        printf("%s at %d %d: %d %d\n", record[0] == 1 ? "character" : "rule", number(record + 4), number(record + 8),
-               number(record + 12), number(record + 16));
-    }
-    printf("%lld records, %lld missing characters, %lld specials\n", (long long)answer[0], (long long)answer[1], (long long)answer[2]);
-    free(area);
+    int status;
+    if (code == HURLYBURN_GIVEN) {
+        printf("%lld pages, %lld fonts, depth %lld, post at %lld\n", (long long)answer[0], (long long)answer[1], (long long)answer[2],
+               (long long)answer[3]);
+        status = print_page(file, length, (uint32_t)strtoul(words[2], NULL, 10), (uint32_t)strtoul(words[3], NULL, 10));
+    } else
+        status = refused(code, answer);
     free(file);
-    return 0;
+    return status;
 }

@@ -1,6 +1,6 @@
 -- What a call leaves in the caller's array of numbers, and the code that it returns: one rule for every entry of C. Assumes nothing.
-use Prim.Native.Nat.{ℕ, _^_}
-use mathlib.Core.Bool.{Bool, cond}
+use Prim.Native.Nat.{ℕ, _≤_, _^_}
+use mathlib.Core.Bool.{cond}
 use mathlib.Core.List.{List, [], _∷_, _++_}
 use lib.Dec.{ltb}
 use lib.ListN.{length, drop}
@@ -21,6 +21,16 @@ ifRoom least array room short = cond (ltb (length array) least) short room
 abbrev pub numberOf : {A : Type 0} → Answer A → ℕ
 numberOf (refused number place) = number
 numberOf (given a) = 0
+
+-- a refusal has a number of the printed list, so that its code is neither 0 nor 255
+abbrev pub Listed : {A : Type 0} → Answer A → Type 0
+Listed (refused number place) = (1 ≤ number) × (number ≤ 17)
+Listed (given a) = Unit {0}
+
+-- it is a result
+abbrev pub Given : {A : Type 0} → Answer A → Type 0
+Given (refused number place) = ⊥
+Given (given a) = Unit {0}
 
 -- what is returned: 255 where the array is too short
 abbrev pub code : {A : Type 0} → ℕ → List ℕ → Answer A → ℕ

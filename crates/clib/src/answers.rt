@@ -10,7 +10,7 @@ const GIVEN: u32 = 0;
 // the array cannot hold the result: nothing was judged and nothing written
 pub const ARRAY_TOO_SHORT: u32 = 255;
 
-// A result: its numbers, in front of what the array held behind them.
+// A result: its numbers, in front of what the array held behind them. No result has more than six; the bound keeps a place in memory within 64 bits.
 pub fn give(answer: &mut [u64], numbers: &[u64]) -> u32
     requires { ⌜ (length (now numbers) ≤ 6) × (length (now numbers) ≤ length (now answer)) ⌝ }
     ensures { λ r. ⌜ r ≡ 0 ⌝ }

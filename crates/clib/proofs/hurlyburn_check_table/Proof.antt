@@ -1,12 +1,12 @@
 -- `clib::hurlyburn_check_table` meets its contract: the array is measured first, then it is what `reader::check_table` answers. Assumes nothing.
-use mathlib.Core.Path.{_≡_, sym, ap, _∙_}
+use mathlib.Core.Path.{sym, ap, _∙_}
 use native.Mathlib.Omega.{arith}
 use borrow.Author.Needs.{needs}
 use denote.Ref.{now}
 use Rattle.widths.specs.Table.{checkedTable}
 use Rattle.reader.specs.Answers.{tableAnswer}
 use Rattle.clib.specs.Answers.{tableNumbers}
-use Rattle.clib.proofs.Laws.{leaves-short, leaves-given, leaves-refused}
+use Rattle.clib.proofs.Endings.{leaves-short, leaves-given, leaves-refused}
 use Rattle.clib.proofs.hurlyburn_check_table.Statement.{statement}
 use Rattle.clib.proofs.hurlyburn_check_table.Tie as tie
 

@@ -7,7 +7,7 @@ use mir.Facts.{toZ-ofZ}
 use Rattle.volume.specs.Names.{namePlace}
 use Rattle.reader.specs.Answers.{nameAnswer}
 use Rattle.clib.specs.Answers.{nameNumbers}
-use Rattle.clib.proofs.Laws.{leaves-short, leaves-given, leaves-refused}
+use Rattle.clib.proofs.Endings.{leaves-short, leaves-given, leaves-refused}
 use Rattle.clib.proofs.hurlyburn_font_name_place.Statement.{statement}
 use Rattle.clib.proofs.hurlyburn_font_name_place.Tie as tie
 

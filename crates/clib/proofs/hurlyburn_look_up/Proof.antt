@@ -12,7 +12,7 @@ use Rattle.numbers.specs.Signs.{toTwos}
 use Rattle.widths.specs.LookUp.{lookedUp}
 use Rattle.reader.specs.Answers.{lookedAnswer}
 use Rattle.clib.specs.Answers.{inFront, lookedNumbers}
-use Rattle.clib.proofs.Laws.{leaves-short, leaves-given, leaves-refused}
+use Rattle.clib.proofs.Endings.{leaves-short, leaves-given, leaves-refused}
 use Rattle.clib.proofs.hurlyburn_look_up.Statement.{statement}
 use Rattle.clib.proofs.hurlyburn_look_up.Tie as tie
 

@@ -12,7 +12,7 @@ use Rattle.page.specs.Answers.{placedPage, placedCounts, areaAfter}
 use Rattle.reader.specs.declared.Placed as reader
 use Rattle.reader.specs.Answers.{placedAnswer}
 use Rattle.clib.specs.Answers.{ifRoom, placedNumbers}
-use Rattle.clib.proofs.Laws.{too-short, long-enough, leaves-short, leaves-given, leaves-refused}
+use Rattle.clib.proofs.Endings.{too-short, long-enough, leaves-short, leaves-given, leaves-refused}
 use Rattle.clib.proofs.hurlyburn_place_page.Statement.{statement}
 use Rattle.clib.proofs.hurlyburn_place_page.Tie as tie
 
