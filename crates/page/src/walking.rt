@@ -14,6 +14,12 @@ ghost use Rattle.page.specs.PageList.{pageOf};
 ghost use Rattle.page.specs.Placing.{placing};
 ghost use Rattle.page.specs.Steps.{Ready, settingBy, zeroCounts, finish, endingOf, Few};
 
+// The hint for the font that is selected now, in exchange for that of the font before, so that no font's search starts from nothing again.
+fn exchanged(hints: &mut [usize; 256], before: u64, after: u64, hint: usize) -> usize {
+    hints[(before % 256) as usize] = hint;
+    hints[(after % 256) as usize]
+}
+
 // Walks over the page whose commands start at a place, counts what they add, and writes each record that the area has room for.
 pub fn walk(
     file: &[u8],
@@ -36,6 +42,7 @@ pub fn walk(
     };
     let mut at = start;
     let mut hint: usize = 0;
+    let mut hints = [0usize; 256];
     let table = commands::length_table();
     loop {
         let level = page.now;
@@ -80,7 +87,10 @@ pub fn walk(
                 let last = page.stack[depth - 1];
                 page = page.pop(last);
             }
-            Turn::Select(font) => page.font = font,
+            Turn::Select(font) => {
+                hint = exchanged(&mut hints, page.font.number, font.number, hint);
+                page.font = font;
+            }
             Turn::End => return Walked::Through(counts),
             Turn::Leave => return Walked::Left(place),
         }

@@ -32,10 +32,10 @@ use Rattle.page.proofs.walking.walk.Statement.{statement}
 use Rattle.page.proofs.walking.walk.Tie as tie
 
 abbrev Inv-loop : tie.InvT-loop
-Inv-loop file widths fonts terms start out₀ ruler page₀ counts₀ at₀ hint₀ table out page counts at hint = Walking file fonts widths terms start out₀ out page counts at
+Inv-loop file widths fonts terms start out₀ ruler page₀ counts₀ at₀ hint₀ hints₀ table out page counts at hint hints = Walking file fonts widths terms start out₀ out page counts at
 
 abbrev μ-loop : tie.MeasureT-loop
-μ-loop file widths fonts terms start out₀ ruler page₀ counts₀ at₀ hint₀ table out page counts at hint = length file - at
+μ-loop file widths fonts terms start out₀ ruler page₀ counts₀ at₀ hint₀ hints₀ table out page counts at hint hints = length file - at
 
 fresh-requires : tie.Need-fresh-requires Inv-loop μ-loop
 fresh-requires c κs = tt
@@ -300,13 +300,16 @@ loop-again-7 c =
 enum-known-turn-5 : tie.Need-enum-known-turn-5 Inv-loop μ-loop
 enum-known-turn-5 c = search needs
 
+exchanged-requires : tie.Need-exchanged-requires Inv-loop μ-loop
+exchanged-requires c κs = tt
+
 loop-less-8 : tie.Need-loop-less-8 Inv-loop μ-loop
-loop-less-8 c = less (read (c .before .before .before .before .before))
+loop-less-8 c = less (read (c .before .before .before .before .before .before .before))
 
 loop-again-8 : tie.Need-loop-again-8 Inv-loop μ-loop
 loop-again-8 c =
-    let n = c .before .before .before .before .before in
-    let v = c .before .turn5 .given in
+    let n = c .before .before .before .before .before .before .before in
+    let v = c .before .before .before .turn5 .given in
     let sound = here (read n) .sound in
     to-state n (Turn.Select (v .0 .0)) (v .1) tt (record { level = before n .now; saved = savedOf (before n .depth) (before n .stack); font = v .0 .0 }) refl
     (record { now = before n .now; depth = before n .depth; font = v .0 .0; stack = before n .stack }) refl refl
@@ -376,6 +379,7 @@ walk-spec =
     loop-less-7
     loop-again-7
     enum-known-turn-5
+    exchanged-requires
     loop-less-8
     loop-again-8
     enum-told-4
