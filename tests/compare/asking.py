@@ -24,7 +24,7 @@ ANSWERS = {
 FORMS = {word: re.compile(rb"(?:refused \d+ at \d+|no input|" + form + rb")\Z") for word, form in ANSWERS.items()}
 NO_INPUT = re.compile(rb"no input\Z")
 RECORD_LINE = re.compile(rb"[cr] \d+ \d+ -?\d+ -?\d+ -?\d+ -?\d+\Z")
-MOST_RESTARTS = 40
+MOST_RESTARTS = 12
 MOST_BYTES = 1_000_000_000  # of one run's answers; a side that writes more has gone wrong
 
 
@@ -107,7 +107,8 @@ def ask_one(side, lines, folder, started):
         try:
             output, ending = side.finish(started)
         except Hung as fault:
-            number = len(split_answers(asked, started[1].read_bytes())[0])
+            with started[1].open("rb") as output:
+                number = len(split_answers(asked, output.read(MOST_BYTES // 20))[0])
             raise Hung(f"{fault}; {number} whole answers, then this line: {asked[number : number + 1]}") from None
         given, left = split_answers(asked, output)
         answers += given

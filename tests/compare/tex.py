@@ -1,6 +1,5 @@
 """What TeX itself writes, here where it is installed and kept in tests/tex, and DVItype's word on where all of it stands."""
 
-import os
 import shutil
 import subprocess
 
@@ -15,8 +14,6 @@ EVERY_RESOLUTION = (72, 99, 100, 150, 199, 200, 300, 600, 1200, 2400, 8000)
 WITNESS_RESOLUTIONS = (200, 300, 600, 1200, 8000)  # DVItype's drift is document 01's from 200 on
 FEW_WITNESS_RESOLUTIONS = (300, 1200)
 ALL_PAGES = 12  # of a longer file, the pages asked at every resolution are so many, spread over it; DVItype is asked about all
-
-FIXED_DATE = {**os.environ, "SOURCE_DATE_EPOCH": "0", "FORCE_SOURCE_DATE": "1"}
 
 TEXT = " ".join(["The quick brown fox jumps over the lazy dog, and the train of 7:42 leaves from platform 9 -- AV To fi ffl."] * 6)
 LOOP = r"\newcount\n \long\def\times#1#2{\n=0 \long\def\body{#2\advance\n by 1 \ifnum\n<#1 \expandafter\body\fi}\body}"
@@ -92,9 +89,9 @@ def typeset(folder, program, sources):
     folder.mkdir(parents=True, exist_ok=True)
     for name, text in sources.items():
         (folder / f"{name}.tex").write_text(text + "\n")
-        command = [program, "-interaction=batchmode", f"{name}.tex"]
-        # The date goes into the file's comment: a fixed one, so that the same source gives the same bytes.
-        subprocess.run(command, cwd=folder, stdin=subprocess.DEVNULL, capture_output=True, timeout=300, check=False, env=FIXED_DATE)
+        # A comment in place of the date, so that the same source gives the same bytes.
+        command = [program, "-interaction=batchmode", "-output-comment=tests/tex", f"{name}.tex"]
+        subprocess.run(command, cwd=folder, stdin=subprocess.DEVNULL, capture_output=True, timeout=300, check=False)
         made = folder / f"{name}.dvi"
         if not made.exists():
             raise AssertionError(f"{program} wrote no file for '{name}'; its words are in {folder}/{name}.log")
@@ -129,7 +126,7 @@ def ask_every_resolution(group, rng, data):
 
 
 def groups(gather, rng, folder, long):
-    """Questions about what TeX writes here, and all that DVItype has said, here or where the kept files were made."""
+    """Questions about what TeX writes in this folder, if one is given, and all that DVItype has said, here or where the kept files were made."""
     counts = [0, 0, 0]
 
     def witnessed(name, testimony):
@@ -140,7 +137,7 @@ def groups(gather, rng, folder, long):
 
     for name, testimony in kept_testimonies():
         witnessed(f"kept {name}", testimony)
-    for name, data in all_typeset(folder, long):
+    for name, data in all_typeset(folder, long) if folder else ():
         with gather(f"TeX's own: {name}") as group:
             ask_about(group, rng, data)
             ask_every_resolution(group, rng, data)
