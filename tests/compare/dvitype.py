@@ -5,6 +5,7 @@ and far are other fractions of the font's size, and a set_rule adds the rule's w
 cannot have been touched by that: `Witness` follows it through every move. (Both have the drift D = 2 from R 200 on.)
 """
 
+import functools
 import pathlib
 import re
 import subprocess
@@ -23,6 +24,10 @@ MOVE = re.compile(r" ([hv]):=-?\d+([+-]\d+)=(-?\d+), (?:hh|vv):=(-?\d+)")
 RULE = re.compile(r" height (-?\d+), width (-?\d+) (?:\((\d+)x(\d+) pixels\)|\(invisible\))")
 CODE = re.compile(r" (-?\d+)")
 INVALID = " invalid in font "
+
+
+class NoWitness(Exception):
+    """Why DVItype cannot be asked about a file."""
 
 
 class Mark:
@@ -70,13 +75,13 @@ class Witness:
             elif self.pages and not line.startswith("["):  # a line with a bracket repeats the text set
                 if command := COMMAND.match(line):
                     self.command(*command.groups())
-                if move := MOVE.search(line):
+                if self.last != "xxx" and (move := MOVE.search(line)):  # a special may say anything
                     self.move(move[1], int(move[2]), int(move[3]), int(move[4]))
         return self
 
     def command(self, name, digits, rest):
         self.last, self.set_code = name, None
-        if name == "setchar" or name in ("set", "put"):
+        if name in ("setchar", "set", "put"):
             code = int(digits) if name == "setchar" else int(CODE.match(rest)[1])
             if INVALID in rest:
                 self.pages[-1].missing += 1
@@ -87,7 +92,7 @@ class Witness:
             height, width, high, wide = RULE.match(rest).groups()
             if high:
                 self.mark("r", 0, int(height), int(width), (int(high), int(wide)))
-        elif name == "fntnum" or name == "fnt":
+        elif name in ("fntnum", "fnt"):
             self.font = int(digits) if name == "fntnum" else int(CODE.match(rest)[1])
         elif name == "push":
             self.saved.append(dict(self.same))
@@ -136,16 +141,13 @@ def in_range(unit):
     return unit.numerator <= 1_073_741_823 and 2 * unit.numerator <= unit.denominator
 
 
-def metrics(name, known={}):
+@functools.cache
+def metrics(name):
     """The fix words by code of a font's TFM file, or None if there is no such file here."""
-    if name not in known:
-        known[name] = None
-        if re.fullmatch(rb"[-\w.]+", name):
-            found = subprocess.run(["kpsewhich", name.decode() + ".tfm"], capture_output=True, text=True, check=False).stdout.strip()
-            if found:
-                with open(found, "rb") as file:
-                    known[name] = fix_words(file.read())
-    return known[name]
+    if not re.fullmatch(rb"[-\w.]+", name):
+        return None
+    found = subprocess.run(["kpsewhich", name.decode() + ".tfm"], capture_output=True, text=True, check=False).stdout.strip()
+    return fix_words(pathlib.Path(found).read_bytes()) if found else None
 
 
 def fix_words(tfm):
@@ -204,10 +206,6 @@ def unlike(answer, rows):
         if len(fields) != len(wanted) or any(b is not None and a != str(b) for a, b in zip(fields, wanted)):
             return f"row {at + 1}: {' '.join(fields) or '(none)'}, DVItype: {' '.join('?' if b is None else str(b) for b in wanted) or '(none)'}"
     return None
-
-
-class NoWitness(Exception):
-    """Why DVItype cannot be asked about a file."""
 
 
 class Testimony:

@@ -61,7 +61,8 @@ LATEX_SOURCES = {
              r"\footnote{note}\begin{itemize}\item x\item $\alpha$\end{itemize}\newpage\begin{picture}(40,40)\put(0,0){\line(1,2){20}}"
              r"\put(9,9){\circle{12}}\end{picture}\end{document}",
     "picture": r"\documentclass[12pt]{article}\begin{document}\setlength{\unitlength}{1.3mm}\begin{picture}(90,60)\thicklines"
-               r"\multiput(0,0)(7.3,3.1){9}{\vector(2,1){5}}\put(30,30){\circle*{4}}\put(30,30){\oval(20,11)[tr]}\thinlines\put(0,0){\framebox(80,50){x}}"
+               r"\multiput(0,0)(7.3,3.1){9}{\vector(2,1){5}}\put(30,30){\circle*{4}}\put(30,30){\oval(20,11)[tr]}\thinlines"
+               r"\put(0,0){\framebox(80,50){x}}"
                r"\put(5,40){\dashbox{2}(10,9)[b]{dash}}\put(50,5){\line(-1,6){4}}\put(60,9){\line(3,-4){5}}\qbezier(0,0)(30,50)(60,0)"
                r"\put(70,20){\shortstack{a\\b\\c}}\end{picture}\end{document}",
     "encodings": r"\documentclass{article}\usepackage[T1]{fontenc}\usepackage{mathptmx}\begin{document}\textsc{Small} \textbf{\'Etat} \emph{\c{c}a} "
