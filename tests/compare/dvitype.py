@@ -199,7 +199,10 @@ def halved(data, shift):
 
 def unlike(answer, rows):
     """The first row in which an answer is not what the witness said, or None."""
-    given = answer.decode(errors="replace").split("\n")
+    text = answer.decode(errors="replace")
+    if text == "\n".join([" ".join(map(str, row)) for row in rows]):
+        return None  # the quick way, where nothing is left open
+    given = text.split("\n")
     for at in range(max(len(given), len(rows))):
         fields = given[at].split(" ") if at < len(given) else []
         wanted = rows[at] if at < len(rows) else []

@@ -13,6 +13,7 @@ from tables import MOST_RECORDS
 EVERY_RESOLUTION = (72, 99, 100, 150, 199, 200, 300, 600, 1200, 2400, 8000)
 WITNESS_RESOLUTIONS = (200, 300, 600, 1200, 8000)  # DVItype's drift is document 01's from 200 on
 FEW_WITNESS_RESOLUTIONS = (300, 1200)
+OTHERS_RESOLUTIONS = (300,)
 ALL_PAGES = 12  # of a longer file, the pages asked at every resolution are so many, spread over it; DVItype is asked about all
 
 TEXT = " ".join(["The quick brown fox jumps over the lazy dog, and the train of 7:42 leaves from platform 9 -- AV To fi ffl."] * 6)
@@ -156,7 +157,7 @@ def witness_others(gather, paths):
     counts, reasons = [0, 0, 0], {}
     for path in paths:
         try:
-            testimony = hear(path.read_bytes(), FEW_WITNESS_RESOLUTIONS)
+            testimony = hear(path.read_bytes(), OTHERS_RESOLUTIONS)
         except NoWitness as reason:
             reasons[str(reason)] = reasons.get(str(reason), 0) + 1
             continue
