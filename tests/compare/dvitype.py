@@ -24,6 +24,9 @@ MOVE = re.compile(r" ([hv]):=-?\d+([+-]\d+)=(-?\d+), (?:hh|vv):=(-?\d+)")
 RULE = re.compile(r" height (-?\d+), width (-?\d+) (?:\((\d+)x(\d+) pixels\)|\(invisible\))")
 CODE = re.compile(r" (-?\d+)")
 INVALID = " invalid in font "
+POSTAMBLE = re.compile(r"Postamble starts at byte (\d+)\.")
+TOTALS = re.compile(r"maxv=-?\d+, maxh=-?\d+, maxstackdepth=(\d+), totalpages=(\d+)")
+LOADED = re.compile(r"Font \d+: .*---loaded at size \d+ DVI units")
 
 
 class NoWitness(Exception):
@@ -58,6 +61,8 @@ class Witness:
     def __init__(self, scales):
         self.scales = scales  # by font number
         self.pages, self.widths = [], {}  # widths by font number and code mod 256, as DVItype adds them to h
+        self.post = self.depth = self.page_count = None
+        self.font_count = 0
         self.begin()
 
     def begin(self):
@@ -72,12 +77,23 @@ class Witness:
             elif level := LEVEL.match(line):
                 self.at = {"h": int(level[1]), "v": int(level[2])}
                 self.pixels = {"h": int(level[3]), "v": int(level[4])}
-            elif self.pages and not line.startswith("["):  # a line with a bracket repeats the text set
+            elif not self.pages:
+                self.heading(line)
+            elif not line.startswith("["):  # a line with a bracket repeats the text set
                 if command := COMMAND.match(line):
                     self.command(*command.groups())
                 if self.last != "xxx" and (move := MOVE.search(line)):  # a special may say anything
                     self.move(move[1], int(move[2]), int(move[3]), int(move[4]))
         return self
+
+    def heading(self, line):
+        """What stands before the first page is about the whole file."""
+        if found := POSTAMBLE.match(line):
+            self.post = int(found[1])
+        elif found := TOTALS.match(line):
+            self.depth, self.page_count = int(found[1]), int(found[2])
+        elif LOADED.match(line):
+            self.font_count += 1
 
     def command(self, name, digits, rest):
         self.last, self.set_code = name, None
@@ -212,10 +228,11 @@ def unlike(answer, rows):
 
 
 class Testimony:
-    """What DVItype says of a file: pages with h and v, and for each R the pages with hh, vv and sides in pixels."""
+    """What DVItype says of a file: how many pages and fonts, the depth and the place of *post*; widths; pages with h and v, and for each R
+    the pages with hh, vv and sides in pixels."""
 
-    def __init__(self, data, rows, widths, pages, placed):
-        self.data, self.rows, self.widths, self.pages, self.placed = data, rows, widths, pages, placed
+    def __init__(self, data, rows, volume, widths, pages, placed):
+        self.data, self.rows, self.volume, self.widths, self.pages, self.placed = data, rows, volume, widths, pages, placed
         commands, _ = dvi.commands_of(data)
         self.fonts = {font.number: font for font in dvi.fonts_of(commands)}
         self.units = tuple(dvi.signed(commands[0][start : start + 4]) for start in (2, 6, 10))
@@ -232,6 +249,14 @@ class Testimony:
 
     def ask(self, group, refusable=False):
         """Asks for every page, with what is to be answered. Gives how many marks have h and v compared, and how many hh and vv are."""
+        line = b"check %s" % group.keep(self.data)
+        group.ask(line)
+        group.expect(line, [["accepted", *self.volume]], refusable)
+        for (number, code), width in self.widths.items():
+            font = self.fonts[number]
+            line = b"scale %d %d %d %d %d" % (font.scale, *self.rows[font.check_sum, font.scale, code])
+            group.ask(line)
+            group.expect(line, [["width", width]])
         stated = dict.fromkeys(self.rows, -77)  # escapements do not count where D is 0
         table = group.keep(table_of(self.rows, stated))
         for shift in (0, 1):
@@ -296,4 +321,5 @@ def hear(data, resolutions, used_alone=False):
         rows = true_widths(fonts, used)
     if len(rows) > MOST_RECORDS:
         raise NoWitness("its characters are more than a width table holds")
-    return Testimony(data, rows, first.widths, first.pages, {resolution: one.pages for resolution, one in heard.items()})
+    volume = (first.page_count, first.font_count, first.depth, first.post)
+    return Testimony(data, rows, volume, first.widths, first.pages, {resolution: one.pages for resolution, one in heard.items()})

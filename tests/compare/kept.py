@@ -2,6 +2,7 @@
 
 NAME.dvi is what TeX wrote, NAME.widths the width table of its characters (escapements 0), NAME.typed what DVItype said:
 
+    volume PAGES FONTS DEPTH POST                the whole file
     dpi R R ...                                  the resolutions of the columns below
     w FONT CODE WIDTH                            what setting this character adds to h
     page MISSING SPECIALS                        a page begins; its marks follow in order
@@ -27,7 +28,7 @@ def told(number):
 def written(testimony, version):
     """The testimony as text."""
     resolutions = list(testimony.placed)
-    lines = [version, "dpi " + " ".join(map(str, resolutions))]
+    lines = [version, "volume " + " ".join(map(str, testimony.volume)), "dpi " + " ".join(map(str, resolutions))]
     lines += [f"w {font} {code} {width}" for (font, code), width in sorted(testimony.widths.items())]
     for number, page in enumerate(testimony.pages):
         lines.append(f"page {page.missing} {page.specials}")
@@ -49,10 +50,12 @@ def read(data, table, text):
     """The testimony that `written` wrote."""
     records = [table[at : at + RECORD] for at in range(0, len(table), RECORD)]
     rows = {(int.from_bytes(r[:4], "big"), int.from_bytes(r[4:8], "big"), r[8]): r[12:16] for r in records}
-    widths, pages, placed, resolutions = {}, [], {}, []
+    volume, widths, pages, placed, resolutions = None, {}, [], {}, []
     for line in text.split("\n")[1:]:
         word, *rest = line.split(" ")
-        if word == "dpi":
+        if word == "volume":
+            volume = numbers(rest)
+        elif word == "dpi":
             resolutions = [int(r) for r in rest]
             placed = {resolution: [] for resolution in resolutions}
         elif word == "w":
@@ -73,7 +76,7 @@ def read(data, table, text):
                 placed[resolution][-1].marks.append(Mark(word, font, h, v, value, other, hh, vv, sides))
         elif word:
             raise AssertionError(f"not a line of a kept testimony: {line}")
-    return Testimony(data, rows, widths, pages, placed)
+    return Testimony(data, rows, volume, widths, pages, placed)
 
 
 def kept_testimonies():
