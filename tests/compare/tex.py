@@ -50,6 +50,7 @@ PLAIN_SOURCES = {
     "boxes": r"\def\n#1{\hbox{\raise1pt\vbox{\hbox{a}\kern-2pt\moveright3pt\hbox{b#1}}}}\n{\n{\n{\n{\n{\n{\n{\n{\n{deep}}}}}}}}}"
              r"\setbox1\hbox{}\hbox{\copy1\vbox{\vbox{\copy1}}}\accent18 e\'e\llap{left}\rlap{right}\bye",
     "deep": LOOP + r"\setbox1\hbox{x}\times{45}{\setbox1\hbox{\kern1pt\lower.3pt\vbox{\kern.1pt\box1}\kern-.7pt y}}\box1\bye",
+    "too-deep": LOOP + r"\setbox1\hbox{x}\times{55}{\setbox1\hbox{\kern1pt\lower.3pt\vbox{\kern.1pt\box1}\kern-.7pt y}}\box1\bye",
     "kerns": r"\def\k#1{a\kern#1b\kern-#1c\raise#1\hbox{d}\lower#1\hbox{e}\hskip-#1 f\vskip-#1}"
              r"\k{1pt}\k{1.6pt}\k{1.9pt}\k{2pt}\k{6pt}\k{6.7pt}\k{8pt}\k{8.1pt}\k{8.9pt}\k{9pt}\k{20pt}\k{3sp}\bye",
     "accents": r"\def\a#1{\'#1\`#1\^#1\"#1\~#1\=#1\.#1\u#1\v#1\H#1\t#1#1\c#1\d#1\b#1 }\a a\a e\a o\a u\a A\a E{\it\a a\a T}\'\i\"\j\bye",
@@ -57,6 +58,7 @@ PLAIN_SOURCES = {
     "leaders": r"\line{Bonn\leaders\hbox to 1em{\hss.\hss}\hfil 7}\line{\cleaders\hrule\hfill x\xleaders\hbox{*}\hfill}"
                r"\vbox to 2in{\leaders\vbox to 11pt{\hbox{:}\vss}\vfil}\bye",
 }
+REFUSED = {"sizes-65": 7, "too-deep": 6}  # what document 01 does not take, for more fonts or more depth than it allows
 LATEX_SOURCES = {
     "latex": r"\documentclass{article}\begin{document}\tableofcontents\section{One}" + TEXT + r"\begin{tabular}{|l|r|}\hline a&b\\\hline\end{tabular}"
              r"\footnote{note}\begin{itemize}\item x\item $\alpha$\end{itemize}\newpage\begin{picture}(40,40)\put(0,0){\line(1,2){20}}"
@@ -143,8 +145,10 @@ def groups(gather, rng, folder, long):
         with gather(f"TeX's own: {name}") as group:
             ask_about(group, rng, data)
             ask_every_resolution(group, rng, data)
-        if len(dvi.fonts_of(dvi.commands_of(data)[0])) > 64:
-            continue  # refused as a whole; DVItype allows more fonts
+            if name in REFUSED:
+                group.expect(b"check %s" % group.keep(data), [["refused", REFUSED[name], "at", None]])
+        if name in REFUSED:
+            continue
         if shutil.which("dvitype"):
             witnessed(name, hear(data, WITNESS_RESOLUTIONS if long else FEW_WITNESS_RESOLUTIONS))
         else:
