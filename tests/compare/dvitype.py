@@ -301,6 +301,8 @@ class Testimony:
 
 def hear(data, resolutions, used_alone=False):
     """DVItype's testimony about a file. NoWitness if it gives none."""
+    if len(data) > LONGEST_FILE:
+        raise NoWitness("it is longer than the desk holds")
     commands, _ = dvi.commands_of(data)
     fonts = dvi.fonts_of(commands)
     if not commands or commands[0][0] != dvi.PRE or dvi.page_count(commands) == 0:
