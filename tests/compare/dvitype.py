@@ -18,12 +18,13 @@ from tables import MOST_RECORDS, record
 
 MOST_IN_AREA = WHOLE_AREA // 20
 
-COMMAND = re.compile(r"\d+: ([a-z]+)(\d*)(.*)")
+COMMAND = re.compile(r"(\d+): ([a-z]+)(\d*)(.*)")
 LEVEL = re.compile(r"level \d+:\(h=(-?\d+),v=(-?\d+),.*,hh=(-?\d+),vv=(-?\d+)\)")
 MOVE = re.compile(r" ([hv]):=-?\d+([+-]\d+)=(-?\d+), (?:hh|vv):=(-?\d+)")
 RULE = re.compile(r" height (-?\d+), width (-?\d+) (?:\((\d+)x(\d+) pixels\)|\(invisible\))")
 CODE = re.compile(r" (-?\d+)")
 INVALID = " invalid in font "
+OVERFLOW = " arithmetic overflow! parameter changed "
 POSTAMBLE = re.compile(r"Postamble starts at byte (\d+)\.")
 TOTALS = re.compile(r"maxv=-?\d+, maxh=-?\d+, maxstackdepth=(\d+), totalpages=(\d+)")
 LOADED = re.compile(r"Font \d+: .*---loaded at size \d+ DVI units")
@@ -43,8 +44,11 @@ class Mark:
 
 
 class Page:
+    """`overflow` is the place of the first command that would take h or v out of their range, which is DVItype's range too. DVItype then
+    goes on with another parameter; what it says of the rest of the page is left aside."""
+
     def __init__(self):
-        self.marks, self.specials, self.missing = [], 0, 0
+        self.marks, self.specials, self.missing, self.overflow = [], 0, 0, None
 
 
 def near_there_and_here(direction, n, scale):
@@ -67,7 +71,7 @@ class Witness:
 
     def begin(self):
         self.at, self.pixels, self.same = {"h": 0, "v": 0}, {"h": 0, "v": 0}, {"h": True, "v": True}
-        self.saved, self.font, self.last, self.set_code = [], None, "", None
+        self.saved, self.font, self.last, self.set_code, self.place = [], None, "", None, 0
 
     def read(self, text):
         for line in text.split("\n"):
@@ -81,7 +85,10 @@ class Witness:
                 self.heading(line)
             elif not line.startswith("["):  # a line with a bracket repeats the text set
                 if command := COMMAND.match(line):
-                    self.command(*command.groups())
+                    self.place = int(command[1])
+                    self.command(*command.groups()[1:])
+                if self.last != "xxx" and OVERFLOW in line and self.pages[-1].overflow is None:
+                    self.pages[-1].overflow = self.place
                 if self.last != "xxx" and (move := MOVE.search(line)):  # a special may say anything
                     self.move(move[1], int(move[2]), int(move[3]), int(move[4]))
         return self
@@ -124,7 +131,7 @@ class Witness:
     def move(self, way, n, to, pixel):
         self.at[way], self.pixels[way] = to, pixel
         if self.last in ("setchar", "set"):
-            if self.set_code is not None:
+            if self.set_code is not None and self.pages[-1].overflow is None:
                 self.widths[self.font, self.set_code] = n
         else:
             there, here = near_there_and_here(way, n, self.scales.get(self.font, 0))
@@ -203,13 +210,14 @@ def pixel_widths(rows, unit):
 # are. A second file, with all that stands on its pages moved by 1 to the right and down, tells the half that the first one rounds away.
 HALF_UNITS = (2540, 1, 1000)
 HALF_RESOLUTION = 50
+SHIFT = dvi.right(1) + dvi.down(1)
 
 
 def halved(data, shift):
     """The file in these units, with moves by 1 at the start of each page if shifted."""
     commands, tail = dvi.commands_of(data)
     commands[0] = commands[0][:2] + b"".join(dvi.big(n, 4) for n in HALF_UNITS) + commands[0][14:]
-    moves = [dvi.right(1), dvi.down(1)] if shift else []
+    moves = [SHIFT] if shift else []
     return b"".join(dvi.mended([c for command in commands for c in (command, *(moves if command[0] == dvi.BOP else []))])) + tail
 
 
@@ -265,7 +273,8 @@ class Testimony:
                 line = place(file, table, HALF_RESOLUTION, number)
                 group.ask(line)
                 group.expect(line, self.expected(page, number, stated, lambda mark: [half(mark.h + shift), half(mark.v + shift)],
-                                                 lambda mark: [(mark.value + 1) // 2, (mark.other + 1) // 2]), refusable)
+                                                 lambda mark: [(mark.value + 1) // 2, (mark.other + 1) // 2], len(SHIFT) * shift * number),
+                             refusable)
         file, pixels = group.keep(self.data), 0
         for resolution, pages in self.placed.items():
             stated, unit = self.escapements(resolution), unit_of(self.units, resolution)
@@ -284,8 +293,11 @@ class Testimony:
                 pixels += sum((mark.hh is not None) + (mark.vv is not None) for mark in page.marks)
         return sum(len(page.marks) for page in self.pages), pixels
 
-    def expected(self, page, number, stated, pixels, sides):
-        """The whole answer as rows of fields, None for a field that DVItype does not tell."""
+    def expected(self, page, number, stated, pixels, sides, added=0):
+        """The whole answer as rows of fields, None for a field that DVItype does not tell. `added` bytes stand before what is on the page
+        that the file DVItype read does not have."""
+        if page.overflow is not None:
+            return [["refused", 16, "at", page.overflow + added]]
         if len(page.marks) > MOST_IN_AREA:
             return [["refused", 17, "at", 0]]
         rows = []

@@ -31,6 +31,7 @@ def written(testimony, version):
     lines = [version, "volume " + " ".join(map(str, testimony.volume)), "dpi " + " ".join(map(str, resolutions))]
     lines += [f"w {font} {code} {width}" for (font, code), width in sorted(testimony.widths.items())]
     for number, page in enumerate(testimony.pages):
+        assert page.overflow is None, "there is no line for that"
         lines.append(f"page {page.missing} {page.specials}")
         for at, mark in enumerate(page.marks):
             head = (mark.font, mark.value) if mark.kind == "c" else (mark.value, mark.other)

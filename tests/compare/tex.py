@@ -51,6 +51,8 @@ PLAIN_SOURCES = {
              r"\setbox1\hbox{}\hbox{\copy1\vbox{\vbox{\copy1}}}\accent18 e\'e\llap{left}\rlap{right}\bye",
     "deep": LOOP + r"\setbox1\hbox{x}\times{45}{\setbox1\hbox{\kern1pt\lower.3pt\vbox{\kern.1pt\box1}\kern-.7pt y}}\box1\bye",
     "too-deep": LOOP + r"\setbox1\hbox{x}\times{55}{\setbox1\hbox{\kern1pt\lower.3pt\vbox{\kern.1pt\box1}\kern-.7pt y}}\box1\bye",
+    "range": r"a\eject\hbox to 0pt{b\kern\maxdimen c\kern\maxdimen d\kern1pt e\hss}\eject"
+             r"\vbox to 0pt{\hbox{f}\kern-\maxdimen\hbox{g}\kern-\maxdimen\kern-99pt\hbox{h}\vss}\eject i\bye",
     "kerns": r"\def\k#1{a\kern#1b\kern-#1c\raise#1\hbox{d}\lower#1\hbox{e}\hskip-#1 f\vskip-#1}"
              r"\k{1pt}\k{1.6pt}\k{1.9pt}\k{2pt}\k{6pt}\k{6.7pt}\k{8pt}\k{8.1pt}\k{8.9pt}\k{9pt}\k{20pt}\k{3sp}\bye",
     "accents": r"\def\a#1{\'#1\`#1\^#1\"#1\~#1\=#1\.#1\u#1\v#1\H#1\t#1#1\c#1\d#1\b#1 }\a a\a e\a o\a u\a A\a E{\it\a a\a T}\'\i\"\j\bye",
