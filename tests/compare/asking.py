@@ -4,8 +4,12 @@ A line is bytes without its line end. One process of a side answers many thousan
 through files, so that neither side waits for the other.
 """
 
+import contextlib
+import os
 import re
+import signal
 import subprocess
+import time
 
 ANSWERS = {
     b"read": rb"command \d+ \d+ \d+",
@@ -20,13 +24,18 @@ ANSWERS = {
 FORMS = {word: re.compile(rb"(?:refused \d+ at \d+|no input|" + form + rb")\Z") for word, form in ANSWERS.items()}
 NO_INPUT = re.compile(rb"no input\Z")
 RECORD_LINE = re.compile(rb"[cr] \d+ \d+ -?\d+ -?\d+ -?\d+ -?\d+\Z")
-MOST_RESTARTS = 40
+MOST_RESTARTS = 12
+MOST_BYTES = 1_000_000_000  # of one run's answers; a side that writes more has gone wrong
+
+
+class Hung(Exception):
+    """A side did not end. Asking it again would take as long again, so the comparison stops at once."""
 
 
 class Side:
     """One of the two programs."""
 
-    def __init__(self, name, command, directory, seconds=900):
+    def __init__(self, name, command, directory, seconds):
         self.name, self.command, self.directory, self.seconds = name, command, directory, seconds
 
     def __str__(self):
@@ -36,25 +45,40 @@ class Side:
         """Starts a process on these lines."""
         questions = folder / f"{self.name}.questions"
         questions.write_bytes(b"".join(line + b"\n" for line in lines))
-        output = folder / f"{self.name}.answers"
-        with questions.open("rb") as given, output.open("wb") as taken:
-            process = subprocess.Popen(
-                self.command, cwd=self.directory, stdin=given, stdout=taken, stderr=subprocess.PIPE
-            )
-        return process, output
+        output, complaints = folder / f"{self.name}.answers", folder / f"{self.name}.complaints"
+        with questions.open("rb") as given, output.open("wb") as taken, complaints.open("wb") as said:
+            # A session of its own, so that whatever it starts can be ended with it.
+            process = subprocess.Popen(self.command, cwd=self.directory, stdin=given, stdout=taken, stderr=said, start_new_session=True)
+        return process, output, complaints
 
     def finish(self, started):
         """What the process wrote, and how it ended if that was not as it should be."""
-        process, output = started
+        process, output, complaints = started
         try:
-            _, complaint = process.communicate(timeout=self.seconds)
-        except subprocess.TimeoutExpired:
-            process.kill()
-            process.communicate()
-            return output.read_bytes(), f"no end within {self.seconds} s"
-        text = complaint.decode(errors="replace").strip()[-300:]
-        ending = f"exit status {process.returncode} {text}" if process.returncode else None
+            self.wait(process, output)
+        except BaseException:
+            self.end(process)
+            raise
+        text = complaints.read_bytes().decode(errors="replace").strip()[-300:]
+        ending = f"exit status {process.returncode} {text}".strip() if process.returncode else None
         return output.read_bytes(), ending
+
+    def wait(self, process, output):
+        until = time.monotonic() + self.seconds
+        while True:
+            try:
+                process.wait(timeout=0.5)
+                return
+            except subprocess.TimeoutExpired:
+                if time.monotonic() > until:
+                    raise Hung(f"{self.name}: no end within {self.seconds} s") from None
+                if output.stat().st_size > MOST_BYTES:
+                    raise Hung(f"{self.name}: more than {MOST_BYTES} bytes of answers") from None
+
+    def end(self, process):
+        with contextlib.suppress(ProcessLookupError):
+            os.killpg(process.pid, signal.SIGKILL)
+        process.wait()
 
 
 def split_answers(lines, output):
@@ -80,7 +104,12 @@ def ask_one(side, lines, folder, started):
     answers, complaints = [], []
     for _ in range(MOST_RESTARTS):
         asked = lines[len(answers) :]
-        output, ending = side.finish(started)
+        try:
+            output, ending = side.finish(started)
+        except Hung as fault:
+            with started[1].open("rb") as output:
+                number = len(split_answers(asked, output.read(MOST_BYTES // 20))[0])
+            raise Hung(f"{fault}; {number} whole answers, then this line: {asked[number : number + 1]}") from None
         given, left = split_answers(asked, output)
         answers += given
         if len(given) < len(asked):
@@ -103,7 +132,12 @@ def ask_both(sides, lines, folder):
     if not lines:
         return [[], []], []
     started = [side.start(lines, folder) for side in sides]
-    pairs = [ask_one(side, lines, folder, process) for side, process in zip(sides, started)]
+    try:
+        pairs = [ask_one(side, lines, folder, process) for side, process in zip(sides, started)]
+    finally:
+        for side, (process, *_) in zip(sides, started):
+            if process.poll() is None:  # the other side hung
+                side.end(process)
     complaints = [f"{side.name}: {text}" for side, (_, texts) in zip(sides, pairs) for text in texts]
     return [pair[0] for pair in pairs], complaints
 
