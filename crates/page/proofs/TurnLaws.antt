@@ -3,15 +3,14 @@
 use mathlib.Core.Path.{_≡_, refl, sym, ap, ap₂, _∙_, subst}
 use mathlib.Core.Bool.{Bool, true, false, cond, not, _&&_, false≢true}
 use mathlib.Core.List.{List}
-use Prim.Native.Nat.{ℕ, zero, suc, _+_, _<_, _≤_, _^_}
-use native.Mathlib.Nat.{pow-suc}
+use Prim.Native.Nat.{ℕ, _+_, _<_, _≤_, _^_}
 use native.Mathlib.Omega.{arith}
 use lib.Dec.{leb, eqb}
 use lib.ListN.{length, getD}
 use lib.IntN.{ℤ, natAbs, _+ℤ_}
 use borrow.Author.Tests.{leb-true, not-true}
 use Rattle.numbers.specs.Bytes.{unsignedAt}
-use Rattle.numbers.proofs.Bytes.{power-le}
+use Rattle.numbers.proofs.Bytes.{power-le, unsigned-below}
 use Rattle.numbers.proofs.Signed.{abs-cond, from-small}
 use Rattle.commands.specs.declared.Kind.{Kind}
 use Rattle.commands.specs.declared.Kind.the-variants as Kind
@@ -176,15 +175,10 @@ module _ (level : Level) (b : Bounded level) {n : ℤ} (small : natAbs n ≤ 2 ^
   bounded-z = record { h-in = b .h-in; v-in = b .v-in; w-in = b .w-in; x-in = b .x-in; y-in = b .y-in; z-in = small; hh-in = b .hh-in; vv-in = b .vv-in }
 
 module _ (params : List ℕ) (bytes : (i : ℕ) → getD params i 0 < 256) where
-  unsigned-below : (count : ℕ) → unsignedAt params 0 count < 256 ^ count
-  unfolding unsignedAt
-  unsigned-below zero = omega arith
-  unsigned-below (suc count) = omega (arith, unsigned-below count, bytes (0 + count), pow-suc 256 count)
-
   -- a distance of at most four bytes is one of 32 bits
   distance-small : length params ≤ 4 → natAbs (distance params) ≤ 2 ^ 31
   distance-small h =
-      omega (arith, from-small (256 ^ length params) (unsignedAt params 0 (length params)) (unsigned-below (length params)), power-le (length params) 4 h)
+      omega (arith, from-small (256 ^ length params) (unsignedAt params 0 (length params)) (unsigned-below params 0 (length params) (λ i h. bytes (0 + i))), power-le (length params) 4 h)
 
   or-small : (register : ℤ) → natAbs register ≤ 2 ^ 31 → length params ≤ 4 → natAbs (distanceOr register params) ≤ 2 ^ 31
   or-small register r h = omega (arith, abs-cond (eqb (length params) 0) register (distance params), r, distance-small h)
@@ -263,7 +257,7 @@ module _ (terms : Terms) (table : List ℕ) (volume : List Command) (level : Lev
       ∙ ap (λ (added : Added). cond (leaves (level .h +ℤ ruleWidth params)) leavesRange (goes (withNumbers (stateWith level saved font) (ruleMoved (terms .ruler) (font .scale) (ruleWidth params) level)) added)) e
 
   width-small : natAbs (ruleWidth params) ≤ 2 ^ 31
-  width-small = omega (arith, from-small (256 ^ 4) (unsignedAt params 4 4) (unfold unsignedAt in omega (arith, bytes (4 + 0), bytes (4 + 1), bytes (4 + 2), bytes (4 + 3))))
+  width-small = omega (arith, from-small (256 ^ 4) (unsignedAt params 4 4) (unsigned-below params 4 4 (λ i h. bytes (4 + i))))
 
   pub rule-sets : (r : Asked) → RuleAsks terms level true params r
       → Comes (terms .ruler) level font (λ s. setRule (settingBy terms table volume) s (ruleHeight params) (ruleWidth params)) (r .turn) (r .adds) × Plain (r .turn)

@@ -1,4 +1,4 @@
-/* The kit's clang comes without headers of its own: what the bench needs of this one. */
+/* The kit brings neither its C library's headers nor its compiler's. Of this one, what the C of bench/, tests/ and include/ uses. */
 #ifndef STDINT_H
 #define STDINT_H
 typedef __INT8_TYPE__ int8_t;
@@ -9,4 +9,5 @@ typedef __UINT8_TYPE__ uint8_t;
 typedef __UINT16_TYPE__ uint16_t;
 typedef __UINT32_TYPE__ uint32_t;
 typedef __UINT64_TYPE__ uint64_t;
+#define UINT32_MAX 4294967295u
 #endif

@@ -1,4 +1,4 @@
-/* The kit brings its C library without headers. Of this one, what the programs here use, as x86-64 Linux has it. */
+/* The kit brings neither its C library's headers nor its compiler's. Of this one, what the C of bench/, tests/ and include/ uses. */
 #ifndef STDLIB_H
 #define STDLIB_H
 #include <stddef.h>
