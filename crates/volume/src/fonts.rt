@@ -6,14 +6,13 @@ use commands::Read;
 use commands::parameters;
 use state::Page;
 ghost use mathlib.Core.Path.{_≡_};
-ghost use mathlib.Core.Bool.{true};
+ghost use mathlib.Core.Bool.{true, false};
 ghost use Prim.Native.Nat.{_+_, _≤_, _<_, _^_};
 ghost use lib.ListN.{length, getD};
 ghost use lib.IntN.{natAbs};
 ghost use Rattle.commands.specs.declared.Kind.the-variants.{Define, Select};
 ghost use Rattle.commands.specs.Kinds.{kindOf};
 ghost use Rattle.commands.specs.Lengths.{fixedLength};
-ghost use Rattle.volume.specs.Past.{defines};
 ghost use Rattle.volume.specs.Rules.{lawfulFont};
 ghost use Rattle.volume.specs.Steps.{SelectionIs, SayingIs, DefinitionIs, LawfullyNumbered, tableAfter};
 
@@ -117,23 +116,10 @@ pub fn lawful_definition(
     count < Page::FONTS
 }
 
-// Whether a command is a definition that stands before post, or after it.
-fn defines_font(after: bool, stage: Stage, kind: Kind) -> bool
-    ensures { λ r. ⌜ r ≡ defines after stage kind ⌝ }
-{
-    match kind {
-        Kind::Define => {
-            let passed = rules::after_post(stage);
-            if after { passed } else { !passed }
-        }
-        _ => false,
-    }
-}
-
-// The table of the definitions before post, or after it, after one more command at a place.
+// The tables of the definitions before post and after it, after one more command at a place.
 pub fn note(
-    table: &mut [u32; 256],
-    after: bool,
+    fonts: &mut [u32; 256],
+    again: &mut [u32; 256],
     stage: Stage,
     kind: Kind,
     opcode: u8,
@@ -142,10 +128,16 @@ pub fn note(
 )
     requires { ⌜ (kind ≡ kindOf opcode) × (fixedLength opcode ≤ length (now params)) ⌝ }
     requires { ⌜ (at + 1 < 2 ^ 32) × LawfullyNumbered opcode (now params) ⌝ }
-    ensures { λ _. ⌜ now (table .exit) ≡ tableAfter after stage kind opcode (now (params .entry)) at (now (table .entry)) ⌝ }
+    ensures { λ _. ⌜ now (fonts .exit) ≡ tableAfter false stage kind opcode (now (params .entry)) at (now (fonts .entry)) ⌝ }
+    ensures { λ _. ⌜ now (again .exit) ≡ tableAfter true stage kind opcode (now (params .entry)) at (now (again .entry)) ⌝ }
 {
-    if defines_font(after, stage, kind) {
+    if let Kind::Define = kind {
         let number = parameters::defined_font(opcode, params);
-        table[number as usize] = (at + 1) as u32;
+        let entry = (at + 1) as u32;
+        if rules::after_post(stage) {
+            again[number as usize] = entry;
+        } else {
+            fonts[number as usize] = entry;
+        }
     }
 }

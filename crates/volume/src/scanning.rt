@@ -91,8 +91,7 @@ pub fn scan(file: &[u8], page: usize, fonts: &mut [u32; 256]) -> Scanned
                         place: at,
                     });
                 }
-                fonts::note(&mut *fonts, false, stage, kind, opcode, params, at);
-                fonts::note(&mut again, true, stage, kind, opcode, params, at);
+                fonts::note(&mut *fonts, &mut again, stage, kind, opcode, params, at);
                 v = progress::after(v, page, kind, params);
                 if let Kind::PostPost = kind {
                     return ended(file, next, v);

@@ -110,7 +110,7 @@ returns-3 c =
 
 note-requires : tie.Need-note-requires Inv-loop μ-loop
 note-requires c κs =
-    let e = c .before in
+    let e = c .before .before in
     let f = e .before in
     let k = f .before .before .before in
     let t = k .before .before in
@@ -118,12 +118,9 @@ note-requires c κs =
     let r = t .before .reading .given .0 .0 in
     ((k .kind-of .ensures, fixed-fits g r (read t)), (omega (arith, next-small g r (read t)), lawfully-numbered g r (read t) (k .kind-of .result) (k .kind-of .ensures) (f .fault-of .result) (f .fault-of .ensures) (e .if2 .left)))
 
-note-requires-2 : tie.Need-note-requires-2 Inv-loop μ-loop
-note-requires-2 c κs = note-requires (c .before .before) κs
-
 after-requires : tie.Need-after-requires Inv-loop μ-loop
 after-requires c κs =
-    let k = c .before .before .before .before .before .before .before .before in
+    let k = c .before .before .before .before .before .before .before in
     let t = k .before .before in
     let g = going (short t) in
     let r = t .before .reading .given .0 .0 in
@@ -134,12 +131,12 @@ enum-told : tie.Need-enum-told Inv-loop μ-loop
 enum-told c = search needs
 
 ended-requires : tie.Need-ended-requires Inv-loop μ-loop
-ended-requires c κs = read (c .before .before .before .before .before .before .before .before .before .before .before .before .before) .inside
+ended-requires c κs = read (c .before .before .before .before .before .before .before .before .before .before .before .before) .inside
 
 -- what the turn leads to
 module _ (c : tie.After-after Inv-loop μ-loop) where
   abbrev clean : tie.Else2 Inv-loop μ-loop
-  clean = c .before .before .before .before .before
+  clean = c .before .before .before .before
 
   abbrev kinded : tie.After-kind-of Inv-loop μ-loop
   kinded = clean .before .before .before .before
@@ -153,12 +150,12 @@ module _ (c : tie.After-after Inv-loop μ-loop) where
   abbrev start : tie.Start Inv-loop μ-loop
   start = entered (short told)
 
-  turn : Turned (now (start .args .file)) (start .args .page) kind (told .before .reading .given .0 .0 .next) (c .after .result) (c .before .before .before .note .last .0) (c .before .note2 .last .0)
+  turn : Turned (now (start .args .file)) (start .args .page) kind (told .before .reading .given .0 .0 .next) (c .after .result) (c .before .note .last .0) (c .before .note .last .1 .0)
   turn =
       turned (going (short told)) (told .before .reading .given .0 .0) (read told) kind (kinded .kind-of .ensures)
       (clean .before .fault-of .result) (clean .before .fault-of .ensures) (clean .if2 .left)
-      (c .after .result) (c .after .ensures) (c .before .before .before .note .last .0) (c .before .note2 .last .0)
-      (c .before .before .before .note .ensures) (c .before .note2 .ensures)
+      (c .after .result) (c .after .ensures) (c .before .note .last .0) (c .before .note .last .1 .0)
+      (c .before .note .ensures .0) (c .before .note .ensures .1)
 
 returns-4 : tie.Need-returns-4 Inv-loop μ-loop
 returns-4 c =
@@ -197,7 +194,6 @@ scan-spec =
     fault-of-requires
     returns-3
     note-requires
-    note-requires-2
     after-requires
     enum-told
     ended-requires
