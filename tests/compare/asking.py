@@ -47,7 +47,7 @@ class Side:
         questions.write_bytes(b"".join(line + b"\n" for line in lines))
         output, complaints = folder / f"{self.name}.answers", folder / f"{self.name}.complaints"
         with questions.open("rb") as given, output.open("wb") as taken, complaints.open("wb") as said:
-            # A session of its own, so that whatever it starts can be ended with it.
+            # A process group of its own, so that whatever it starts can be ended with it.
             process = subprocess.Popen(self.command, cwd=self.directory, stdin=given, stdout=taken, stderr=said, start_new_session=True)
         return process, output, complaints
 

@@ -45,6 +45,7 @@ abbrev pub unsigned32 : Unsigned → Unsigned32
 unsigned32 (Is value) = Unsigned32.Is value
 unsigned32 Not = Unsigned32.Not
 
+-- of a word
 abbrev pub unsigned32Of : List ℕ → Unsigned32
 unsigned32Of word = unsigned32 (decimalOf 4294967295 word)
 
@@ -53,6 +54,7 @@ abbrev pub byte : Unsigned → Byte
 byte (Is value) = Byte.Is value
 byte Not = Byte.Not
 
+-- of a word
 abbrev pub byteOf : List ℕ → Byte
 byteOf word = byte (decimalOf 255 word)
 
@@ -61,10 +63,12 @@ abbrev pub plain : Unsigned → Signed32
 plain (Is size) = Signed32.Is (pos size)
 plain Not = Signed32.Not
 
+-- with a minus
 abbrev pub minus : Unsigned → Signed32
 minus (Is size) = Signed32.Is (negℤ (pos size))
 minus Not = Signed32.Not
 
+-- of a word
 abbrev pub signed32Of : List ℕ → Signed32
 signed32Of [] = Signed32.Not
 signed32Of (first ∷ rest) = cond (eqb first 45) (minus (decimalOf 2147483648 rest)) (plain (decimalOf 2147483647 (first ∷ rest)))

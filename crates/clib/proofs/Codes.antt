@@ -11,7 +11,7 @@ use lib.ListN.{length}
 use Rattle.refusals.specs.Numbers.{fileTooLong, wrongPreamble, misplacedCommand, wrongDepth, wrongFontDefinition, noFont, wrongPointer, wrongPostamble, wrongTail, wrongResolution, unitOutOfRange, wrongWidthTable, noSuchPage, areaTooShort}
 use Rattle.refusals.specs.Answer.{Answer, refused, given, refuseIf, andThen}
 use Rattle.units.specs.Unit.{unitOf, outOfRange, ratioOf, resolutionOutside}
-use Rattle.widths.specs.Table.{recordSize, rightRecord, checkedFrom, checkedTable}
+use Rattle.widths.specs.Table.{widthRecordSize, rightRecord, checkedFrom, checkedTable}
 use Rattle.widths.specs.LookUp.{lookedUp}
 use Rattle.commands.specs.declared.Kind.the-variants.{PostPost}
 use Rattle.commands.specs.Commands.{Command, Front, cut, undefined, whole, front}
@@ -23,7 +23,7 @@ use Rattle.volume.specs.Judged.{summary, tail, onFront, onFault, onEnd, judgedF
 use Rattle.volume.specs.Names.{namedBy, namePlace, history}
 use Rattle.page.specs.Placing.{Setting, Outcome, leavesRange, goes, Placed, after, onOutcome, placing}
 use Rattle.page.specs.Answers.{withRoom, pageOutside, settingOf, placedAccepted, placedPage, placedCounts}
-use Rattle.page.specs.Records.{recordSize as size}
+use Rattle.page.specs.Records.{placementRecordSize as size}
 use Rattle.page.specs.PageList.{Located, pageOf}
 use Rattle.state.specs.Registers.{State, freshState}
 use Rattle.clib.specs.Answers.{numberOf, Listed, Given, code}
@@ -104,8 +104,8 @@ table-from-listed : (left : ℕ) (table : List ℕ) (index : ℕ) → Listed (ch
 unfolding checkedFrom
 table-from-listed zero table index = tt
 table-from-listed (suc left) table index =
-    by (leb (length table) (index * recordSize)) _
-    (if-listed (not (rightRecord table index)) wrongWidthTable (index * recordSize) (checkedFrom left table (suc index)) (omega arith, omega arith)
+    by (leb (length table) (index * widthRecordSize)) _
+    (if-listed (not (rightRecord table index)) wrongWidthTable (index * widthRecordSize) (checkedFrom left table (suc index)) (omega arith, omega arith)
     (table-from-listed left table (suc index)))
   where
     by : (t : Bool) (next : Answer ℕ) → Listed next → Listed (cond t (given index) next)

@@ -27,7 +27,7 @@ pub record Whole (c : Command) : Type 0 where
 abbrev pub form : Command → List ℕ
 form c = c .opcode ∷ c .params
 
--- "the written forms, end to end, of some list of commands"
+-- the archive's demand 3: "the written forms, end to end, of some list of commands"
 abbrev pub written : List Command → List ℕ
 written [] = []
 written (c ∷ cs) = form c ++ written cs

@@ -13,33 +13,33 @@ use Rattle.numbers.specs.Bytes.{bytesOf}
 use Rattle.commands.proofs.Ranges.{below-or-not}
 use Rattle.page.specs.declared.Record.{Record}
 use Rattle.page.specs.declared.Counts.{Counts}
-use Rattle.page.specs.Records.{recordSize, recordBytes, allBytes}
+use Rattle.page.specs.Records.{placementRecordSize, recordBytes, allBytes}
 use Rattle.page.specs.Placing.{Added, nothing, placed, missing, special, Placed, adding}
 use Rattle.page.specs.Steps.{putRecord, areaNoted, countNoted, stored, Ending, through, finish}
 
 -- a record has 20 bytes
-pub record-length : (r : Record) → length (recordBytes r) ≡ recordSize
+pub record-length : (r : Record) → length (recordBytes r) ≡ placementRecordSize
 unfolding recordBytes bytesOf
 record-length r = refl
 
 module _ (out : List ℕ) (index : ℕ) (r : Record) where
   -- without room a record is not written
-  no-room : length out < recordSize * index + recordSize → putRecord out index r ≡ out
-  no-room h = simp (lt-leb (recordSize * index + recordSize) (length out) h)
+  no-room : length out < placementRecordSize * index + placementRecordSize → putRecord out index r ≡ out
+  no-room h = simp (lt-leb (placementRecordSize * index + placementRecordSize) (length out) h)
 
   -- with room it is pasted in
-  room : recordSize * index + recordSize ≤ length out → putRecord out index r ≡ paste out (recordSize * index) (recordBytes r) recordSize
+  room : placementRecordSize * index + placementRecordSize ≤ length out → putRecord out index r ≡ paste out (placementRecordSize * index) (recordBytes r) placementRecordSize
   room h =
-      let whole : take recordSize (recordBytes r) ≡ recordBytes r = take-all recordSize (recordBytes r) (omega (arith, record-length r)) in
-      simp (le-leb (recordSize * index + recordSize) (length out) h, whole)
+      let whole : take placementRecordSize (recordBytes r) ≡ recordBytes r = take-all placementRecordSize (recordBytes r) (omega (arith, record-length r)) in
+      simp (le-leb (placementRecordSize * index + placementRecordSize) (length out) h, whole)
 
   -- a record put in its place changes no length
   pub put-length : length (putRecord out index r) ≡ length out
   put-length =
       ⊎-elim
       (λ short. ap length (no-room short))
-      (λ long. ap length (room long) ∙ length-paste out (recordSize * index) (recordBytes r) recordSize long (omega (arith, record-length r)))
-      (below-or-not (length out) (recordSize * index + recordSize))
+      (λ long. ap length (room long) ∙ length-paste out (placementRecordSize * index) (recordBytes r) placementRecordSize long (omega (arith, record-length r)))
+      (below-or-not (length out) (placementRecordSize * index + placementRecordSize))
 
 -- nor does anything else that a command adds
 pub noted-length : (out : List ℕ) (index : ℕ) (added : Added) → length (areaNoted out index added) ≡ length out
@@ -72,41 +72,41 @@ stored-none index (r ∷ records) =
     ap (λ (area : List ℕ). stored area (index + 1) records) (no-room [] index r (omega arith)) ∙ stored-none (index + 1) records
 
 -- before a part that was pasted in, and behind it
-module _ (out bytes : List ℕ) (at more : ℕ) (size : length bytes ≡ recordSize) (h : at + recordSize + more ≤ length out) where
-  front : take (at + recordSize) (paste out at bytes recordSize) ≡ take at out ++ bytes
-  front = take-paste out at bytes recordSize (omega arith) (omega arith) ∙ ap (λ (l : List ℕ). take at out ++ l) (take-all recordSize bytes (omega arith))
+module _ (out bytes : List ℕ) (at more : ℕ) (size : length bytes ≡ placementRecordSize) (h : at + placementRecordSize + more ≤ length out) where
+  front : take (at + placementRecordSize) (paste out at bytes placementRecordSize) ≡ take at out ++ bytes
+  front = take-paste out at bytes placementRecordSize (omega arith) (omega arith) ∙ ap (λ (l : List ℕ). take at out ++ l) (take-all placementRecordSize bytes (omega arith))
 
-  back : drop (at + recordSize + more) (paste out at bytes recordSize) ≡ drop (at + recordSize + more) out
+  back : drop (at + placementRecordSize + more) (paste out at bytes placementRecordSize) ≡ drop (at + placementRecordSize + more) out
   back =
-      sym (drop-drop more (at + recordSize) (paste out at bytes recordSize))
-      ∙ ap (λ (l : List ℕ). drop more l) (drop-paste out at bytes recordSize (omega arith) (omega arith))
-      ∙ drop-drop more (at + recordSize) out
+      sym (drop-drop more (at + placementRecordSize) (paste out at bytes placementRecordSize))
+      ∙ ap (λ (l : List ℕ). drop more l) (drop-paste out at bytes placementRecordSize (omega arith) (omega arith))
+      ∙ drop-drop more (at + placementRecordSize) out
 
 -- with room for all, the records' bytes stand one after the other, and the rest is as it was
-pub stored-all : (records : List Record) (out : List ℕ) (index : ℕ) → recordSize * (index + length records) ≤ length out
-    → stored out index records ≡ take (recordSize * index) out ++ allBytes records ++ drop (recordSize * (index + length records)) out
+pub stored-all : (records : List Record) (out : List ℕ) (index : ℕ) → placementRecordSize * (index + length records) ≤ length out
+    → stored out index records ≡ take (placementRecordSize * index) out ++ allBytes records ++ drop (placementRecordSize * (index + length records)) out
 stored-all [] out index h = simp (append-nil, add-zero, take-append-drop)
 stored-all (r ∷ records) out index h =
-    let at : ℕ = recordSize * index in
-    let more : ℕ = recordSize * length records in
-    let fits : at + recordSize + more ≤ length out = omega arith in
-    let area : List ℕ = paste out at (recordBytes r) recordSize in
+    let at : ℕ = placementRecordSize * index in
+    let more : ℕ = placementRecordSize * length records in
+    let fits : at + placementRecordSize + more ≤ length out = omega arith in
+    let area : List ℕ = paste out at (recordBytes r) placementRecordSize in
     let put : putRecord out index r ≡ area = room out index r (omega arith) in
     let long : length area ≡ length out = ap length (sym put) ∙ put-length out index r in
-    let next : recordSize * (index + 1) ≡ at + recordSize = omega arith in
-    let end : recordSize * (index + 1 + length records) ≡ at + recordSize + more = omega arith in
-    let whole : at + recordSize + more ≡ recordSize * (index + suc (length records)) = omega arith in
+    let next : placementRecordSize * (index + 1) ≡ at + placementRecordSize = omega arith in
+    let end : placementRecordSize * (index + 1 + length records) ≡ at + placementRecordSize + more = omega arith in
+    let whole : at + placementRecordSize + more ≡ placementRecordSize * (index + suc (length records)) = omega arith in
     ap (λ (l : List ℕ). stored l (index + 1) records) put
     ∙ stored-all records area (index + 1) (omega arith)
-    ∙ ap (λ (l : List ℕ). l ++ allBytes records ++ drop (recordSize * (index + 1 + length records)) area)
+    ∙ ap (λ (l : List ℕ). l ++ allBytes records ++ drop (placementRecordSize * (index + 1 + length records)) area)
     (ap (λ (n : ℕ). take n area) next ∙ front out (recordBytes r) at more (record-length r) fits)
     ∙ ap (λ (l : List ℕ). take at out ++ recordBytes r ++ allBytes records ++ l)
     (ap (λ (n : ℕ). drop n area) end ∙ back out (recordBytes r) at more (record-length r) fits ∙ ap (λ (n : ℕ). drop n out) whole)
-    ∙ ap (λ (l : List ℕ). l ++ drop (recordSize * (index + suc (length records))) out) (append-assoc (take at out) (recordBytes r) (allBytes records))
+    ∙ ap (λ (l : List ℕ). l ++ drop (placementRecordSize * (index + suc (length records))) out) (append-assoc (take at out) (recordBytes r) (allBytes records))
 
 -- from the first on: the records' bytes, and behind them what stood there
-pub stored-whole : (records : List Record) (out : List ℕ) → recordSize * length records ≤ length out
-    → stored out 0 records ≡ allBytes records ++ drop (recordSize * length records) out
+pub stored-whole : (records : List Record) (out : List ℕ) → placementRecordSize * length records ≤ length out
+    → stored out 0 records ≡ allBytes records ++ drop (placementRecordSize * length records) out
 stored-whole records out h =
-    let all : recordSize * (0 + length records) ≡ recordSize * length records = omega arith in
+    let all : placementRecordSize * (0 + length records) ≡ placementRecordSize * length records = omega arith in
     stored-all records out 0 (omega arith) ∙ ap (λ (n : ℕ). allBytes records ++ drop n out) all

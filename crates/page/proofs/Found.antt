@@ -13,7 +13,7 @@ use Rattle.numbers.specs.Bytes.{unsignedAt}
 use Rattle.numbers.proofs.Signed.{from-small}
 use Rattle.widths.specs.declared.Metric.{Metric}
 use Rattle.widths.specs.Scaling.{scaledBy, lawfulScale, lawfulFirst}
-use Rattle.widths.specs.Table.{recordSize, recordOf, checkedTable}
+use Rattle.widths.specs.Table.{widthRecordSize, recordOf, checkedTable}
 use Rattle.widths.specs.LookUp.{found, metricOf, isFor, walkFrom, walk}
 use Rattle.widths.proofs.Halving.{width-small}
 use Rattle.widths.proofs.TableLaws.{record-lawful, width-bytes}
@@ -70,6 +70,6 @@ module _ {table : List ℕ} {records checksum scale byte : ℕ} {m : Metric} (hi
     pub found-escapement : natAbs (m .escapement) ≤ 2 ^ 31
     unfolding recordOf
     found-escapement =
-        let at = hit .index * recordSize + 10 in
+        let at = hit .index * widthRecordSize + 10 in
         let small = from-small 65536 (unsignedAt table at 2) (two-below at) in
         subst (λ (f : Metric). natAbs (f .escapement) ≤ 2 ^ 31) (sym (hit .metric-is)) (omega arith)

@@ -27,7 +27,7 @@ use Rattle.page.specs.declared.Counts.{Counts}
 use Rattle.page.specs.declared.Terms.{Terms}
 use Rattle.page.specs.declared.Walked.{Walked}
 use Rattle.page.specs.declared.Walked.the-variants as Walked
-use Rattle.page.specs.Records.{recordSize, allBytes}
+use Rattle.page.specs.Records.{placementRecordSize, allBytes}
 use Rattle.page.specs.PageList.{pageOf}
 use Rattle.page.specs.Placing.{Placed, placing}
 use Rattle.page.specs.Answers.{pageOutside, settingOf, withRoom, placedAccepted, countsOf, placedCounts, areaAfter}
@@ -102,18 +102,18 @@ module _ (answer : Answer Placed) (entry : List ℕ) where
     records-are = sym (ap (λ (c : Counts). c .records) (first .counts-are))
 
     -- 17
-    pub short-to : length entry < recordSize * counts .records → Comes-to judgedRoom entry (refused areaTooShort 0) entry
+    pub short-to : length entry < placementRecordSize * counts .records → Comes-to judgedRoom entry (refused areaTooShort 0) entry
     short-to few =
-        let test : ltb (length entry) (recordSize * length (first .p .records)) ≡ true = lt-ltb (length entry) (recordSize * length (first .p .records)) (omega (arith, few, records-are)) in
+        let test : ltb (length entry) (placementRecordSize * length (first .p .records)) ≡ true = lt-ltb (length entry) (placementRecordSize * length (first .p .records)) (omega (arith, few, records-are)) in
         refused-to (ap (λ (a : Answer Placed). andThen a (withRoom (length entry))) (first .answer-is) ∙ ap (λ (t : Bool). refuseIf t areaTooShort 0 (given (first .p))) test) entry
 
     -- all placed
-    pub all-to : recordSize * counts .records ≤ length entry → (area′ : List ℕ) (counts′ : Counts) → Through entry answer area′ counts′
+    pub all-to : placementRecordSize * counts .records ≤ length entry → (area′ : List ℕ) (counts′ : Counts) → Through entry answer area′ counts′
         → Comes-to judgedRoom entry (given counts) area′
     all-to room area′ counts′ second =
         let p = first .p in
-        let fits : recordSize * length (p .records) ≤ length entry = omega (arith, room, records-are) in
-        let test : ltb (length entry) (recordSize * length (p .records)) ≡ false = le-ltb (length entry) (recordSize * length (p .records)) fits in
+        let fits : placementRecordSize * length (p .records) ≤ length entry = omega (arith, room, records-are) in
+        let test : ltb (length entry) (placementRecordSize * length (p .records)) ≡ false = le-ltb (length entry) (placementRecordSize * length (p .records)) fits in
         let same : given (second .p) ≡ given p = sym (second .answer-is) ∙ first .answer-is in
         let same-p : second .p ≡ p = cc in
         let both = placed-to (ap (λ (a : Answer Placed). andThen a (withRoom (length entry))) (first .answer-is) ∙ ap (λ (t : Bool). refuseIf t areaTooShort 0 (given p)) test) entry area′

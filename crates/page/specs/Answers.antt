@@ -14,7 +14,7 @@ use Rattle.volume.specs.Judged.{judged}
 use Rattle.volume.specs.Names.{history}
 use Rattle.state.specs.Registers.{freshState}
 use Rattle.page.specs.declared.Counts.{Counts}
-use Rattle.page.specs.Records.{recordSize, allBytes}
+use Rattle.page.specs.Records.{placementRecordSize, allBytes}
 use Rattle.page.specs.PageList.{pageOf}
 use Rattle.page.specs.Placing.{Setting, Placed, placing}
 
@@ -29,7 +29,7 @@ settingOf file table k resolution records page =
 
 -- 17: "output area shorter than the bytes to be written (in placing, 20 times the records)"; the whole page is walked for 16 before it is judged
 abbrev pub withRoom : ℕ → Placed → Answer Placed
-withRoom room p = refuseIf (ltb room (recordSize * length (p .records))) areaTooShort 0 (given p)
+withRoom room p = refuseIf (ltb room (placementRecordSize * length (p .records))) areaTooShort 0 (given p)
 
 -- "then 12 to 17 in order": one page of an accepted file of so many pages, by a width table, at a resolution, into an area of so many bytes
 abbrev pub placedAccepted : List ℕ → List ℕ → ℕ → ℕ → ℕ → ℕ → Answer Placed
@@ -54,4 +54,4 @@ placedCounts answer = andThen answer (λ p. given (countsOf p))
 -- the area: the records' bytes, then its old bytes; "A refusal leaves every byte of the output area unchanged"
 abbrev pub areaAfter : List ℕ → Answer Placed → List ℕ
 areaAfter entry (refused number place) = entry
-areaAfter entry (given p) = allBytes (p .records) ++ drop (recordSize * length (p .records)) entry
+areaAfter entry (given p) = allBytes (p .records) ++ drop (placementRecordSize * length (p .records)) entry

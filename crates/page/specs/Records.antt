@@ -8,8 +8,8 @@ use Rattle.state.specs.declared.Font.{Font}
 use Rattle.page.specs.declared.Record.{Record}
 
 -- "20 times the records"
-abbrev pub recordSize : ℕ
-recordSize = 20
+abbrev pub placementRecordSize : ℕ
+placementRecordSize = 20
 
 -- "kind 1 (1 character, 2 rule), font 1 (0 for a rule), page 2, hh 4, vv 4, then for a character the full code 4 and escapement 4, for a rule
 -- height 4 and width 4 in pixels"

@@ -45,7 +45,7 @@ use Rattle.page.specs.declared.Walked.{Walked}
 use Rattle.page.specs.declared.Walked.the-variants as Walked
 use Rattle.page.specs.declared.PagePlaced.{PagePlaced}
 use Rattle.page.specs.declared.PagePlaced.the-variants as PagePlaced
-use Rattle.page.specs.Records.{recordSize, recordBytes, ruleRecord}
+use Rattle.page.specs.Records.{placementRecordSize, recordBytes, ruleRecord}
 use Rattle.page.specs.PageList.{Located, pageOf}
 use Rattle.page.specs.Placing.{Setting, Added, nothing, placed, missing, special, Outcome, goes, leavesRange, withNumbers, fontBy, lookedFor, setCharacter, putCharacter, isVisible, distanceOr, withW, withX, withY, withZ, after, Placed, placing}
 
@@ -61,8 +61,8 @@ pub record InWords (r : Record) : Type 0 where
 -- a record of an index in its place, where the area has room for it
 abbrev pub putRecord : List ℕ → ℕ → Record → List ℕ
 putRecord out index r =
-    cond (leb (recordSize * index + recordSize) (length out))
-    (take (recordSize * index) out ++ recordBytes r ++ drop (recordSize * index + recordSize) out)
+    cond (leb (placementRecordSize * index + placementRecordSize) (length out))
+    (take (placementRecordSize * index) out ++ recordBytes r ++ drop (placementRecordSize * index + placementRecordSize) out)
     out
 
 -- what the code says that a command adds

@@ -29,7 +29,7 @@ use Rattle.volume.proofs.Refused as check
 use Rattle.state.specs.Registers.{unselected, freshState}
 use Rattle.page.specs.declared.Record.{Record}
 use Rattle.page.specs.declared.Counts.{Counts}
-use Rattle.page.specs.Records.{recordSize, recordBytes, allBytes}
+use Rattle.page.specs.Records.{placementRecordSize, recordBytes, allBytes}
 use Rattle.page.specs.PageList.{Located, pageOf}
 use Rattle.page.specs.Placing.{Setting, placing}
 use Rattle.page.specs.Placing as meaning
@@ -64,7 +64,7 @@ refused-next true number there n place next other e = absurd (other (cc))
 refused-next false number there n place next other e = (refl, e)
 
 -- records have 20 bytes each
-all-length : (records : List Record) → length (allBytes records) ≡ recordSize * length records
+all-length : (records : List Record) → length (allBytes records) ≡ placementRecordSize * length records
 all-length [] = refl
 all-length (r ∷ records) = omega (arith, length-append (recordBytes r) (allBytes records), record-length r, all-length records)
 
@@ -113,10 +113,10 @@ table-low : (left : ℕ) (table : List ℕ) (index n place : ℕ) → checkedFro
 unfolding checkedFrom
 table-low zero table index n place e = absurd (given-not-refused index n place e)
 table-low (suc left) table index n place e =
-    by (leb (length table) (index * table-of.recordSize)) (not (rightRecord table index)) e (table-low left table (suc index) n place)
+    by (leb (length table) (index * table-of.widthRecordSize)) (not (rightRecord table index)) e (table-low left table (suc index) n place)
   where
     by : (end wrong : Bool)
-        → cond end (given index) (refuseIf wrong wrongWidthTable (index * table-of.recordSize) (checkedFrom left table (suc index))) ≡ refused n place
+        → cond end (given index) (refuseIf wrong wrongWidthTable (index * table-of.widthRecordSize) (checkedFrom left table (suc index))) ≡ refused n place
         → (checkedFrom left table (suc index) ≡ refused n place → n ≡ wrongWidthTable) → n ≡ wrongWidthTable
     by true wrong e onward = absurd (given-not-refused index n place e)
     by false true e onward = cc
@@ -179,7 +179,7 @@ module _ (a : Arguments) where
 
   -- a page that is given was placed, and there is room
   placed-by : (p : meaning.Placed) → meant ≡ given p
-      → (g : Grounds) × (placing (settingBy g) freshState own ≡ given p) × (recordSize * length (p .records) ≤ length area)
+      → (g : Grounds) × (placing (settingBy g) freshState own ≡ given p) × (placementRecordSize * length (p .records) ≤ length area)
   placed-by p e =
       let (found, accepted, e1) = then-given (judged file) _ p e in
       let (k, unit-is, e2) = then-given unitHere _ p e1 in
@@ -187,9 +187,9 @@ module _ (a : Arguments) where
       let (there, e4) = given-next (pageOutside page (found .pages)) _ _ _ p e3 in
       let g : Grounds = record { found = found; unit = k; width-records = n; accepted = accepted; unit-is = unit-is; table-is = table-is; there = there } in
       let (q, placing-is, e5) = then-given (placing (settingBy g) freshState own) (withRoom (length area)) p e4 in
-      let (fits, e6) = given-next (ltb (length area) (recordSize * length (q .records))) _ _ _ p e5 in
+      let (fits, e6) = given-next (ltb (length area) (placementRecordSize * length (q .records))) _ _ _ p e5 in
       let same : q ≡ p = given-same q p e6 in
-      (g, placing-is ∙ ap given same, subst (λ (o : meaning.Placed). recordSize * length (o .records) ≤ length area) same (ltb-false (length area) _ fits))
+      (g, placing-is ∙ ap given same, subst (λ (o : meaning.Placed). placementRecordSize * length (o .records) ≤ length area) same (ltb-false (length area) _ fits))
 
   -- a page that is refused by 16 passed all that is judged before
   left-by : (place : ℕ) → meant ≡ refused positionOutOfRange place
@@ -205,7 +205,7 @@ module _ (a : Arguments) where
       before : (answer : Answer meaning.Placed) → andThen answer (withRoom (length area)) ≡ refused positionOutOfRange place → answer ≡ refused positionOutOfRange place
       before (refused n at) e = ap₂ refused (cc) (cc)
       before (given q) e =
-          let (fits, e1) = refused-next (ltb (length area) (recordSize * length (q .records))) areaTooShort 0 positionOutOfRange place (given q) (λ z. omega arith) e in
+          let (fits, e1) = refused-next (ltb (length area) (placementRecordSize * length (q .records))) areaTooShort 0 positionOutOfRange place (given q) (λ z. omega arith) e in
           absurd (given-not-refused q positionOutOfRange place e1)
 
 -- ---- what the contract of a call says
@@ -239,22 +239,22 @@ module _ (κs : Lfts 3) (a x : Arguments) where
         (p : meaning.Placed)
         × (meant a ≡ given p)
         × (length (p .records) ≡ records)
-        × (take (recordSize * records) (area x) ≡ allBytes (p .records))
-        × (drop (recordSize * records) (area x) ≡ drop (recordSize * records) (area a))
+        × (take (placementRecordSize * records) (area x) ≡ allBytes (p .records))
+        × (drop (placementRecordSize * records) (area x) ≡ drop (placementRecordSize * records) (area a))
         × (length (area x) ≡ length (area a))
     accepted-writes-only-records =
         let (p, is, counts) = placed-page in
         let many : length (p .records) ≡ records = ap (λ (c : Counts). c .records) counts in
         let written = allBytes (p .records) in
-        let rest = drop (recordSize * records) (area a) in
-        let area-is : area x ≡ written ++ rest = post .1 .0 ∙ ap (areaAfter (area a)) is ∙ ap (λ (n : ℕ). written ++ drop (recordSize * n) (area a)) many in
-        let size : length written ≡ recordSize * records = all-length (p .records) ∙ ap (λ (n : ℕ). recordSize * n) many in (
+        let rest = drop (placementRecordSize * records) (area a) in
+        let area-is : area x ≡ written ++ rest = post .1 .0 ∙ ap (areaAfter (area a)) is ∙ ap (λ (n : ℕ). written ++ drop (placementRecordSize * n) (area a)) many in
+        let size : length written ≡ placementRecordSize * records = all-length (p .records) ∙ ap (λ (n : ℕ). placementRecordSize * n) many in (
           p,
           is,
           many,
-          ap (take (recordSize * records)) area-is ∙ take-at written rest (recordSize * records) size,
-          ap (drop (recordSize * records)) area-is ∙ drop-at written rest (recordSize * records) size,
-          ap length area-is ∙ omega (arith, length-append written rest, length-drop (recordSize * records) (area a), size, placed-by a p is .2, many),
+          ap (take (placementRecordSize * records)) area-is ∙ take-at written rest (placementRecordSize * records) size,
+          ap (drop (placementRecordSize * records)) area-is ∙ drop-at written rest (placementRecordSize * records) size,
+          ap length area-is ∙ omega (arith, length-append written rest, length-drop (placementRecordSize * records) (area a), size, placed-by a p is .2, many),
         )
 
     -- "invented counts": they are the numbers of the page's own commands that make a record, are missing characters, are specials
@@ -277,7 +277,7 @@ module _ (κs : Lfts 3) (a x : Arguments) where
         (g : Grounds a)
         × (written : List Record)
         × (length written ≡ records)
-        × (take (recordSize * records) (area x) ≡ allBytes written)
+        × (take (placementRecordSize * records) (area x) ≡ allBytes written)
         × (map saidBy written ≡ map (saidOf (settingBy a g)) (those (makesRecord (settingBy a g)) (seenBy a g)))
     records-in-order =
         let (p, is, many, bytes, rest, long) = accepted-writes-only-records in

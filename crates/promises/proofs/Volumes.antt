@@ -265,13 +265,13 @@ module _ {cs : List Command} (keeps : Keeps cs) {past : List Command} {c : Comma
   depth-at-most-100 = let (kept, allowed) = kept-there in (deep kept, deep (and-one kept allowed))
 
   -- "post repeats num, den, mag; its s equals the greatest depth reached; its t is the number of pages"
-  pub page-count : kindOfCommand c ≡ Post
+  pub post-repeats : kindOfCommand c ≡ Post
       → (unsignedAt (c .params) 26 2 ≡ pages past)
       × (unsignedAt (c .params) 24 2 ≡ greatest past)
       × (unsignedAt (c .params) 4 4 ≡ num past)
       × (unsignedAt (c .params) 8 4 ≡ den past)
       × (unsignedAt (c .params) 12 4 ≡ mag past)
-  page-count k =
+  post-repeats k =
       let p = c .params in
       let rules : lawfulPostamble (num past) (den past) (mag past) (greatest past) (pages past) p ≡ true = holds _ (rw k at (kept-there .1 .postamble)) in
       let from-num = and-eq-true-iff (eqb (unsignedAt p 4 4) (num past)) _ .0 rules in
@@ -309,6 +309,6 @@ M-list = (
   refl,
 )
 
--- so M is "the written forms, end to end, of some list of commands that keeps the rules"
+-- so M is, in the words of demand 3, "the written forms, end to end, of some list of commands that keeps the rules"
 pub M-is-lawful : Lawful M
 M-is-lawful = (omega arith, (listOfM, M-list .0, M-list .1))

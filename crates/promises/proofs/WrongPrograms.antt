@@ -1,5 +1,5 @@
 -- Wrong programs that a contract shuts out: each would contradict it at an input that is named here. Assumes nothing.
-use Prim.Native.Nat.{ℕ}
+use Prim.Native.Nat.{ℕ, _≤_}
 use mathlib.Core.Path.{_≡_, refl, sym, ap, _∙_, subst}
 use mathlib.Core.List.{List, [], _++_, append-nil}
 use native.Mathlib.Omega.{arith}
@@ -103,10 +103,10 @@ module _ (κs : Lfts 3) (a x : Arguments) (is : IsPrinted a) where
         let first : _≡_ {A = ℕ} 2 0 = ap (λ (l : List ℕ). getD l 0 0) (ap (drop 20) (sym area-as-printed) ∙ stays ∙ ap (drop 20) zeros) in
         omega (arith, first)
 
-  -- placing the first command and only skipping through the others: one record is too few
-  pub not-only-the-first-command : (missing specials : ℕ) → place-page.Post κs a (Placed.Records 1 missing specials) x → ⊥
-  not-only-the-first-command missing specials post =
-      let many : _≡_ {A = ℕ} 1 2 = cc (not-invented-counts (Placed.Records 1 missing specials) post) in omega (arith, many)
+  -- placing the first command and only skipping through the others: the example's first command makes no record, its first rule one, and both are too few
+  pub not-only-the-first-command : (records missing specials : ℕ) → records ≤ 1 → place-page.Post κs a (Placed.Records records missing specials) x → ⊥
+  not-only-the-first-command records missing specials few post =
+      let many : records ≡ 2 = cc (not-invented-counts (Placed.Records records missing specials) post) in omega (arith, many, few)
 
 -- one constant answer: the printed example and the empty file have not the same
 pub not-one-constant : (κs κs′ : Lfts 3) (a b x y : Arguments) (r : Placed) → IsPrinted a → file b ≡ []

@@ -11,7 +11,7 @@ use Rattle.refusals.specs.Answer.{given}
 use Rattle.refusals.proofs.Answer.{given-next, given-same}
 use Rattle.units.specs.declared.Ratio.{Ratio}
 use Rattle.units.specs.Divisor.{lowest}
-use Rattle.units.specs.Unit.{Units, Accepted, ratioOf, outOfRange, resolutionOutside, judged, unitOf}
+use Rattle.units.specs.Unit.{Units, Accepted, ratioOf, outOfRange, resolutionOutside, inRange, unitOf}
 use Rattle.units.proofs.Cancelling.{cut, num-some, den-small}
 
 neither : (a b : Bool) → (a || b) ≡ false → (a ≡ false) × (b ≡ false)
@@ -33,7 +33,7 @@ lowest-accepted n d h l e =
 pub accepted : (num den mag resolution : ℕ) (k : Ratio) → Units num den mag → unitOf num den mag resolution ≡ given k → Accepted k
 accepted num den mag resolution k u e =
     let k′ = ratioOf num den mag resolution in
-    let outer = given-next (resolutionOutside resolution) wrongResolution 0 (judged k′) k e in
+    let outer = given-next (resolutionOutside resolution) wrongResolution 0 (inRange k′) k e in
     let inner = given-next (outOfRange k′) unitOutOfRange 0 (given k′) k (outer .1) in
     let some = leb-true 1 resolution (and-eq-true-iff (leb 1 resolution) (leb resolution 10000) .0 (not-false (leb 1 resolution && leb resolution 10000) (outer .0)) .0) in
     subst Accepted (given-same k′ k (inner .1))

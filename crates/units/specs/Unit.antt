@@ -22,13 +22,13 @@ abbrev pub resolutionOutside : ℕ → Bool
 resolutionOutside resolution = not (leb 1 resolution && leb resolution 10000)
 
 -- "The place is 0 for 12, 13"
-abbrev pub judged : Ratio → Answer Ratio
-judged k = refuseIf (outOfRange k) unitOutOfRange 0 (given k)
+abbrev pub inRange : Ratio → Answer Ratio
+inRange k = refuseIf (outOfRange k) unitOutOfRange 0 (given k)
 
 -- 12 is judged before 13
 abbrev pub unitOf : ℕ → ℕ → ℕ → ℕ → Answer Ratio
 unitOf num den mag resolution =
-    refuseIf (resolutionOutside resolution) wrongResolution 0 (judged (ratioOf num den mag resolution))
+    refuseIf (resolutionOutside resolution) wrongResolution 0 (inRange (ratioOf num den mag resolution))
 
 -- what the code's answer says
 abbrev pub unitAnswer : UnitFound → Answer Ratio

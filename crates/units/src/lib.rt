@@ -4,7 +4,7 @@ ghost use mathlib.Core.Path.{_≡_};
 ghost use Prim.Native.Nat.{_<_, _≤_, _^_};
 ghost use lib.IntN.{natAbs};
 ghost use Rattle.units.specs.Divisor.{commonDivisor, lowest};
-ghost use Rattle.units.specs.Unit.{Units, Accepted, unitAnswer, judged, unitOf, drift};
+ghost use Rattle.units.specs.Unit.{Units, Accepted, unitAnswer, inRange, unitOf, drift};
 ghost use Rattle.units.specs.Rounding.{nearestWhole, rounded, roundedUp};
 ghost use Rattle.units.specs.Cancelling.{product, Cancelled};
 
@@ -73,7 +73,7 @@ fn cancelled(num: u64, den: u64, mag: u64, resolution: u64) -> Factors
 fn multiplied(num: u64, mag: u64, resolution: u64, den: u64, inch: u64) -> UnitFound
     requires { ⌜ (num < 2 ^ 31) × (mag < 2 ^ 31) × (0 < resolution) × (resolution ≤ 10000) × (den < 2 ^ 31) ⌝ }
     requires { ⌜ inch ≤ 254000000 ⌝ }
-    ensures { λ r. ⌜ unitAnswer r ≡ judged (product num mag resolution den inch) ⌝ }
+    ensures { λ r. ⌜ unitAnswer r ≡ inRange (product num mag resolution den inch) ⌝ }
 {
     let out = Refusal {
         number: refusals::UNIT_OUT_OF_RANGE,

@@ -28,6 +28,6 @@ pub data Follows : List Command → List Command → Type 0 where
 abbrev pub Keeps : List Command → Type 0
 Keeps cs = Follows [] cs
 
--- "it has at most 16,777,216 bytes and these are the written forms, end to end, of some list of commands that keeps the rules"
+-- the archive's demand 3: "it has at most 16,777,216 bytes and these are the written forms, end to end, of some list of commands that keeps the rules"
 abbrev pub Lawful : List ℕ → Type 0
 Lawful file = (length file ≤ longestFile) × ((cs : List Command) × Keeps cs × (written cs ≡ file))

@@ -47,7 +47,8 @@ preambleWrong past c = isAtStart (stage past) && not (isA Pre c && lawfulPreambl
 -- ---- 5: "a command that may not stand there"
 
 -- "Then only nop and font definitions before the first page, between pages, and between the last page and post. A page: bop, any of opcodes 0 to 138,
--- 141 to 246, then eop. One page at least. post, then only nop and font definitions, then post_post"; what stands at the start is judged by 4
+-- 141 to 246, then eop. One page at least. The special xxx stands only inside a page." "post, then only nop and font definitions, then post_post"; what stands
+-- at the start is judged by 4
 abbrev pub mayStand : Stage → Kind → Bool
 mayStand AtStart kind = true
 mayStand BeforePages kind = is kind Nop || (is kind Define || is kind Bop)

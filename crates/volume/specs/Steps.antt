@@ -246,9 +246,9 @@ Same v (Scanned.Refused r) = Unit {0}
 -- ---- names
 
 -- what the answer of a name says
-abbrev pub nameAnswer : Named → Answer Part
-nameAnswer (Named.At part) = given part
-nameAnswer (Named.Refused r) = refusal r
+abbrev pub namedAnswer : Named → Answer Part
+namedAnswer (Named.At part) = given part
+namedAnswer (Named.Refused r) = refusal r
 
 -- a part lies within so many bytes
 abbrev pub Inside : ℕ → Named → Type 0
@@ -259,4 +259,4 @@ Inside bytes (Named.Refused r) = Unit {0}
 abbrev pub NamedIs : List ℕ → List ℕ → ℤ → Named → Type 0
 NamedIs file fonts number r =
     (past : List Command) → Tells false fonts past → AllStanding file past → Lawfully past
-    → (nameAnswer r ≡ namedBy (definitionOf false number past)) × Inside (length file) r
+    → (namedAnswer r ≡ namedBy (definitionOf false number past)) × Inside (length file) r

@@ -9,7 +9,7 @@ use refusals::Refusal;
 ghost use mathlib.Core.Path.{_≡_};
 ghost use lib.ListN.{length};
 ghost use Rattle.volume.specs.Names.{namePlace, nameOf, nameStart, bytesAfter};
-ghost use Rattle.volume.specs.Steps.{nameAnswer, Inside, NamedIs};
+ghost use Rattle.volume.specs.Steps.{namedAnswer, Inside, NamedIs};
 
 // Where the name of a font stands, by the table of the definitions before post.
 fn named_by(file: &[u8], fonts: &[u32; 256], number: i64) -> Named
@@ -50,7 +50,7 @@ fn named_by(file: &[u8], fonts: &[u32; 256], number: i64) -> Named
 
 // Where the name of a font stands.
 pub fn name_place(file: &[u8], number: i64) -> Named
-    ensures { λ r. ⌜ (nameAnswer r ≡ namePlace (now (file .entry)) number) × Inside (length (now (file .entry))) r ⌝ }
+    ensures { λ r. ⌜ (namedAnswer r ≡ namePlace (now (file .entry)) number) × Inside (length (now (file .entry))) r ⌝ }
 {
     let mut fonts = [0u32; 256];
     match scanning::scan(file, 0, &mut fonts) {

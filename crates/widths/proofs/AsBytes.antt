@@ -12,7 +12,7 @@ use lib.Seq.{length-take-le, getD-take, getD-drop}
 use borrow.Author.Tests.{eqb-true, eqb-false}
 use Rattle.numbers.specs.Bytes.{unsignedAt}
 use Rattle.numbers.proofs.Bytes.{unsigned-below}
-use Rattle.widths.specs.Table.{recordSize, recordOf, rises}
+use Rattle.widths.specs.Table.{widthRecordSize, recordOf, rises}
 use Rattle.widths.proofs.Keys.{same-less}
 
 -- the first byte that differs decides; of two equal lists none rises
@@ -74,7 +74,7 @@ as-bytes xs ys e p q = rises-by xs ys (length xs) refl (sym e) p q ∙ ap (λ (n
 -- ---- the table's keys
 
 abbrev pub keyBytes : List ℕ → ℕ → List ℕ
-keyBytes table index = take 9 (drop (index * recordSize) table)
+keyBytes table index = take 9 (drop (index * widthRecordSize) table)
 
 part-byte : (table : List ℕ) (at count i : ℕ) → i < count → getD (take count (drop at table)) i 0 ≡ getD table (at + i) 0
 part-byte table at count i h = getD-take count (drop at table) i 0 h ∙ getD-drop at table i 0
@@ -87,22 +87,22 @@ unsigned-part table at count (suc upto) h =
     (ap (λ (n : ℕ). getD (take count (drop at table)) n 0) (zero-add upto) ∙ part-byte table at count upto h)
 
 module _ (table : List ℕ) (bytes : Bytes table) where
-  module _ (index : ℕ) (inside : index * recordSize + recordSize ≤ length table) where
+  module _ (index : ℕ) (inside : index * widthRecordSize + widthRecordSize ≤ length table) where
     key-length : length (keyBytes table index) ≡ 9
-    key-length = length-take-le 9 (drop (index * recordSize) table) (omega (arith, length-drop (index * recordSize) table))
+    key-length = length-take-le 9 (drop (index * widthRecordSize) table) (omega (arith, length-drop (index * widthRecordSize) table))
 
     key-bytes : Bytes (keyBytes table index)
     key-bytes i h =
         let short : i < 9 = omega (arith, key-length) in
-        rw (part-byte table (index * recordSize) 9 i short) (bytes (index * recordSize + i) (omega arith))
+        rw (part-byte table (index * widthRecordSize) 9 i short) (bytes (index * widthRecordSize + i) (omega arith))
 
     key-number : unsignedAt (keyBytes table index) 0 9 ≡ recordOf table index .key
     unfolding recordOf
-    key-number = unsigned-part table (index * recordSize) 9 9 (omega arith)
+    key-number = unsigned-part table (index * widthRecordSize) 9 9 (omega arith)
 
   -- to rise from record to record is to rise as bytes
-  pub rises-as-bytes : (index : ℕ) → suc index * recordSize + recordSize ≤ length table → rises table (suc index) ≡ risesAsBytes (keyBytes table index) (keyBytes table (suc index))
+  pub rises-as-bytes : (index : ℕ) → suc index * widthRecordSize + widthRecordSize ≤ length table → rises table (suc index) ≡ risesAsBytes (keyBytes table index) (keyBytes table (suc index))
   rises-as-bytes index inside =
-      let before : index * recordSize + recordSize ≤ length table = omega arith in
+      let before : index * widthRecordSize + widthRecordSize ≤ length table = omega arith in
       sym (rises-by (keyBytes table index) (keyBytes table (suc index)) 9 (key-length index before) (key-length (suc index) inside) (key-bytes index before) (key-bytes (suc index) inside)
       ∙ ap₂ ltb (key-number index before) (key-number (suc index) inside))

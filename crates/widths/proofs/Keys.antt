@@ -11,7 +11,7 @@ use borrow.Author.Tests.{ltb-true, ltb-false, eqb-true, eqb-false, lt-ltb, le-lt
 use Rattle.numbers.specs.Bytes.{unsignedAt}
 use Rattle.numbers.proofs.Bytes.{unsigned-more, unsigned-join}
 use Rattle.widths.specs.declared.table.Key.{Key}
-use Rattle.widths.specs.Table.{recordSize, recordOf}
+use Rattle.widths.specs.Table.{widthRecordSize, recordOf}
 use Rattle.widths.specs.LookUp.{isFor}
 use Rattle.widths.specs.Steps.{keyNumber, KeyAt}
 
@@ -51,9 +51,9 @@ nine : (table : List ℕ) (at : ℕ) → unsignedAt table at 9 ≡ characterKey 
 nine table at = unsigned-more table at 8 ∙ ap (λ (n : ℕ). n * 256 + getD table (at + 8) 0) (unsigned-join table at 4 4)
 
 module _ (table : List ℕ) (index : ℕ) where
-  pub key-is : (k : Key) → KeyAt table (index * recordSize) k → keyNumber k ≡ recordOf table index .key
+  pub key-is : (k : Key) → KeyAt table (index * widthRecordSize) k → keyNumber k ≡ recordOf table index .key
   unfolding recordOf
-  key-is k h = ap₂ (λ (head code : ℕ). head * 256 + code) (h .head-is) (h .code-is) ∙ sym (nine table (index * recordSize))
+  key-is k h = ap₂ (λ (head code : ℕ). head * 256 + code) (h .head-is) (h .code-is) ∙ sym (nine table (index * widthRecordSize))
 
   -- a record for a character has its key
   module _ (checksum scale byte : ℕ) where
@@ -63,10 +63,10 @@ module _ (table : List ℕ) (index : ℕ) where
         let r = recordOf table index in
         let outer = and-eq-true-iff (eqb (r .checksum) checksum) (eqb (r .scale) scale && eqb (r .code) byte) .0 e in
         let inner = and-eq-true-iff (eqb (r .scale) scale) (eqb (r .code) byte) .0 (outer .1) in
-        omega (arith, nine table (index * recordSize), eqb-true (r .checksum) checksum (outer .0), eqb-true (r .scale) scale (inner .0), eqb-true (r .code) byte (inner .1))
+        omega (arith, nine table (index * widthRecordSize), eqb-true (r .checksum) checksum (outer .0), eqb-true (r .scale) scale (inner .0), eqb-true (r .code) byte (inner .1))
 
     -- and a record that has a character's key is for it
-    pub key-for : (k : Key) → KeyAt table (index * recordSize) k → keyNumber k ≡ characterKey checksum scale byte → scale < 2 ^ 32 → byte < 256
+    pub key-for : (k : Key) → KeyAt table (index * widthRecordSize) k → keyNumber k ≡ characterKey checksum scale byte → scale < 2 ^ 32 → byte < 256
         → isFor (recordOf table index) checksum scale byte ≡ true
     unfolding recordOf
     key-for k h e s b =

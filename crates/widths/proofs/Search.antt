@@ -9,7 +9,7 @@ use native.Mathlib.Omega.{arith}
 use borrow.Author.Count.{below-more}
 use Rattle.refusals.specs.Answer.{given}
 use Rattle.widths.specs.declared.table.Key.{Key}
-use Rattle.widths.specs.Table.{recordSize, recordOf, checkedTable}
+use Rattle.widths.specs.Table.{widthRecordSize, recordOf, checkedTable}
 use Rattle.widths.specs.LookUp.{found, absent, metricOf, isFor, walkFrom, walk}
 use Rattle.widths.specs.Steps.{keyNumber, KeyAt, FirstNotBelow}
 use Rattle.widths.proofs.Keys.{less-or-not, characterKey, key-is, for-key, key-for}
@@ -50,7 +50,7 @@ module _ (table : List ℕ) (checksum scale byte : ℕ) where
 module _ (table : List ℕ) (records : ℕ) (judged : checkedTable table ≡ given records) where
   module _ (checksum scale byte : ℕ) where
     -- a record with the character's key is the one that the walk finds
-    pub walk-finds : (index : ℕ) (k : Key) → index < records → KeyAt table (index * recordSize) k → keyNumber k ≡ characterKey checksum scale byte → scale < 2 ^ 32 → byte < 256
+    pub walk-finds : (index : ℕ) (k : Key) → index < records → KeyAt table (index * widthRecordSize) k → keyNumber k ≡ characterKey checksum scale byte → scale < 2 ^ 32 → byte < 256
         → found (metricOf (recordOf table index)) ≡ walk records table checksum scale byte
     walk-finds index k inside h e s b =
         let here : recordOf table index .key ≡ characterKey checksum scale byte = sym (key-is table index k h) ∙ e in

@@ -17,7 +17,7 @@ use Rattle.widths.specs.Steps.{keyNumber, KeyAt}
 use Rattle.widths.proofs.Halving.{LastBytes}
 use Rattle.widths.proofs.Keys.{less-or-not, key-is}
 use Rattle.widths.specs.Scaling.{lawfulScale, lawfulFirst}
-use Rattle.widths.specs.Table.{recordSize, recordAt, recordOf, rises, lawfulFields, wholeRecord, rightRecord, checkedFrom, checkedTable}
+use Rattle.widths.specs.Table.{widthRecordSize, recordAt, recordOf, rises, lawfulFields, wholeRecord, rightRecord, checkedFrom, checkedTable}
 
 -- ---- the loop
 
@@ -33,7 +33,7 @@ rises-next last next = rises-by last next (ltb next (last + 1)) refl
 pub record Checking (table : List ℕ) (at least : ℕ) : Type 0 where
   pub index : ℕ
   pub left : ℕ
-  pub place : at ≡ index * recordSize
+  pub place : at ≡ index * widthRecordSize
   pub enough : index + left ≡ suc (length table)
   pub reach : rises table index ≡ not (ltb (recordOf table index .key) least)
   pub rest : checkedFrom left table index ≡ checkedTable table
@@ -51,24 +51,24 @@ module _ (table : List ℕ) where
       }
 
   -- a record that is reached is right or its place is the answer
-  opened : (left index : ℕ) → index * recordSize < length table
-      → checkedFrom (suc left) table index ≡ refuseIf (not (rightRecord table index)) wrongWidthTable (index * recordSize) (checkedFrom left table (suc index))
+  opened : (left index : ℕ) → index * widthRecordSize < length table
+      → checkedFrom (suc left) table index ≡ refuseIf (not (rightRecord table index)) wrongWidthTable (index * widthRecordSize) (checkedFrom left table (suc index))
   unfolding checkedFrom
   opened left index h =
-      ap (λ (over : Bool). cond over (given index) (refuseIf (not (rightRecord table index)) wrongWidthTable (index * recordSize) (checkedFrom left table (suc index)))) (lt-leb (length table) (index * recordSize) h)
+      ap (λ (over : Bool). cond over (given index) (refuseIf (not (rightRecord table index)) wrongWidthTable (index * widthRecordSize) (checkedFrom left table (suc index)))) (lt-leb (length table) (index * widthRecordSize) h)
 
-  ended : (left index : ℕ) → length table ≤ index * recordSize → checkedFrom left table index ≡ given index
+  ended : (left index : ℕ) → length table ≤ index * widthRecordSize → checkedFrom left table index ≡ given index
   unfolding checkedFrom
   ended zero index h = refl
-  ended (suc left) index h = simp (le-leb (length table) (index * recordSize) h)
+  ended (suc left) index h = simp (le-leb (length table) (index * widthRecordSize) h)
 
-  wrong-by : (left index : ℕ) → index * recordSize < length table → index + left ≡ suc (length table) → rightRecord table index ≡ false
-      → checkedFrom left table index ≡ refused wrongWidthTable (index * recordSize)
+  wrong-by : (left index : ℕ) → index * widthRecordSize < length table → index + left ≡ suc (length table) → rightRecord table index ≡ false
+      → checkedFrom left table index ≡ refused wrongWidthTable (index * widthRecordSize)
   wrong-by zero index h enough e = absurd (omega arith)
   wrong-by (suc left) index h enough e = opened left index h ∙ simp e
 
-  turn-by : (left index : ℕ) → index * recordSize < length table → index + left ≡ suc (length table) → rightRecord table index ≡ true
-      → checkedFrom left table index ≡ checkedTable table → Checking table (index * recordSize + recordSize) (recordOf table index .key + 1)
+  turn-by : (left index : ℕ) → index * widthRecordSize < length table → index + left ≡ suc (length table) → rightRecord table index ≡ true
+      → checkedFrom left table index ≡ checkedTable table → Checking table (index * widthRecordSize + widthRecordSize) (recordOf table index .key + 1)
   turn-by zero index h enough e rest = absurd (omega arith)
   turn-by (suc left) index h enough e rest =
       record {
@@ -87,33 +87,33 @@ module _ (table : List ℕ) where
     pub key-here : (k : Key) → KeyAt table at k → keyNumber k ≡ here
     key-here k h = key-is table (c .index) k (subst (λ (n : ℕ). KeyAt table n k) (c .place) h)
 
-    pub check-ends : length table ≤ at → given (at / recordSize) ≡ checkedTable table
+    pub check-ends : length table ≤ at → given (at / widthRecordSize) ≡ checkedTable table
     check-ends h =
-        let e : at / recordSize ≡ c .index = omega (arith, c .place) in
+        let e : at / widthRecordSize ≡ c .index = omega (arith, c .place) in
         ap given e ∙ sym (ended (c .left) (c .index) (omega (arith, c .place))) ∙ c .rest
 
     wrong : at < length table → rightRecord table (c .index) ≡ false → refused wrongWidthTable at ≡ checkedTable table
     wrong h e = ap (refused wrongWidthTable) (c .place) ∙ sym (wrong-by (c .left) (c .index) (omega (arith, c .place)) (c .enough) e) ∙ c .rest
 
-    pub check-cut : at < length table → length table < at + recordSize → refused wrongWidthTable at ≡ checkedTable table
-    check-cut h l = wrong h (simp (lt-leb (c .index * recordSize + recordSize) (length table) (omega (arith, c .place))))
+    pub check-cut : at < length table → length table < at + widthRecordSize → refused wrongWidthTable at ≡ checkedTable table
+    check-cut h l = wrong h (simp (lt-leb (c .index * widthRecordSize + widthRecordSize) (length table) (omega (arith, c .place))))
 
     -- a whole record is right where its key reaches `least` and its fields are lawful
-    right-is : at + recordSize ≤ length table → rightRecord table (c .index) ≡ (not (ltb here least) && lawfulFields (recordAt table at))
+    right-is : at + widthRecordSize ≤ length table → rightRecord table (c .index) ≡ (not (ltb here least) && lawfulFields (recordAt table at))
     unfolding recordOf
     right-is h =
-        simp (le-leb (c .index * recordSize + recordSize) (length table) (omega (arith, c .place)), c .reach)
+        simp (le-leb (c .index * widthRecordSize + widthRecordSize) (length table) (omega (arith, c .place)), c .reach)
         (ap (λ (n : ℕ). not (ltb here least) && lawfulFields (recordAt table n)) (sym (c .place)))
 
-    pub check-low : at + recordSize ≤ length table → ltb here least ≡ true → refused wrongWidthTable at ≡ checkedTable table
+    pub check-low : at + widthRecordSize ≤ length table → ltb here least ≡ true → refused wrongWidthTable at ≡ checkedTable table
     check-low h e = wrong (omega arith) (right-is h ∙ simp e)
 
-    pub check-unlawful : at + recordSize ≤ length table → ltb here least ≡ false → lawfulFields (recordAt table at) ≡ false → refused wrongWidthTable at ≡ checkedTable table
+    pub check-unlawful : at + widthRecordSize ≤ length table → ltb here least ≡ false → lawfulFields (recordAt table at) ≡ false → refused wrongWidthTable at ≡ checkedTable table
     check-unlawful h e f = wrong (omega arith) (right-is h ∙ simp (e, f))
 
-    pub check-turns : at + recordSize ≤ length table → ltb here least ≡ false → lawfulFields (recordAt table at) ≡ true → Checking table (at + recordSize) (here + 1)
+    pub check-turns : at + widthRecordSize ≤ length table → ltb here least ≡ false → lawfulFields (recordAt table at) ≡ true → Checking table (at + widthRecordSize) (here + 1)
     check-turns h e f =
-        subst (λ (n : ℕ). Checking table (n + recordSize) (here + 1)) (sym (c .place))
+        subst (λ (n : ℕ). Checking table (n + widthRecordSize) (here + 1)) (sym (c .place))
         (turn-by (c .left) (c .index) (omega (arith, c .place)) (c .enough) (right-is h ∙ simp (e, f)) (c .rest))
 
 -- ---- a right table
@@ -127,42 +127,42 @@ right-parts table index e =
 
 -- what is known of a table that was judged right from an index on
 record RightFrom (table : List ℕ) (from records : ℕ) : Type 0 where
-  size : records * recordSize ≡ length table
+  size : records * widthRecordSize ≡ length table
   right : (index : ℕ) → from ≤ index → index < records → rightRecord table index ≡ true
 
 module _ (table : List ℕ) (records : ℕ) where
-  right-by : (left index : ℕ) (over : Bool) → leb (length table) (index * recordSize) ≡ over → index * recordSize ≤ length table → checkedFrom (suc left) table index ≡ given records
-      → (suc index * recordSize ≤ length table → checkedFrom left table (suc index) ≡ given records → RightFrom table (suc index) records) → RightFrom table index records
+  right-by : (left index : ℕ) (over : Bool) → leb (length table) (index * widthRecordSize) ≡ over → index * widthRecordSize ≤ length table → checkedFrom (suc left) table index ≡ given records
+      → (suc index * widthRecordSize ≤ length table → checkedFrom left table (suc index) ≡ given records → RightFrom table (suc index) records) → RightFrom table index records
   right-by left index true e fits r next =
-      let over : length table ≤ index * recordSize = leb-true (length table) (index * recordSize) e in
+      let over : length table ≤ index * widthRecordSize = leb-true (length table) (index * widthRecordSize) e in
       let last : index ≡ records = given-same index records (sym (ended table (suc left) index over) ∙ r) in
       record { size = omega arith; right = λ i low high. absurd (omega arith) }
   right-by left index false e fits r next =
-      let under : index * recordSize < length table = leb-false (length table) (index * recordSize) e in
-      let split = given-next (not (rightRecord table index)) wrongWidthTable (index * recordSize) (checkedFrom left table (suc index)) records (sym (opened table left index under) ∙ r) in
+      let under : index * widthRecordSize < length table = leb-false (length table) (index * widthRecordSize) e in
+      let split = given-next (not (rightRecord table index)) wrongWidthTable (index * widthRecordSize) (checkedFrom left table (suc index)) records (sym (opened table left index under) ∙ r) in
       let here : rightRecord table index ≡ true = not-false (rightRecord table index) (split .0) in
-      let whole : index * recordSize + recordSize ≤ length table = leb-true (index * recordSize + recordSize) (length table) (right-parts table index here .0) in
+      let whole : index * widthRecordSize + widthRecordSize ≤ length table = leb-true (index * widthRecordSize + widthRecordSize) (length table) (right-parts table index here .0) in
       let more : RightFrom table (suc index) records = next (omega arith) (split .1) in
       record {
         size = more .size;
         right = λ i low high. ⊎-elim (λ (same : index ≡ i). subst (λ (n : ℕ). rightRecord table n ≡ true) same here) (λ (past : index < i). more .right i past high) (eq-or-lt-of-le low);
       }
 
-  right-from : (left index : ℕ) → index + left ≡ suc (length table) → index * recordSize ≤ length table → checkedFrom left table index ≡ given records → RightFrom table index records
+  right-from : (left index : ℕ) → index + left ≡ suc (length table) → index * widthRecordSize ≤ length table → checkedFrom left table index ≡ given records → RightFrom table index records
   right-from zero index enough fits r = absurd (omega arith)
   right-from (suc left) index enough fits r =
-      right-by left index (leb (length table) (index * recordSize)) refl fits r (λ fits-next r-next. right-from left (suc index) (omega arith) fits-next r-next)
+      right-by left index (leb (length table) (index * widthRecordSize)) refl fits r (λ fits-next r-next. right-from left (suc index) (omega arith) fits-next r-next)
 
   module _ (judged : checkedTable table ≡ given records) where
     right-all : RightFrom table 0 records
     right-all = right-from (suc (length table)) 0 (omega arith) (omega arith) judged
 
     -- a right table is its records and nothing more
-    pub table-size : records * recordSize ≡ length table
+    pub table-size : records * widthRecordSize ≡ length table
     table-size = right-all .size
 
     -- each record lies within the table
-    pub record-inside : (index : ℕ) → index < records → index * recordSize + recordSize ≤ length table
+    pub record-inside : (index : ℕ) → index < records → index * widthRecordSize + widthRecordSize ≤ length table
     record-inside index h = omega (arith, table-size)
 
     pub record-right : (index : ℕ) → index < records → rightRecord table index ≡ true
@@ -198,5 +198,5 @@ module _ (table : List ℕ) (records : ℕ) where
 pub width-bytes : (table : List ℕ) → ((i : ℕ) → getD table i 0 < 256) → (index : ℕ) → LastBytes (recordOf table index .width)
 unfolding recordOf
 width-bytes table bytes index =
-    let at = index * recordSize in
+    let at = index * widthRecordSize in
     record { b1-below = bytes (at + 13); b2-below = bytes (at + 14); b3-below = bytes (at + 15) }

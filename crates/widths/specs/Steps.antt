@@ -33,9 +33,9 @@ pub record KeyAt (table : List ℕ) (at : ℕ) (k : Key) : Type 0 where
   pub code-below : k .code < 256
 
 -- the check's answer: 14 at the place of the first wrong record, or how many records
-abbrev pub tableAnswer : Table → Answer ℕ
-tableAnswer (Right records) = given records
-tableAnswer (Wrong place) = refused wrongWidthTable place
+abbrev pub tableSays : Table → Answer ℕ
+tableSays (Right records) = given records
+tableSays (Wrong place) = refused wrongWidthTable place
 
 -- what stands at the place that a search found
 abbrev pub foundAt : List ℕ → Place → LookUp

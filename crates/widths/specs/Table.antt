@@ -12,8 +12,8 @@ use Rattle.widths.specs.declared.FixWord.{FixWord}
 use Rattle.widths.specs.Scaling.{lawfulScale, lawfulFirst}
 
 -- "records of one fixed size, no header. Width record, 16 bytes"
-abbrev pub recordSize : ℕ
-recordSize = 16
+abbrev pub widthRecordSize : ℕ
+widthRecordSize = 16
 
 -- "check sum 4, scale 4, code 1, zero 1, escapement in pixels 2 (signed), width 4 (TFM fix word)"; its key is "the first nine bytes", as one number
 pub record WidthRecord : Type 0 where
@@ -40,7 +40,7 @@ recordAt table at =
 
 -- the record of an index, counted from 0
 unfoldable pub recordOf : List ℕ → ℕ → WidthRecord
-recordOf table index = recordAt table (index * recordSize)
+recordOf table index = recordAt table (index * widthRecordSize)
 
 -- "The first nine bytes rise strictly from record to record, as bytes": big-endian numbers of equally many bytes are in order as their bytes are
 abbrev pub rises : List ℕ → ℕ → Bool
@@ -53,7 +53,7 @@ lawfulFields r = lawfulScale (r .scale) && (eqb (r .zero-byte) 0 && lawfulFirst 
 
 -- "Bytes left over after whole records are a wrong record"
 abbrev pub wholeRecord : List ℕ → ℕ → Bool
-wholeRecord table index = leb (index * recordSize + recordSize) (length table)
+wholeRecord table index = leb (index * widthRecordSize + widthRecordSize) (length table)
 
 -- a record that breaks no rule
 abbrev pub rightRecord : List ℕ → ℕ → Bool
@@ -63,8 +63,8 @@ rightRecord table index = wholeRecord table index && (rises table index && lawfu
 unfoldable pub checkedFrom : ℕ → List ℕ → ℕ → Answer ℕ
 checkedFrom zero table index = given index
 checkedFrom (suc left) table index =
-    cond (leb (length table) (index * recordSize)) (given index)
-    (refuseIf (not (rightRecord table index)) wrongWidthTable (index * recordSize) (checkedFrom left table (suc index)))
+    cond (leb (length table) (index * widthRecordSize)) (given index)
+    (refuseIf (not (rightRecord table index)) wrongWidthTable (index * widthRecordSize) (checkedFrom left table (suc index)))
 
 -- "An empty table is right"; there are fewer records than bytes
 abbrev pub checkedTable : List ℕ → Answer ℕ

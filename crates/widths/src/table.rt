@@ -9,7 +9,7 @@ ghost use lib.ListN.{length};
 ghost use Rattle.refusals.specs.Answer.{given};
 ghost use Rattle.widths.specs.Table.{recordAt, recordOf, lawfulFields, checkedTable};
 ghost use Rattle.widths.specs.LookUp.{metricOf, walk};
-ghost use Rattle.widths.specs.Steps.{keyNumber, KeyAt, tableAnswer, foundAt, Among, FirstNotBelow};
+ghost use Rattle.widths.specs.Steps.{keyNumber, KeyAt, tableSays, foundAt, Among, FirstNotBelow};
 
 // The layout of a width record: its size, and where the fields after check sum and scale start.
 const RECORD_SIZE: usize = 16;
@@ -109,7 +109,7 @@ fn lawful_fields(table: &[u8], at: usize, key: Key) -> bool
 // The check of a whole table. A next record must reach `least`: one past the key before it, 0 at first. Bytes after the
 // whole records are judged once, after the loop.
 pub fn check_table(table: &[u8]) -> Table
-    ensures { λ r. ⌜ tableAnswer r ≡ checkedTable (now (table .entry)) ⌝ }
+    ensures { λ r. ⌜ tableSays r ≡ checkedTable (now (table .entry)) ⌝ }
 {
     let mut at: usize = 0;
     let mut least = Key { head: 0, code: 0 };

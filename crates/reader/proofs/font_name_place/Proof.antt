@@ -3,7 +3,7 @@ use mathlib.Core.Path.{_≡_, sym, ap, _∙_}
 use borrow.Author.Needs.{needs}
 use denote.Ref.{now}
 use Rattle.volume.specs.Names.{namePlace}
-use Rattle.volume.specs.Steps.{nameAnswer}
+use Rattle.volume.specs.Steps.{namedAnswer}
 use Rattle.reader.proofs.Words.{cast-fits, cast-is}
 use Rattle.reader.proofs.font_name_place.Statement.{statement}
 use Rattle.reader.proofs.font_name_place.Tie as tie
@@ -21,14 +21,14 @@ enum-known-refusal : tie.Need-enum-known-refusal
 enum-known-refusal c = search needs
 
 -- what the room answered
-place-is : (c : tie.After-name-place) → nameAnswer (c .name-place .result) ≡ namePlace (now (c .before .before .args .file)) (c .before .before .args .font)
+place-is : (c : tie.After-name-place) → namedAnswer (c .name-place .result) ≡ namePlace (now (c .before .before .args .file)) (c .before .before .args .font)
 place-is c = let s = c .before .before in c .name-place .ensures .0 ∙ ap (namePlace (now (s .args .file))) (cast-is (s .fits .font))
 
 returns : tie.Need-returns
-returns c = ap nameAnswer (sym (c .before .part .given .1)) ∙ place-is (c .before .before .before)
+returns c = ap namedAnswer (sym (c .before .part .given .1)) ∙ place-is (c .before .before .before)
 
 returns-2 : tie.Need-returns-2
-returns-2 c = ap nameAnswer (sym (c .before .refusal .given .1)) ∙ place-is (c .before .before .before)
+returns-2 c = ap namedAnswer (sym (c .before .refusal .given .1)) ∙ place-is (c .before .before .before)
 
 pub font-name-place-spec : {M : Type 1} → statement M
 font-name-place-spec =

@@ -13,7 +13,7 @@ use Rattle.numbers.proofs.Signed.{to-below}
 use Rattle.widths.specs.declared.table.Place.{Place}
 use Rattle.widths.specs.Table.{checkedTable}
 use Rattle.widths.specs.LookUp.{found, codeByte, walk, lookedUp}
-use Rattle.widths.specs.Steps.{tableAnswer, foundAt, Among}
+use Rattle.widths.specs.Steps.{tableSays, foundAt, Among}
 use Rattle.reader.proofs.Words.{small, cast-fits, cast-is}
 use Rattle.reader.proofs.look_up.Statement.{statement}
 use Rattle.reader.proofs.look_up.Tie as tie
@@ -37,7 +37,7 @@ to-twos-requires c κs =
 
 -- the table was judged right
 judged : (c : tie.After-known-told2) → checkedTable (now (c .before .before .before .before .before .args .table)) ≡ given (c .before .records .given .0 .0)
-judged c = sym (c .before .before .before .check-table .ensures) ∙ ap tableAnswer (c .before .records .given .1)
+judged c = sym (c .before .before .before .check-table .ensures) ∙ ap tableSays (c .before .records .given .1)
 
 -- the code's byte
 byte-is : (c : tie.After-to-twos) → c .to-twos .result ≡ codeByte (c .before .before .before .before .before .before .args .code)
@@ -78,7 +78,7 @@ returns : tie.Need-returns
 returns c =
     let a = c .before .before .before .before .before .args in
     ap (λ (t : Answer ℕ). andThen t (λ n. given (walk n (now (a .table)) (a .checksum) (a .scale) (codeByte (a .code)))))
-    (sym (ap tableAnswer (c .before .place .given .1)) ∙ c .before .before .before .check-table .ensures)
+    (sym (ap tableSays (c .before .place .given .1)) ∙ c .before .before .before .check-table .ensures)
 
 returns-2 : tie.Need-returns-2
 returns-2 c =

@@ -1,4 +1,4 @@
--- `units::multiplied` meets its contract: no product wraps, and the tests are those of `judged`. Assumes nothing.
+-- `units::multiplied` meets its contract: no product wraps, and the tests are those of `inRange`. Assumes nothing.
 use Prim.Native.Nat.{_*_, _^_}
 use native.Mathlib.Nat.{le-mul-of-pos-right}
 use native.Mathlib.Omega.{arith}

@@ -2,7 +2,7 @@
 use mathlib.Core.Path.{ap, sym, _∙_}
 use borrow.Author.Needs.{needs}
 use borrow.Author.Tests.{le-leb, lt-leb}
-use Rattle.units.specs.Unit.{judged}
+use Rattle.units.specs.Unit.{inRange}
 use Rattle.units.proofs.unit_of.Statement.{statement}
 use Rattle.units.proofs.unit_of.Tie as tie
 
@@ -25,7 +25,7 @@ returns-3 c =
     let f = c .before in
     let r = f .before .before .before .args .resolution in
     simp (le-leb 1 r (f .before .before .if1 .left), le-leb r 10000 (f .before .if2 .left))
-    (c .multiplied .ensures ∙ ap judged (sym (f .cancelled .ensures .lowest-terms)))
+    (c .multiplied .ensures ∙ ap inRange (sym (f .cancelled .ensures .lowest-terms)))
 
 pub unit-of-spec : {M : Type 1} → statement M
 unit-of-spec =

@@ -12,7 +12,7 @@ use Rattle.units.specs.declared.UnitFound.{UnitFound}
 use Rattle.units.specs.Unit.{unitAnswer, unitOf, drift}
 use Rattle.widths.specs.declared.table.Table.{Table}
 use Rattle.widths.specs.Table.{checkedTable}
-use Rattle.widths.specs.Steps.{tableAnswer}
+use Rattle.widths.specs.Steps.{tableSays}
 use Rattle.volume.specs.Past.{num, den, mag}
 use Rattle.volume.specs.Names.{history}
 use Rattle.state.specs.Registers.{freshState}
@@ -64,8 +64,8 @@ module _ (t : tie.After-check-table) where
   unit-was : unitOf (num (history (now (start .args .file)))) (den (history (now (start .args .file)))) (mag (history (now (start .args .file)))) (start .args .resolution) ≡ given k
   unit-was = sym (held-unit (start .pre) (start .args .resolution)) ∙ unit-given
 
-  table-was : {r : Table} → t .check-table .result ≡ r → checkedTable (now (start .args .widths)) ≡ tableAnswer r
-  table-was e = sym (t .check-table .ensures) ∙ ap tableAnswer e
+  table-was : {r : Table} → t .check-table .result ≡ r → checkedTable (now (start .args .widths)) ≡ tableSays r
+  table-was e = sym (t .check-table .ensures) ∙ ap tableSays e
 
   -- what the page comes to
   abbrev meant : Answer Placed

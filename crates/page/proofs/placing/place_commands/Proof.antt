@@ -12,7 +12,7 @@ use Rattle.state.specs.Registers.{freshState}
 use Rattle.page.specs.declared.Counts.{Counts}
 use Rattle.page.specs.declared.Walked.{Walked}
 use Rattle.page.specs.declared.Walked.the-variants as Walked
-use Rattle.page.specs.Records.{recordSize}
+use Rattle.page.specs.Records.{placementRecordSize}
 use Rattle.page.specs.PageList.{pageOf}
 use Rattle.page.specs.Placing.{Placed, placing}
 use Rattle.page.specs.Steps.{settingBy, zeroCounts, finish, endingOf, Few}
@@ -86,7 +86,7 @@ returns : tie.Need-returns
 returns c =
     let w = c .before .before .before .before .before .before .before .before in
     let v = c .before .before .before .before .counts .given in
-    let few : length (entry w) < recordSize * v .0 .0 .records = subst (λ (area : List ℕ). length area < recordSize * v .0 .0 .records) (unchanged w) (c .before .if1 .taken) in
+    let few : length (entry w) < placementRecordSize * v .0 .0 .records = subst (λ (area : List ℕ). length area < placementRecordSize * v .0 .0 .records) (unchanged w) (c .before .if1 .taken) in
     let both = short-to (answer w) (entry w) (counted w (v .0 .0) (v .1)) few in
     (c .refused2 .ensures ∙ both .0, unchanged w ∙ both .1)
 
@@ -110,7 +110,7 @@ returns-3 : tie.Need-returns-3
 returns-3 c =
     let w = c .before .before .before .before .before .before .before .before .before .before .before in
     let v = c .before .before .before .before .before .before .before .counts .given in
-    let room : recordSize * v .0 .0 .records ≤ length (entry w) = subst (λ (area : List ℕ). recordSize * v .0 .0 .records ≤ length area) (unchanged w) (c .before .before .before .before .if1 .left) in
+    let room : placementRecordSize * v .0 .0 .records ≤ length (entry w) = subst (λ (area : List ℕ). placementRecordSize * v .0 .0 .records ≤ length area) (unchanged w) (c .before .before .before .before .if1 .left) in
     let first = counted w (v .0 .0) (v .1) in
     let walk2 = c .before .before .walk2 in
     let ending = subst (λ (area : List ℕ). endingOf (walk2 .last .1 .1 .1 .1 .1 .0) (walk2 .result) ≡ finish area zeroCounts (answer w)) (unchanged w) (walk2 .ensures .0) in

@@ -7,7 +7,7 @@ use borrow.Author.Tests.{le-leb, lt-leb}
 use lib.Dec.{leb}
 use lib.ListN.{length}
 use denote.Ref.{now}
-use Rattle.page.specs.Records.{recordSize}
+use Rattle.page.specs.Records.{placementRecordSize}
 use Rattle.page.proofs.records.put_record.Statement.{statement}
 use Rattle.page.proofs.records.put_record.Tie as tie
 
@@ -26,7 +26,7 @@ same-length c = search needs
 -- the first byte past the record, and the area's length
 module _ (s : tie.Start) where
   abbrev past : ℕ
-  past = recordSize * s .args .index + recordSize
+  past = placementRecordSize * s .args .index + placementRecordSize
 
   abbrev room : ℕ
   room = length (now (s .args .out))

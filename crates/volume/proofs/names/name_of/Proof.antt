@@ -10,7 +10,7 @@ use Rattle.refusals.specs.Answer.{Answer}
 use Rattle.volume.specs.declared.Part.{Part}
 use Rattle.volume.specs.declared.Named.{Named}
 use Rattle.volume.specs.Names.{namePlace, partOf, startOf, bytesAfter}
-use Rattle.volume.specs.Steps.{nameAnswer, Inside}
+use Rattle.volume.specs.Steps.{namedAnswer, Inside}
 use Rattle.volume.proofs.names.name_of.Statement.{statement}
 use Rattle.volume.proofs.names.name_of.Tie as tie
 
@@ -46,12 +46,12 @@ part-result-end-2 : tie.Need-part-result-end-2
 part-result-end-2 c = omega (arith, inside c)
 
 -- what `name_place` answered
-place-is : (c : tie.After-name-place) → nameAnswer (c .name-place .result) ≡ namePlace (now (c .before .before .args .file)) (c .before .before .args .number)
+place-is : (c : tie.After-name-place) → namedAnswer (c .name-place .result) ≡ namePlace (now (c .before .before .args .file)) (c .before .before .args .number)
 place-is c = c .name-place .ensures .0 ∙ ap (namePlace (now (c .before .before .args .file))) (toZ-ofZ (c .before .before .fits .number))
 
 -- what was answered, refused or not, is what is meant
-answer-is : (c : tie.After-name-place) (r : Named) → c .name-place .result ≡ r → nameAnswer r ≡ namePlace (now (c .before .before .args .file)) (c .before .before .args .number)
-answer-is c r e = ap nameAnswer (sym e) ∙ place-is c
+answer-is : (c : tie.After-name-place) (r : Named) → c .name-place .result ≡ r → namedAnswer r ≡ namePlace (now (c .before .before .args .file)) (c .before .before .args .number)
+answer-is c r e = ap namedAnswer (sym e) ∙ place-is c
 
 returns : tie.Need-returns
 returns c =

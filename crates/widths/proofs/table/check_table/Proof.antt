@@ -6,7 +6,7 @@ use borrow.Author.Tests.{not-true, not-false}
 use lib.Dec.{ltb}
 use lib.ListN.{length}
 use denote.Ref.{now}
-use Rattle.widths.specs.Table.{recordSize, recordOf}
+use Rattle.widths.specs.Table.{widthRecordSize, recordOf}
 use Rattle.widths.specs.Steps.{keyNumber}
 use Rattle.widths.proofs.TableLaws.{Checking, check-starts, check-ends, check-cut, check-low, check-unlawful, check-turns, key-here}
 use Rattle.widths.proofs.table.check_table.Statement.{statement}
@@ -25,7 +25,7 @@ loop-holds : tie.Need-loop-holds Inv-loop μ-loop
 loop-holds c = (omega arith, omega arith, check-starts (now (c .before .args .table)))
 
 -- the record of a turn lies within the table
-inside : (c : tie.In-loop Inv-loop μ-loop) → c .before .loop .at + recordSize ≤ length (now (c .before .before .before .args .table))
+inside : (c : tie.In-loop Inv-loop μ-loop) → c .before .loop .at + widthRecordSize ≤ length (now (c .before .before .before .args .table))
 inside c = omega (arith, c .before .loop .inv .2 .place)
 
 key-at-requires : tie.Need-key-at-requires Inv-loop μ-loop
@@ -68,11 +68,11 @@ loop-again c =
     let table = now (c .before .before .before .before .before .before .before .before .before .args .table) in
     let l = c .before .before .before .before .before .before .before .loop in
     let key = c .before .before .before .before .before .key-at in
-    let next : Checking table (l .at + recordSize) (recordOf table (l .inv .2 .index) .key + 1) =
+    let next : Checking table (l .at + widthRecordSize) (recordOf table (l .inv .2 .index) .key + 1) =
     check-turns table (l .at) (keyNumber (l .least)) (l .inv .2) (inside (c .before .before .before .before .before .before)) (sym (below-test (c .before .before .before .before)) ∙ c .before .before .before .if1 .left) (sym (c .before .before .lawful-fields .ensures) ∙ not-false _ (c .before .if2 .left)) in
     let e : recordOf table (l .inv .2 .index) .key + 1 ≡ key .result .head * 256 + (key .result .code + 1) =
     omega (arith, key-here table (l .at) (keyNumber (l .least)) (l .inv .2) (key .result) (key .ensures)) in
-    (omega (arith, l .inv .2 .place), omega (arith, key .ensures .code-below), subst (Checking table (l .at + recordSize)) e next)
+    (omega (arith, l .inv .2 .place), omega (arith, key .ensures .code-below), subst (Checking table (l .at + widthRecordSize)) e next)
 
 returns-3 : tie.Need-returns-3 Inv-loop μ-loop
 returns-3 c =

@@ -5,7 +5,7 @@ use native.Mathlib.Omega.{arith}
 use borrow.Author.Tests.{eqb-true, eqb-false}
 use lib.ListN.{length}
 use denote.Ref.{now}
-use Rattle.widths.specs.Table.{recordSize}
+use Rattle.widths.specs.Table.{widthRecordSize}
 use Rattle.widths.specs.Steps.{keyNumber, FirstNotBelow}
 use Rattle.widths.proofs.Keys.{characterKey, key-is}
 use Rattle.widths.proofs.TableLaws.{record-inside}
@@ -29,7 +29,7 @@ key-number c = omega (arith, c .key-of .ensures)
 first : (c : tie.After-first-not-below) → FirstNotBelow (now (c .before .before .before .args .table)) (c .before .before .before .args .records) (character (c .before .before .before)) (c .first-not-below .result)
 first c = subst (λ (n : ℕ). FirstNotBelow (now (c .before .before .before .args .table)) (c .before .before .before .args .records) n (c .first-not-below .result)) (key-number (c .before)) (c .first-not-below .ensures)
 
-inside : (c : tie.Then1) → c .before .first-not-below .result * recordSize + recordSize ≤ length (now (c .before .before .before .before .args .table))
+inside : (c : tie.Then1) → c .before .first-not-below .result * widthRecordSize + widthRecordSize ≤ length (now (c .before .before .before .before .args .table))
 inside c = record-inside (now (c .before .before .before .before .args .table)) (c .before .before .before .before .args .records) (c .before .before .before .before .pre .0) (c .before .first-not-below .result) (c .if1 .taken)
 
 mul-key-at : tie.Need-mul-key-at

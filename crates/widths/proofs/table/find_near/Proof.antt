@@ -5,7 +5,7 @@ use native.Mathlib.Omega.{arith}
 use borrow.Author.Tests.{eqb-true}
 use lib.ListN.{length}
 use denote.Ref.{now}
-use Rattle.widths.specs.Table.{recordSize}
+use Rattle.widths.specs.Table.{widthRecordSize}
 use Rattle.widths.specs.Steps.{keyNumber}
 use Rattle.widths.proofs.Keys.{characterKey}
 use Rattle.widths.proofs.TableLaws.{record-inside}
@@ -14,7 +14,7 @@ use borrow.Author.Needs.{needs}
 use Rattle.widths.proofs.table.find_near.Statement.{statement}
 use Rattle.widths.proofs.table.find_near.Tie as tie
 
-inside : (c : tie.Then1) → c .before .before .args .hint * recordSize + recordSize ≤ length (now (c .before .before .args .table))
+inside : (c : tie.Then1) → c .before .before .args .hint * widthRecordSize + widthRecordSize ≤ length (now (c .before .before .args .table))
 inside c = record-inside (now (c .before .before .args .table)) (c .before .before .args .records) (c .before .before .pre .0) (c .before .before .args .hint) (c .if1 .taken)
 
 mul-key-at : tie.Need-mul-key-at

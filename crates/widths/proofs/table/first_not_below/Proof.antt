@@ -6,7 +6,7 @@ use borrow.Author.Tests.{ltb-true, ltb-false}
 use lib.Dec.{ltb}
 use lib.ListN.{length}
 use denote.Ref.{now}
-use Rattle.widths.specs.Table.{recordSize, recordOf}
+use Rattle.widths.specs.Table.{widthRecordSize, recordOf}
 use Rattle.widths.specs.Steps.{keyNumber}
 use Rattle.widths.proofs.Keys.{key-is}
 use Rattle.widths.proofs.TableLaws.{record-inside}
@@ -33,7 +33,7 @@ abbrev middle : tie.In-loop Inv-loop μ-loop → ℕ
 middle c = c .before .loop .low + (c .before .loop .high - c .before .loop .low) / 2
 
 -- the middle record lies within the table
-inside : (c : tie.In-loop Inv-loop μ-loop) → middle c * recordSize + recordSize ≤ length (now (c .before .before .before .args .table))
+inside : (c : tie.In-loop Inv-loop μ-loop) → middle c * widthRecordSize + widthRecordSize ≤ length (now (c .before .before .before .args .table))
 inside c =
     let s = c .before .before .before in
     record-inside (now (s .args .table)) (s .args .records) (s .pre .0) (middle c) (omega (arith, c .before .loop .inv .top))

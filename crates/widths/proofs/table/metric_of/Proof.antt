@@ -10,12 +10,12 @@ use mir.Facts.{toZ-ofZ}
 use Rattle.numbers.specs.Bytes.{signedAt}
 use lib.ListN.{length}
 use denote.Ref.{now}
-use Rattle.widths.specs.Table.{recordSize, recordOf}
+use Rattle.widths.specs.Table.{widthRecordSize, recordOf}
 use Rattle.widths.proofs.TableLaws.{record-inside}
 use Rattle.widths.proofs.table.metric_of.Statement.{statement}
 use Rattle.widths.proofs.table.metric_of.Tie as tie
 
-inside : (s : tie.Start) → s .args .index * recordSize + recordSize ≤ length (now (s .args .table))
+inside : (s : tie.Start) → s .args .index * widthRecordSize + widthRecordSize ≤ length (now (s .args .table))
 inside s = record-inside (now (s .args .table)) (s .args .records) (s .pre .0) (s .args .index) (s .pre .1)
 
 mul-at : tie.Need-mul-at
@@ -54,7 +54,7 @@ shared-slice-read-b3 c = omega (arith, inside (c .before .before .before .before
 returns : tie.Need-returns
 unfolding recordOf
 returns c =
-    let at = c .before .before .before .before .before .before .args .index * recordSize in
+    let at = c .before .before .before .before .before .before .args .index * widthRecordSize in
     let escapement : toZ w64 (ofZ w64 (c .before .before .before .before .signed-at .result)) ≡ signedAt (now (c .before .before .before .before .before .before .args .table)) (at + 10) 2 = toZ-ofZ (sfits-of (c .before .before .before .before .signed-at .ok)) ∙ c .before .before .before .before .signed-at .ensures .0 in
     rw (escapement, add-assoc at 12 1, add-assoc at 12 2, add-assoc at 12 3)
 
