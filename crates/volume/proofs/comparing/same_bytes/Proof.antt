@@ -48,8 +48,9 @@ unsigned-at-requires-2 c κs = (omega (arith, c .before .before .loop .inv .0, c
 returns-2 : tie.Need-returns-2 Inv-loop μ-loop Inv-loop2 μ-loop2
 returns-2 c =
     let a = c .before .before .before .before .before .before .before .before .args in
-    let at = c .before .before .before .before .loop .at in
-    differ (a .a .now) (a .b .now) (λ e. c .if2 .taken (c .before .before .unsigned-at .ensures .0 ∙ ap (λ (bytes : List ℕ). unsignedAt bytes at 8) e ∙ sym (c .before .unsigned-at2 .ensures .0)))
+    let a-is = c .before .before .unsigned-at .ensures .0 in
+    let b-is = c .before .unsigned-at2 .ensures .0 in
+    differ (a .a .now) (a .b .now) (λ e. c .if2 .taken cc)
 
 add-at : tie.Need-add-at Inv-loop μ-loop Inv-loop2 μ-loop2
 add-at c = search needs
