@@ -1,5 +1,5 @@
 -- The test of two lists of bytes is whether they are equal, and so whether all their bytes are. Assumes nothing.
-use mathlib.Core.Path.{_≡_, refl, sym, subst}
+use mathlib.Core.Path.{_≡_, refl, sym, ap, subst}
 use mathlib.Core.Bool.{Bool, true, false, _&&_}
 use mathlib.Core.List.{List, [], _∷_}
 use mathlib.Core.Logic.{⊎-elim}
@@ -8,7 +8,7 @@ use native.Mathlib.Omega.{arith}
 use lib.Dec.{eqb}
 use lib.ListN.{length, getD}
 use lib.Seq.{ext-getD}
-use borrow.Author.Tests.{eq-eqb, eqb-true}
+use borrow.Author.Tests.{eq-eqb, eqb-true, eqb-false}
 use Rattle.numbers.specs.Bytes.{unsignedAt}
 use Rattle.numbers.proofs.Bytes.{unsigned-same}
 use Rattle.commands.proofs.Ranges.{below-or-not}
@@ -38,6 +38,10 @@ differ xs ys unequal = by (sameBytes xs ys) refl
     by true e = absurd (unequal (same-true xs ys e))
     by false e = refl
 
+-- and lists that differ in some bytes
+pub differ-there : (xs ys : List ℕ) (at count : ℕ) → eqb (unsignedAt xs at count) (unsignedAt ys at count) ≡ false → false ≡ sameBytes xs ys
+differ-there xs ys at count t = differ xs ys (λ e. eqb-false _ _ t (ap (λ (bytes : List ℕ). unsignedAt bytes at count) e))
+
 -- ---- byte by byte
 
 abbrev pub SameUpTo : List ℕ → List ℕ → ℕ → Type 0
@@ -47,16 +51,25 @@ SameUpTo xs ys upto = (i : ℕ) → i < upto → getD xs i 0 ≡ getD ys i 0
 pub all-same : (xs ys : List ℕ) → length xs ≡ length ys → SameUpTo xs ys (length xs) → true ≡ sameBytes xs ys
 all-same xs ys long same = sym (rw (ext-getD 0 xs ys long same) (same-refl ys))
 
--- what is the same so far, and in a number of further bytes
-pub same-further : (xs ys : List ℕ) → ((i : ℕ) → getD xs i 0 < 256) → ((i : ℕ) → getD ys i 0 < 256)
-    → (at count : ℕ) → SameUpTo xs ys at → unsignedAt xs at count ≡ unsignedAt ys at count → SameUpTo xs ys (at + count)
-same-further xs ys xs-bytes ys-bytes at count so-far e i h = ⊎-elim (so-far i) further (below-or-not i at)
-  where
-    further : at ≤ i → getD xs i 0 ≡ getD ys i 0
-    further past =
-        let back : at + (i - at) ≡ i = omega arith in
-        subst (λ (n : ℕ). getD xs n 0 ≡ getD ys n 0) back (unsigned-same xs ys xs-bytes ys-bytes at count e (i - at) (omega arith))
+-- ---- byte after byte, count of them as one number
 
--- and in one further byte
-pub same-next : (xs ys : List ℕ) (at : ℕ) → SameUpTo xs ys at → getD xs at 0 ≡ getD ys at 0 → SameUpTo xs ys (at + 1)
-same-next xs ys at so-far e i h = ⊎-elim (so-far i) (λ past. let is : i ≡ at = omega arith in rw is e) (below-or-not i at)
+module _ (xs ys : List ℕ) (xs-bytes : (i : ℕ) → getD xs i 0 < 256) (ys-bytes : (i : ℕ) → getD ys i 0 < 256) (at count : ℕ) (so-far : SameUpTo xs ys at) where
+  abbrev tested : Bool
+  tested = eqb (unsignedAt xs at count) (unsignedAt ys at count)
+
+  -- the next are the same
+  pub same-further : tested ≡ true → SameUpTo xs ys (at + count)
+  same-further t i h = ⊎-elim (so-far i) further (below-or-not i at)
+    where
+      further : at ≤ i → getD xs i 0 ≡ getD ys i 0
+      further past =
+          let back : at + (i - at) ≡ i = omega arith in
+          subst (λ (n : ℕ). getD xs n 0 ≡ getD ys n 0) back (unsigned-same xs ys xs-bytes ys-bytes at count (eqb-true _ _ t) (i - at) (omega arith))
+
+  -- the last decide
+  pub last-decide : length xs ≡ length ys → at + count ≡ length xs → tested ≡ sameBytes xs ys
+  last-decide long all = by tested refl
+    where
+      by : (t : Bool) → tested ≡ t → t ≡ sameBytes xs ys
+      by true e = all-same xs ys long (subst (SameUpTo xs ys) all (same-further e))
+      by false e = differ-there xs ys at count e

@@ -56,6 +56,7 @@ pub fn lawful_selection(fonts: &[u32; 256], opcode: u8, params: &[u8]) -> bool
 
 // Whether the definition that stands at a place says just this: check sum, s, d, a, l and name.
 fn same_definition(file: &[u8], at: usize, said: &[u8]) -> bool
+    requires { ⌜ 8 ≤ length (now said) ⌝ }
     ensures { λ r. ⌜ SayingIs (now (file .entry)) at (now (said .entry)) r ⌝ }
 {
     match commands::read_at(file, at) {
