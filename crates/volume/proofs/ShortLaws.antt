@@ -1,9 +1,9 @@
--- Push, pop and fnt_num_0 to fnt_num_63: on a page, where `mayPass` allows them, they keep every rule and change nothing but the place and the depth, if a font
--- is selected already. Assumes nothing.
+-- Push, pop and fnt_num_0 to fnt_num_63: on a page, where `mayPass` allows them, they keep every rule and change nothing but the place and the depth; of the
+-- selections this is so if a font is selected already. Assumes nothing.
 use mathlib.Core.Path.{_≡_, refl, sym, ap, _∙_, subst}
 use mathlib.Core.Bool.{Bool, true, false, cond, not, _&&_, and-eq-true-iff, true≢false}
 use mathlib.Core.List.{List, []}
-use mathlib.Core.Logic.{⊎-elim}
+use mathlib.Core.Logic.{_⊎_, inl, inr, ⊎-elim}
 use Prim.Native.Nat.{ℕ, _+_, _-_, _<_, _≤_, max}
 use native.Mathlib.Omega.{arith}
 use lib.Dec.{ltb, leb, eqb}
@@ -25,38 +25,65 @@ use Rattle.volume.specs.declared.Stage.the-variants.{OnPage}
 use Rattle.volume.specs.declared.Volume.{Volume}
 use Rattle.volume.specs.Past.{isA, stage, depth, depthAfter, selected, isDefined, definitionOf}
 use Rattle.volume.specs.Rules.{fault, lawfulFont}
-use Rattle.volume.specs.Steps.{command, stateOf, afterOf, tableAfter, mayPass, changed, Passes, Tells, Going, Onward}
+use Rattle.volume.specs.Steps.{command, stateOf, afterOf, tableAfter, mayPushOrPop, mayPass, changed, Passes, Tells, Going, Onward}
 use Rattle.volume.proofs.FontTables.{told-defined}
 use Rattle.volume.proofs.Going.{turn-to, passing}
 
 -- ---- which opcodes may be passed
 
-module _ (fonts : List ℕ) (opcode depth : ℕ) where
-  pub may-push : opcode ≡ 141 → mayPass fonts opcode depth ≡ ltb depth 100
+module _ (opcode depth : ℕ) where
+  pub may-push : opcode ≡ 141 → mayPushOrPop opcode depth ≡ ltb depth 100
   may-push e = rw (eq-eqb opcode 141 e)
 
-  pub may-pop : opcode ≡ 142 → mayPass fonts opcode depth ≡ ltb 0 depth
+  pub may-pop : opcode ≡ 142 → mayPushOrPop opcode depth ≡ ltb 0 depth
   may-pop e = rw (ne-eqb opcode 141 (λ z. absurd (omega arith)), eq-eqb opcode 142 e)
 
-  pub may-select : 171 ≤ opcode → opcode < 235 → mayPass fonts opcode depth ≡ not (eqb (getD fonts (opcode - 171) 0) 0)
-  may-select low high =
-      rw (ne-eqb opcode 141 (λ z. absurd (omega arith)), ne-eqb opcode 142 (λ z. absurd (omega arith)), le-leb 171 opcode low, lt-ltb opcode 235 high)
+  pub may-neither : (opcode ≡ 141 → ⊥) → (opcode ≡ 142 → ⊥) → mayPushOrPop opcode depth ≡ false
+  may-neither no-push no-pop = rw (ne-eqb opcode 141 no-push, ne-eqb opcode 142 no-pop)
 
-  pub may-below : (opcode ≡ 141 → ⊥) → (opcode ≡ 142 → ⊥) → opcode < 171 → mayPass fonts opcode depth ≡ false
-  may-below no-push no-pop below = rw (ne-eqb opcode 141 no-push, ne-eqb opcode 142 no-pop, lt-leb 171 opcode below)
-
-  pub may-above : 235 ≤ opcode → mayPass fonts opcode depth ≡ false
-  may-above above =
-      rw (ne-eqb opcode 141 (λ z. absurd (omega arith)), ne-eqb opcode 142 (λ z. absurd (omega arith)), le-leb 171 opcode (omega arith), le-ltb opcode 235 above)
+  -- what may be one of the two is one of them
+  pub push-or-pop : mayPushOrPop opcode depth ≡ true → ((opcode ≡ 141) × (depth < 100)) ⊎ ((opcode ≡ 142) × (0 < depth))
+  push-or-pop may = by (eqb opcode 141) refl may
+    where
+      by : (pushes : Bool) → eqb opcode 141 ≡ pushes → cond pushes (ltb depth 100) (eqb opcode 142 && ltb 0 depth) ≡ true
+          → ((opcode ≡ 141) × (depth < 100)) ⊎ ((opcode ≡ 142) × (0 < depth))
+      by true e may = inl (eqb-true opcode 141 e, ltb-true depth 100 may)
+      by false e may = let (pops, some) = and-eq-true-iff (eqb opcode 142) (ltb 0 depth) .0 may in inr (eqb-true opcode 142 pops, ltb-true 0 depth some)
 
   -- a push that may be passed does not go too deep
-  pub push-shallow : mayPass fonts opcode depth ≡ true → kindOf opcode ≡ Push → depth < 100
-  push-shallow may kind-is = ⊎-elim inside (λ above. absurd (true≢false (sym may ∙ may-above above))) (below-or-not opcode 235)
+  pub push-shallow : mayPushOrPop opcode depth ≡ true → kindOf opcode ≡ Push → depth < 100
+  push-shallow may kind-is =
+      ⊎-elim (λ pushes. pushes .1)
+      (λ pops. let is = pops .0 in let (low, high) = kind-range opcode (omega arith) kind-is in absurd (omega arith))
+      (push-or-pop may)
+
+module _ (fonts : List ℕ) (opcode depth : ℕ) where
+  pub may-select : 171 ≤ opcode → opcode < 235 → mayPass fonts opcode depth ≡ not (eqb (getD fonts (opcode - 171) 0) 0)
+  may-select low high = rw (le-leb 171 opcode low, lt-ltb opcode 235 high)
+
+  pub may-below : opcode < 171 → mayPass fonts opcode depth ≡ mayPushOrPop opcode depth
+  may-below below = rw (lt-leb 171 opcode below)
+
+  pub may-above : 235 ≤ opcode → mayPass fonts opcode depth ≡ mayPushOrPop opcode depth
+  may-above above = rw (le-leb 171 opcode (omega arith), le-ltb opcode 235 above)
+
+  -- what may be passed is a push or a pop, or selects
+  pub passes-by : mayPass fonts opcode depth ≡ true
+      → (mayPushOrPop opcode depth ≡ true) ⊎ ((171 ≤ opcode) × (opcode < 235) × (not (eqb (getD fonts (opcode - 171) 0) 0) ≡ true))
+  passes-by may = by (leb 171 opcode && ltb opcode 235) refl may
     where
-      inside : opcode < 235 → depth < 100
-      inside below =
-          let (low, high) = kind-range opcode (omega arith) kind-is in
-          ltb-true depth 100 (sym (may-push (omega arith)) ∙ may)
+      by : (selects : Bool) → (leb 171 opcode && ltb opcode 235) ≡ selects → cond selects (not (eqb (getD fonts (opcode - 171) 0) 0)) (mayPushOrPop opcode depth) ≡ true
+          → (mayPushOrPop opcode depth ≡ true) ⊎ ((171 ≤ opcode) × (opcode < 235) × (not (eqb (getD fonts (opcode - 171) 0) 0) ≡ true))
+      by true ranged may =
+          let (from, below) = and-eq-true-iff (leb 171 opcode) (ltb opcode 235) .0 ranged in
+          inr (leb-true 171 opcode from, ltb-true opcode 235 below, may)
+      by false ranged may = inl may
+
+  pub pass-shallow : mayPass fonts opcode depth ≡ true → kindOf opcode ≡ Push → depth < 100
+  pass-shallow may kind-is =
+      ⊎-elim (λ steps. push-shallow opcode depth steps kind-is)
+      (λ selects. let below = selects .1 in let low = selects .0 in let (from, upto) = kind-range opcode (omega arith) kind-is in absurd (omega arith))
+      (passes-by may)
 
 -- ---- no rule is broken
 
@@ -85,7 +112,7 @@ bare-ahead file at opcode starts is below bare =
     front-at file at starts ∙ rw is (rw size at (after-whole opcode rest (omega arith) (omega (arith, size))))
 
 module _ {file : List ℕ} {page : ℕ} {v : Volume} {fonts again : List ℕ} (g : Going file page v fonts again)
-    (on-page : v .stage ≡ OnPage) (with-font : v .selected ≡ true) (starts : v .at < length file) where
+    (on-page : v .stage ≡ OnPage) (starts : v .at < length file) where
   abbrev deeper : Kind → Volume
   deeper kind = changed v (v .stage) (v .at + 1) (depthAfter kind (v .depth)) (max (v .greatest) (depthAfter kind (v .depth)))
 
@@ -108,8 +135,8 @@ module _ {file : List ℕ} {page : ℕ} {v : Volume} {fonts again : List ℕ} (g
         let ahead = bare-ahead file (v .at) opcode starts is (omega arith) (fixed-of opcode kind-is) in
         turn-to g (command opcode []) _ ahead (pop-fault (g .past) stage-is (command opcode []) kind-is (omega (arith, depth-is))) (rw kind-is) (rw kind-is) (rw kind-is) (rw kind-is)
 
-    select-turn : 171 ≤ opcode → opcode < 235 → not (eqb (getD fonts (opcode - 171) 0) 0) ≡ true → Going file page (deeper Select) fonts again
-    select-turn low high there =
+    select-turn : v .selected ≡ true → 171 ≤ opcode → opcode < 235 → not (eqb (getD fonts (opcode - 171) 0) 0) ≡ true → Going file page (deeper Select) fonts again
+    select-turn with-font low high there =
         let kind-is : kindOf opcode ≡ Select = range-kind Select low (omega arith) in
         let bare : fixedLength opcode ≡ 0 = omega (arith, fixed-of opcode kind-is) in
         let ahead = bare-ahead file (v .at) opcode starts is (omega arith) bare in
@@ -124,37 +151,35 @@ module _ {file : List ℕ} {page : ℕ} {v : Volume} {fonts again : List ℕ} (g
   abbrev Next : Kind → Type 0
   Next kind = Going file page (deeper kind) fonts again
 
-  -- what may be passed
-  pub short-turn : mayPass fonts opcode (v .depth) ≡ true → Next (kindOf opcode)
-  short-turn may = by (eqb opcode 141) refl (eqb opcode 142) refl may
-    where
-      by : (pushes : Bool) → eqb opcode 141 ≡ pushes → (pops : Bool) → eqb opcode 142 ≡ pops
-          → cond pushes (ltb (v .depth) 100) (cond pops (ltb 0 (v .depth)) ((leb 171 opcode && ltb opcode 235) && not (eqb (getD fonts (opcode - 171) 0) 0))) ≡ true
-          → Next (kindOf opcode)
-      by true e pops f may =
-          let at : opcode ≡ 141 = eqb-true opcode 141 e in
-          subst Next (sym (range-kind Push {opcode = opcode} (omega arith) (omega arith))) (push-turn opcode refl at (ltb-true (v .depth) 100 may))
-      by false e true f may =
-          let at : opcode ≡ 142 = eqb-true opcode 142 f in
-          subst Next (sym (range-kind Pop {opcode = opcode} (omega arith) (omega arith))) (pop-turn opcode refl at (ltb-true 0 (v .depth) may))
-      by false e false f may =
-          let (ranged, there) = and-eq-true-iff (leb 171 opcode && ltb opcode 235) _ .0 may in
-          let (from, below) = and-eq-true-iff (leb 171 opcode) (ltb opcode 235) .0 ranged in
-          let low : 171 ≤ opcode = leb-true 171 opcode from in
-          let high : opcode < 235 = ltb-true opcode 235 below in
-          subst Next (sym (range-kind Select {opcode = opcode} low (omega arith))) (select-turn opcode refl low high there)
+  -- a push or a pop
+  pub depth-turn : mayPushOrPop opcode (v .depth) ≡ true → Next (kindOf opcode)
+  depth-turn may =
+      ⊎-elim
+      (λ pushes. let at = pushes .0 in subst Next (sym (range-kind Push {opcode = opcode} (omega arith) (omega arith))) (push-turn opcode refl at (pushes .1)))
+      (λ pops. let at = pops .0 in subst Next (sym (range-kind Pop {opcode = opcode} (omega arith) (omega arith))) (pop-turn opcode refl at (pops .1)))
+      (push-or-pop opcode (v .depth) may)
+
+  -- whatever may be passed
+  pub short-turn : v .selected ≡ true → mayPass fonts opcode (v .depth) ≡ true → Next (kindOf opcode)
+  short-turn with-font may =
+      ⊎-elim depth-turn
+      (λ selects. let high = selects .1 in subst Next (sym (range-kind Select {opcode = opcode} (selects .0) (omega arith))) (select-turn opcode refl with-font (selects .0) high (selects .2)))
+      (passes-by fonts opcode (v .depth) may)
 
 -- ---- the scan may go on
 
-module _ {file fonts : List ℕ} {v : Volume} (on-page : v .stage ≡ OnPage) (with-font : v .selected ≡ true) {at depth greatest : ℕ}
+module _ {file fonts : List ℕ} {v : Volume} (on-page : v .stage ≡ OnPage) {at depth greatest : ℕ}
     (onward : Onward file fonts v (changed v (v .stage) at depth greatest)) where
   -- over plain commands
-  pub onward-plain : {next : ℕ} → Passes file at next → Onward file fonts v (changed v (v .stage) next depth greatest)
-  onward-plain passes = λ page again g. passing (onward page again g) on-page with-font passes
+  pub onward-plain : v .selected ≡ true → {next : ℕ} → Passes file at next → Onward file fonts v (changed v (v .stage) next depth greatest)
+  onward-plain with-font passes = λ page again g. passing (onward page again g) on-page with-font passes
 
-  -- over one that may be passed
-  pub onward-short : at < length file → mayPass fonts (getD file at 0) depth ≡ true
-      → {kind : Kind} {after most : ℕ} → kind ≡ kindOf (getD file at 0) → after ≡ depthAfter kind depth → most ≡ max greatest after
-      → Onward file fonts v (changed v (v .stage) (at + 1) after most)
-  onward-short starts may kind-is after-is most-is = λ page again g.
-      rw (most-is, after-is, kind-is) (short-turn (onward page again g) on-page with-font starts may)
+  module _ (starts : at < length file) {kind : Kind} {after most : ℕ}
+      (kind-is : kind ≡ kindOf (getD file at 0)) (after-is : after ≡ depthAfter kind depth) (most-is : most ≡ max greatest after) where
+    -- over a push or a pop
+    pub onward-depth : mayPushOrPop (getD file at 0) depth ≡ true → Onward file fonts v (changed v (v .stage) (at + 1) after most)
+    onward-depth may = λ page again g. rw (most-is, after-is, kind-is) (depth-turn (onward page again g) on-page starts may)
+
+    -- over one that may be passed
+    pub onward-short : v .selected ≡ true → mayPass fonts (getD file at 0) depth ≡ true → Onward file fonts v (changed v (v .stage) (at + 1) after most)
+    onward-short with-font may = λ page again g. rw (most-is, after-is, kind-is) (short-turn (onward page again g) on-page starts with-font may)

@@ -191,11 +191,13 @@ pub data Passes (file : List ℕ) : ℕ → ℕ → Type 0 where
   one-more : {from at : ℕ} (c : Command) (rest : List ℕ) → Passes file from at → front (drop at file) ≡ whole c rest → isPlain (kindOfCommand c) ≡ true
       → Passes file from (at + (1 + length (c .params)))
 
--- a push below depth 100, a pop above depth 0, or fnt_num_0 to fnt_num_63 of a font that is defined
+-- a push below depth 100 or a pop above depth 0
+abbrev pub mayPushOrPop : ℕ → ℕ → Bool
+mayPushOrPop opcode depth = cond (eqb opcode 141) (ltb depth deepest) (eqb opcode 142 && ltb 0 depth)
+
+-- one of these, or fnt_num_0 to fnt_num_63 of a font that is defined
 abbrev pub mayPass : List ℕ → ℕ → ℕ → Bool
-mayPass fonts opcode depth =
-    cond (eqb opcode 141) (ltb depth deepest)
-    (cond (eqb opcode 142) (ltb 0 depth) ((leb 171 opcode && ltb opcode 235) && not (eqb (getD fonts (opcode - 171) 0) 0)))
+mayPass fonts opcode depth = cond (leb 171 opcode && ltb opcode 235) (not (eqb (getD fonts (opcode - 171) 0) 0)) (mayPushOrPop opcode depth)
 
 -- the same volume but for its stage, place and depths
 abbrev pub changed : Volume → Stage → ℕ → ℕ → ℕ → Volume

@@ -1,5 +1,6 @@
 // Font definitions and selections. A table has, for each font number 0 to 255, one more than the place of its definition, or 0.
 use crate::Stage;
+use crate::comparing;
 use crate::rules;
 use commands::Kind;
 use commands::Read;
@@ -54,6 +55,7 @@ pub fn lawful_selection(fonts: &[u32; 256], opcode: u8, params: &[u8]) -> bool
 
 // Whether the definition that stands at a place says just this: check sum, s, d, a, l and name.
 fn same_definition(file: &[u8], at: usize, said: &[u8]) -> bool
+    requires { ⌜ 8 ≤ length (now said) ⌝ }
     ensures { λ r. ⌜ SayingIs (now (file .entry)) at (now (said .entry)) r ⌝ }
 {
     match commands::read_at(file, at) {
@@ -70,7 +72,7 @@ fn same_definition(file: &[u8], at: usize, said: &[u8]) -> bool
             }
             let from = start + (opcode - 242) as usize;
             let found = &file[from..next];
-            check::same(found, said)
+            comparing::same_bytes(found, said)
         }
     }
 }

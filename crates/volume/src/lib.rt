@@ -1,6 +1,7 @@
 // A volume: the list of commands of a whole file, judged from the front.
 use refusals::Refusal;
 
+pub mod comparing;
 pub mod faults;
 pub mod fonts;
 pub mod names;

@@ -4,12 +4,13 @@ use crate::Volume;
 use crate::progress;
 use state::Page;
 ghost use mathlib.Core.Path.{_≡_};
-ghost use Prim.Native.Nat.{_≤_};
+ghost use Prim.Native.Nat.{ℕ, _≤_};
 ghost use mathlib.Core.Bool.{true};
+ghost use mathlib.Core.List.{List};
 ghost use Rattle.commands.specs.Kinds.{kindOf};
 ghost use Rattle.commands.specs.Lengths.{lengths};
 ghost use Rattle.volume.specs.declared.Stage.the-variants.{OnPage};
-ghost use Rattle.volume.specs.Steps.{isPlain, Passes, mayPass, changed, Onward};
+ghost use Rattle.volume.specs.Steps.{isPlain, Passes, mayPushOrPop, mayPass, changed, Onward};
 
 // Whether an opcode is one that on a page, with a font selected, changes nothing but the place.
 fn is_plain(opcode: u8) -> bool
@@ -59,15 +60,24 @@ fn pass_plain(table: &[u8; 122], file: &[u8], at: usize) -> usize
     }
 }
 
+// Whether an opcode, at a depth, is a push or a pop that keeps the rules.
+fn may_push_or_pop(opcode: u8, depth: usize) -> bool
+    ensures { λ r. ⌜ r ≡ mayPushOrPop opcode depth ⌝ }
+{
+    match opcode {
+        141 => depth < Page::DEPTH,
+        142 => 0 < depth,
+        _ => false,
+    }
+}
+
 // Whether an opcode, at a depth, is a push, a pop or a short selection that keeps the rules.
 fn may_pass(fonts: &[u32; 256], opcode: u8, depth: usize) -> bool
     ensures { λ r. ⌜ r ≡ mayPass (now (fonts .entry)) opcode depth ⌝ }
 {
     match opcode {
-        141 => depth < Page::DEPTH,
-        142 => 0 < depth,
         171..=234 => fonts[(opcode - 171) as usize] != 0,
-        _ => false,
+        _ => may_push_or_pop(opcode, depth),
     }
 }
 
@@ -106,6 +116,27 @@ fn pass_on(table: &[u8; 122], fonts: &[u32; 256], file: &[u8], v: Volume) -> Vol
     }
 }
 
+// The short way on a page before a font is selected: over pushes and pops alone, as far as it goes.
+fn pass_depths(file: &[u8], v: Volume) -> Volume
+    requires { ⌜ v .stage ≡ OnPage ⌝ }
+    ensures { λ r. ⌜ ((fonts : List ℕ) → Onward (now (file .entry)) fonts v r) ⌝ }
+    ensures { λ r. ⌜ v .at ≤ r .at ⌝ }
+{
+    let mut place = v.at;
+    let mut depth = v.depth;
+    let mut greatest = v.greatest;
+    while place < file.len() {
+        let opcode = file[place];
+        if !may_push_or_pop(opcode, depth) {
+            return reached(v, place, depth, greatest);
+        }
+        depth = progress::next_depth(commands::kind_of(opcode), depth);
+        greatest = progress::greater(greatest, depth);
+        place = place + 1;
+    }
+    reached(v, place, depth, greatest)
+}
+
 // The short way, where it may be taken.
 pub fn passed(table: &[u8; 122], fonts: &[u32; 256], file: &[u8], v: Volume) -> Volume
     requires { ⌜ now table ≡ lengths ⌝ }
@@ -118,7 +149,7 @@ pub fn passed(table: &[u8; 122], fonts: &[u32; 256], file: &[u8], v: Volume) -> 
             if v.selected {
                 return pass_on(table, fonts, file, v);
             }
-            v
+            pass_depths(file, v)
         }
         _ => v,
     }

@@ -8,7 +8,6 @@ use Rattle.commands.specs.Reading.{reading, readAnswer}
 use Rattle.commands.specs.Commands.{whole}
 use Rattle.commands.proofs.Readings.{Reads, given-reads}
 use Rattle.volume.specs.Rules.{sameBytes}
-use Rattle.volume.proofs.SameBytes.{same-is}
 use Rattle.volume.proofs.FontTables.{saying-inside, read-define, read-says}
 use borrow.Author.Needs.{needs}
 use Rattle.volume.proofs.fonts.same_definition.Statement.{statement}
@@ -51,8 +50,8 @@ part-found-start c = omega (arith, saying-inside (as-read (c .before .before .be
 part-found-end : tie.Need-part-found-end
 part-found-end c = omega (arith, as-read (c .before .before .before) .inside)
 
-same-requires : tie.Need-same-requires
-same-requires c κs = search needs
+same-bytes-requires : tie.Need-same-bytes-requires
+same-bytes-requires c κs = search needs
 
 returns-3 : tie.Need-returns-3
 returns-3 c = λ d rest ahead define.
@@ -61,7 +60,7 @@ returns-3 c = λ d rest ahead define.
     let z : _≡_ {A = ℕ} 0 1 = cc in absurd (omega arith)
 
 returns-4 : tie.Need-returns-4
-returns-4 c = λ d rest ahead define. same-is _ _ _ (c .same .ensures .0) (c .same .ensures .1) ∙ ap (λ (bytes : List ℕ). sameBytes bytes (c .before .before .before .before .before .before .before .before .before .before .args .said .now)) (read-says (as-read (c .before .before .before .before .before)) ahead (omega arith) (omega arith))
+returns-4 c = λ d rest ahead define. c .same-bytes .ensures ∙ ap (λ (bytes : List ℕ). sameBytes bytes (c .before .before .before .before .before .before .before .before .before .before .args .said .now)) (read-says (as-read (c .before .before .before .before .before)) ahead (omega arith) (omega arith))
 
 pub same-definition-spec : {M : Type 1} → statement M
 same-definition-spec =
@@ -78,6 +77,6 @@ same-definition-spec =
     sub-found
     part-found-start
     part-found-end
-    same-requires
+    same-bytes-requires
     returns-3
     returns-4)

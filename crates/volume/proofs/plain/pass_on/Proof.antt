@@ -8,7 +8,7 @@ use borrow.Author.Needs.{needs}
 use borrow.Author.Tests.{not-false}
 use Rattle.volume.specs.Steps.{Onward, changed}
 use Rattle.volume.proofs.Going.{forward}
-use Rattle.volume.proofs.ShortLaws.{push-shallow, onward-plain, onward-short}
+use Rattle.volume.proofs.ShortLaws.{pass-shallow, onward-plain, onward-short}
 use Rattle.volume.proofs.plain.pass_on.Statement.{statement}
 use Rattle.volume.proofs.plain.pass_on.Tie as tie
 
@@ -31,7 +31,7 @@ reached-requires c κs = tt
 returns : tie.Need-returns Inv-loop μ-loop
 returns c =
     let s = c .before .before .before .before .before in
-    let onward = onward-plain (s .pre .1) (s .pre .2) (c .before .before .before .loop .inv .0) (c .before .before .pass-plain .ensures) in
+    let onward = onward-plain (s .pre .1) (c .before .before .before .loop .inv .0) (s .pre .2) (c .before .before .pass-plain .ensures) in
     rw (c .reached .ensures) (onward, omega (arith, c .before .before .before .loop .inv .1, forward (c .before .before .pass-plain .ensures)))
 
 shared-slice-read-opcode : tie.Need-shared-slice-read-opcode Inv-loop μ-loop
@@ -46,7 +46,7 @@ reached-requires-2 c κs = tt
 returns-2 : tie.Need-returns-2 Inv-loop μ-loop
 returns-2 c =
     let s = c .before .before .before .before .before .before .before .before in
-    let onward = onward-plain (s .pre .1) (s .pre .2) (c .before .before .before .before .before .before .loop .inv .0) (c .before .before .before .before .before .pass-plain .ensures) in
+    let onward = onward-plain (s .pre .1) (c .before .before .before .before .before .before .loop .inv .0) (s .pre .2) (c .before .before .before .before .before .pass-plain .ensures) in
     rw (c .reached2 .ensures) (onward, omega (arith, c .before .before .before .before .before .before .loop .inv .1, forward (c .before .before .before .before .before .pass-plain .ensures)))
 
 kind-of-requires : tie.Need-kind-of-requires Inv-loop μ-loop
@@ -56,7 +56,7 @@ next-depth-requires : tie.Need-next-depth-requires Inv-loop μ-loop
 next-depth-requires c κs = λ pushes.
     let a = c .before .before .before .before .before .before .before .before .args in
     let may = sym (c .before .before .may-pass .ensures) ∙ not-false _ (c .before .if2 .left) in
-    omega (arith, push-shallow (a .fonts .now) (getD (a .file .now) (c .before .before .before .before .before .pass-plain .result) 0) (c .before .before .before .before .before .before .loop .depth) may (sym (c .kind-of .ensures) ∙ pushes))
+    omega (arith, pass-shallow (a .fonts .now) (getD (a .file .now) (c .before .before .before .before .before .pass-plain .result) 0) (c .before .before .before .before .before .before .loop .depth) may (sym (c .kind-of .ensures) ∙ pushes))
 
 greater-requires : tie.Need-greater-requires Inv-loop μ-loop
 greater-requires c κs = tt
@@ -70,9 +70,9 @@ loop-less c = omega (arith, forward (c .before .before .before .before .before .
 loop-again : tie.Need-loop-again Inv-loop μ-loop
 loop-again c =
     let s = c .before .before .before .before .before .before .before .before .before .before in
-    let onward = onward-plain (s .pre .1) (s .pre .2) (c .before .before .before .before .before .before .before .before .loop .inv .0) (c .before .before .before .before .before .before .before .pass-plain .ensures) in
+    let onward = onward-plain (s .pre .1) (c .before .before .before .before .before .before .before .before .loop .inv .0) (s .pre .2) (c .before .before .before .before .before .before .before .pass-plain .ensures) in
     let may = sym (c .before .before .before .before .may-pass .ensures) ∙ not-false _ (c .before .before .before .if2 .left) in
-    (onward-short (s .pre .1) (s .pre .2) onward (omega arith) may (c .before .before .kind-of .ensures) (c .before .next-depth .ensures) (c .greater .ensures), omega (arith, c .before .before .before .before .before .before .before .before .loop .inv .1, forward (c .before .before .before .before .before .before .before .pass-plain .ensures)))
+    (onward-short (s .pre .1) onward (omega arith) (c .before .before .kind-of .ensures) (c .before .next-depth .ensures) (c .greater .ensures) (s .pre .2) may, omega (arith, c .before .before .before .before .before .before .before .before .loop .inv .1, forward (c .before .before .before .before .before .before .before .pass-plain .ensures)))
 
 pub pass-on-spec : {M : Type 1} → statement M
 pass-on-spec =
