@@ -8,6 +8,7 @@ ghost use lib.ListN.{length};
 ghost use Rattle.numbers.specs.Signs.{sameNumber};
 ghost use Rattle.numbers.specs.Bytes.{signedAt};
 ghost use Rattle.volume.specs.Past.{isAfterPost};
+ghost use Rattle.commands.specs.declared.Kind.the-variants.{Nop, Bop, Post, PostPost};
 ghost use Rattle.volume.specs.Rules.{isAtStart, positiveAt, lawfulPreamble, mayStand, wrongAtDepth, lawfulSize, lawfulPostamble};
 
 // Whether the list is at its start.
@@ -60,24 +61,57 @@ pub fn may_stand(stage: Stage, kind: Kind) -> bool
     ensures { λ r. ⌜ r ≡ mayStand stage kind ⌝ }
 {
     match stage {
-        Stage::AtStart => true,
-        Stage::BeforePages => match kind {
-            Kind::Nop | Kind::Define | Kind::Bop => true,
-            _ => false,
-        },
         Stage::OnPage => match kind {
             Kind::Bop | Kind::Pre | Kind::Post | Kind::PostPost => false,
             _ => true,
         },
-        Stage::BetweenPages => match kind {
-            Kind::Nop | Kind::Define | Kind::Bop | Kind::Post => true,
-            _ => false,
+        _ => match kind {
+            Kind::Bop => bop_may_stand(stage),
+            Kind::Nop | Kind::Define => nop_may_stand(stage),
+            Kind::Post => post_may_stand(stage),
+            Kind::PostPost => post_post_may_stand(stage),
+            _ => at_start(stage),
         },
-        Stage::AfterPost => match kind {
-            Kind::Nop | Kind::Define | Kind::PostPost => true,
-            _ => false,
-        },
+    }
+}
+
+// Whether a bop may stand at a stage.
+fn bop_may_stand(stage: Stage) -> bool
+    ensures { λ r. ⌜ r ≡ mayStand stage Bop ⌝ }
+{
+    match stage {
+        Stage::AtStart | Stage::BeforePages | Stage::BetweenPages => true,
+        _ => false,
+    }
+}
+
+// Whether a nop may stand at a stage; and so a definition.
+fn nop_may_stand(stage: Stage) -> bool
+    ensures { λ r. ⌜ r ≡ mayStand stage Nop ⌝ }
+{
+    match stage {
         Stage::AfterEnd => false,
+        _ => true,
+    }
+}
+
+// Whether post may stand at a stage.
+fn post_may_stand(stage: Stage) -> bool
+    ensures { λ r. ⌜ r ≡ mayStand stage Post ⌝ }
+{
+    match stage {
+        Stage::AtStart | Stage::BetweenPages => true,
+        _ => false,
+    }
+}
+
+// Whether post_post may stand at a stage.
+fn post_post_may_stand(stage: Stage) -> bool
+    ensures { λ r. ⌜ r ≡ mayStand stage PostPost ⌝ }
+{
+    match stage {
+        Stage::AtStart | Stage::AfterPost => true,
+        _ => false,
     }
 }
 
