@@ -1,47 +1,43 @@
--- What the lowest fault of a command comes to: at the start, where it may not stand, and by its kind; and it is 0 where every rule is kept, and only there.
+-- What the lowest fault of a command comes to: at the start, and after it 5 first and then what its kind asks for; and it is 0 where every rule is kept, and only there.
 -- Assumes nothing.
-use mathlib.Core.Path.{_≡_, refl, ap, ap₂, sym, _∙_}
+use mathlib.Core.Path.{_≡_, refl, ap, sym, _∙_}
 use mathlib.Core.Bool.{Bool, true, false, cond, not, or-false}
 use mathlib.Core.List.{List}
 use Prim.Native.Nat.{ℕ, _<_}
 use native.Mathlib.Omega.{arith}
-use borrow.Author.Tests.{not-true, not-false}
 use Rattle.refusals.specs.Numbers.{wrongPreamble, misplacedCommand, wrongDepth, wrongFontDefinition, noFont, wrongPointer, wrongPostamble}
-use Rattle.numbers.specs.Signs.{sameNumber}
-use Rattle.numbers.specs.Bytes.{signedAt}
 use Rattle.commands.specs.declared.Kind.{Kind}
 use Rattle.commands.specs.declared.Kind.the-variants.{SetCharacter, SetRule, PutCharacter, PutRule, Nop, Bop, Eop, Push, Pop, Right, W, X, Down, Y, Z, Select, Special, Define, Pre, Post, PostPost, Undefined}
 use Rattle.commands.specs.Kinds.{kindOf}
 use Rattle.commands.specs.Commands.{Command, kindOfCommand}
-use Rattle.commands.specs.Parameters.{selectedFont}
 use Rattle.volume.specs.declared.Stage.{Stage}
 use Rattle.volume.specs.declared.Stage.the-variants.{AtStart, BeforePages, OnPage, BetweenPages, AfterPost, AfterEnd}
 use Rattle.volume.specs.declared.Volume.{Volume}
-use Rattle.volume.specs.Past.{isA, stage, definitionOf, isDefined}
-use Rattle.volume.specs.Rules.{isAtStart, lawfulPreamble, preambleWrong, mayStand, misplaced, wrongAtDepth, depthWrong, lawfulDefinition, definitionWrong, fontMissing, pointerWrong, postambleWrong, fault, Allowed}
-use Rattle.volume.specs.Steps.{command, stateOf, firstFault, postFault, endFault}
+use Rattle.volume.specs.Past.{isA, stage}
+use Rattle.volume.specs.Rules.{isAtStart, lawfulPreamble, preambleWrong, misplaced, depthWrong, definitionWrong, fontMissing, pointerWrong, postambleWrong, fault, Allowed}
+use Rattle.volume.specs.Steps.{command, stateOf, firstFault, standingOr, depthFault, definitionFault, selectionFault, characterFault, bopFault, postFault, endFault}
 use Rattle.volume.proofs.Arms.{is-kind}
 
--- the fault of a command that may stand where it does, not at the start, by its kind and by what the code holds
+-- what the rules after 5 say of a command by its kind, of which the code holds v
 abbrev pub laterFault : Volume → List Command → Command → Kind → ℕ
-laterFault v past c SetCharacter = cond (not (v .selected)) noFont 0
+laterFault v past c SetCharacter = characterFault (v .selected)
 laterFault v past c SetRule = 0
-laterFault v past c PutCharacter = cond (not (v .selected)) noFont 0
+laterFault v past c PutCharacter = characterFault (v .selected)
 laterFault v past c PutRule = 0
 laterFault v past c Nop = 0
-laterFault v past c Bop = cond (not (sameNumber (signedAt (c .params) 40 4) (v .bop))) wrongPointer 0
-laterFault v past c Eop = cond (wrongAtDepth Eop (v .depth)) wrongDepth 0
-laterFault v past c Push = cond (wrongAtDepth Push (v .depth)) wrongDepth 0
-laterFault v past c Pop = cond (wrongAtDepth Pop (v .depth)) wrongDepth 0
+laterFault v past c Bop = bopFault v (c .params)
+laterFault v past c Eop = depthFault Eop (v .depth)
+laterFault v past c Push = depthFault Push (v .depth)
+laterFault v past c Pop = depthFault Pop (v .depth)
 laterFault v past c Right = 0
 laterFault v past c W = 0
 laterFault v past c X = 0
 laterFault v past c Down = 0
 laterFault v past c Y = 0
 laterFault v past c Z = 0
-laterFault v past c Select = cond (not (isDefined (definitionOf false (selectedFont (c .opcode) (c .params)) past))) noFont 0
+laterFault v past c Select = selectionFault past (c .opcode) (c .params)
 laterFault v past c Special = 0
-laterFault v past c Define = cond (not (lawfulDefinition past c)) wrongFontDefinition 0
+laterFault v past c Define = definitionFault past (c .opcode) (c .params)
 laterFault v past c Pre = 0
 laterFault v past c Post = postFault v (c .params)
 laterFault v past c PostPost = endFault v (c .params)
@@ -59,6 +55,14 @@ cond-not : (t : Bool) (a b : ℕ) → cond (not t) a b ≡ cond t b a
 cond-not true a b = refl
 cond-not false a b = refl
 
+-- a rule that is broken answers its number; one that is not leaves the answer to the later rules
+module _ {asked broken : Bool} (asked-is : asked ≡ broken) (number later : ℕ) where
+  pub answered : asked ≡ true → number ≡ cond broken number later
+  answered e = sym (ap (λ (t : Bool). cond t number later) (sym asked-is ∙ e))
+
+  pub passed-on : {r : ℕ} → asked ≡ false → r ≡ later → r ≡ cond broken number later
+  passed-on e last = last ∙ sym (ap (λ (t : Bool). cond t number later) (sym asked-is ∙ e))
+
 -- a rule whose number is not answered is not broken
 not-broken : (broken : Bool) (number later : ℕ) → 0 < number → cond broken number later ≡ 0 → (broken ≡ false) × (later ≡ 0)
 not-broken true number later h e = absurd (omega arith)
@@ -74,33 +78,29 @@ module _ (past : List Command) (c : Command) where
     fault-at-start = fault-first (isA Pre c) refl
 
   module _ (begun : isAtStart (stage past) ≡ false) where
-    pub fault-misplaced : mayStand (stage past) (kindOfCommand c) ≡ false → fault past c ≡ misplacedCommand
-    fault-misplaced stands = rw (begun, stands)
-
-    module _ (stands : mayStand (stage past) (kindOfCommand c) ≡ true) where
-      pub fault-later : (page : ℕ) (k : Kind) → kindOfCommand c ≡ k → fault past c ≡ laterFault (stateOf page past) past c k
-      fault-later page SetCharacter e = rw (begun, stands, e)
-      fault-later page SetRule e = rw (begun, stands, e)
-      fault-later page PutCharacter e = rw (begun, stands, e)
-      fault-later page PutRule e = rw (begun, stands, e)
-      fault-later page Nop e = rw (begun, stands, e)
-      fault-later page Bop e = rw (begun, stands, e) (simp or-false)
-      fault-later page Eop e = rw (begun, stands, e)
-      fault-later page Push e = rw (begun, stands, e)
-      fault-later page Pop e = rw (begun, stands, e)
-      fault-later page Right e = rw (begun, stands, e)
-      fault-later page W e = rw (begun, stands, e)
-      fault-later page X e = rw (begun, stands, e)
-      fault-later page Down e = rw (begun, stands, e)
-      fault-later page Y e = rw (begun, stands, e)
-      fault-later page Z e = rw (begun, stands, e)
-      fault-later page Select e = rw (begun, stands, e) (simp or-false)
-      fault-later page Special e = rw (begun, stands, e)
-      fault-later page Define e = rw (begun, stands, e) (simp or-false)
-      fault-later page Pre e = rw (begun, stands, e)
-      fault-later page Post e = rw (begun, stands, e) (simp or-false)
-      fault-later page PostPost e = rw (begun, stands, e)
-      fault-later page Undefined e = rw (begun, stands, e)
+    pub fault-later : (page : ℕ) (k : Kind) → kindOfCommand c ≡ k → fault past c ≡ standingOr (stage past) k (laterFault (stateOf page past) past c k)
+    fault-later page SetCharacter e = rw (begun, e)
+    fault-later page SetRule e = rw (begun, e)
+    fault-later page PutCharacter e = rw (begun, e)
+    fault-later page PutRule e = rw (begun, e)
+    fault-later page Nop e = rw (begun, e)
+    fault-later page Bop e = rw (begun, e) (simp or-false)
+    fault-later page Eop e = rw (begun, e)
+    fault-later page Push e = rw (begun, e)
+    fault-later page Pop e = rw (begun, e)
+    fault-later page Right e = rw (begun, e)
+    fault-later page W e = rw (begun, e)
+    fault-later page X e = rw (begun, e)
+    fault-later page Down e = rw (begun, e)
+    fault-later page Y e = rw (begun, e)
+    fault-later page Z e = rw (begun, e)
+    fault-later page Select e = rw (begun, e) (simp or-false)
+    fault-later page Special e = rw (begun, e)
+    fault-later page Define e = rw (begun, e) (simp or-false)
+    fault-later page Pre e = rw (begun, e)
+    fault-later page Post e = rw (begun, e) (simp or-false)
+    fault-later page PostPost e = rw (begun, e)
+    fault-later page Undefined e = rw (begun, e)
 
   -- ---- every rule kept
 
@@ -136,14 +136,7 @@ module _ (page : ℕ) (past : List Command) {v : Volume} (held : v ≡ stateOf p
     pub held-at-start : starts ≡ true → fault past (command opcode params) ≡ firstFault kind params
     held-at-start start = fault-at-start past (command opcode params) (start-of ∙ start) ∙ ap (λ (k : Kind). firstFault k params) (sym kind-is)
 
-    module _ (begun : starts ≡ false) {stands : Bool} (stands-is : stands ≡ mayStand (v .stage) kind) where
-      stand-of : mayStand (stage past) (kindOf opcode) ≡ stands
-      stand-of = sym (stands-is ∙ ap₂ (λ (w : Volume) (k : Kind). mayStand (w .stage) k) held kind-is)
-
-      pub held-misplaced : not stands ≡ true → fault past (command opcode params) ≡ misplacedCommand
-      held-misplaced out = fault-misplaced past (command opcode params) (start-of ∙ begun) (stand-of ∙ not-true stands out)
-
-      pub held-later : not stands ≡ false → fault past (command opcode params) ≡ laterFault v past (command opcode params) kind
-      held-later in-place =
-          fault-later past (command opcode params) (start-of ∙ begun) (stand-of ∙ not-false stands in-place) page kind (sym kind-is)
-          ∙ ap (λ (w : Volume). laterFault w past (command opcode params) kind) (sym held)
+    pub held-later : starts ≡ false → fault past (command opcode params) ≡ standingOr (v .stage) kind (laterFault v past (command opcode params) kind)
+    held-later begun =
+        fault-later past (command opcode params) (start-of ∙ begun) page kind (sym kind-is)
+        ∙ ap (λ (w : Volume). standingOr (w .stage) kind (laterFault w past (command opcode params) kind)) (sym held)

@@ -6,7 +6,7 @@ use mathlib.Core.List.{List}
 use lib.Dec.{ltb, leb, eqb}
 use lib.ListN.{length, getD, drop, set}
 use lib.IntN.{ℤ, pos, natAbs}
-use Rattle.refusals.specs.Numbers.{wrongPreamble, wrongFontDefinition, wrongPointer, wrongPostamble}
+use Rattle.refusals.specs.Numbers.{wrongPreamble, misplacedCommand, wrongDepth, wrongFontDefinition, noFont, wrongPointer, wrongPostamble}
 use Rattle.refusals.specs.Answer.{Answer, given, refusal}
 use Rattle.numbers.specs.Signs.{sameNumber}
 use Rattle.numbers.specs.Bytes.{unsignedAt, signedAt}
@@ -28,7 +28,7 @@ use Rattle.volume.specs.declared.Named.the-variants as Named
 use Rattle.volume.specs.declared.Checked.{Checked}
 use Rattle.volume.specs.declared.Checked.the-variants as Checked
 use Rattle.volume.specs.Past.{place, stage, stageAfter, depth, depthAfter, greatest, pages, lastBop, bopOf, postPlace, num, den, mag, selected, defines, body, Definition, none, stands, definitionOf, isDefined, fontCount}
-use Rattle.volume.specs.Rules.{lawfulPreamble, lawfulFont, sameBytes, lawfulDefinition, lawfulPostamble, fault}
+use Rattle.volume.specs.Rules.{lawfulPreamble, mayStand, wrongAtDepth, lawfulFont, sameBytes, lawfulDefinition, lawfulPostamble, fault}
 use Rattle.volume.specs.Judged.{judged, judgedFrom}
 use Rattle.volume.specs.Names.{history, historyFrom, namedBy}
 
@@ -78,19 +78,43 @@ afterOf page v kind params =
       selected = cond (is kind Bop) false (cond (is kind Select) true (v .selected));
     }
 
--- ---- the faults of single kinds, by what the code holds
+-- ---- the faults of single kinds: by what the code holds, and where a font is defined by the commands so far
 
--- of the first command
+-- 4, of the first command
 abbrev pub firstFault : Kind → List ℕ → ℕ
 firstFault kind params = cond (is kind Pre && lawfulPreamble params) 0 wrongPreamble
 
--- of post
+-- 5 comes before what a later rule says of a command
+abbrev pub standingOr : Stage → Kind → ℕ → ℕ
+standingOr stage kind later = cond (not (mayStand stage kind)) misplacedCommand later
+
+-- 6, of push, pop or eop
+abbrev pub depthFault : Kind → ℕ → ℕ
+depthFault kind depth = cond (wrongAtDepth kind depth) wrongDepth 0
+
+-- 7, of a definition
+abbrev pub definitionFault : List Command → ℕ → List ℕ → ℕ
+definitionFault past opcode params = cond (not (lawfulDefinition past (command opcode params))) wrongFontDefinition 0
+
+-- 8, of a selection
+abbrev pub selectionFault : List Command → ℕ → List ℕ → ℕ
+selectionFault past opcode params = cond (not (isDefined (definitionOf false (selectedFont opcode params) past))) noFont 0
+
+-- 8, of a character
+abbrev pub characterFault : Bool → ℕ
+characterFault selected = cond (not selected) noFont 0
+
+-- 9, of bop
+abbrev pub bopFault : Volume → List ℕ → ℕ
+bopFault v params = cond (not (sameNumber (signedAt params 40 4) (v .bop))) wrongPointer 0
+
+-- 9, then 10, of post
 abbrev pub postFault : Volume → List ℕ → ℕ
 postFault v params =
     cond (not (sameNumber (signedAt params 0 4) (v .bop))) wrongPointer
     (cond (not (lawfulPostamble (v .num) (v .den) (v .mag) (v .greatest) (v .pages) params)) wrongPostamble 0)
 
--- of post_post
+-- 7, 9, then 10, of post_post
 abbrev pub endFault : Volume → List ℕ → ℕ
 endFault v params =
     cond (not (eqb (v .again) (v .fonts))) wrongFontDefinition
@@ -169,6 +193,16 @@ abbrev pub DefinitionIs : List ℕ → List ℕ → List ℕ → Stage → ℕ �
 DefinitionIs file fonts again at-stage count opcode params r =
     (past : List Command) → Tells false fonts past → Tells true again past → AllStanding file past → at-stage ≡ stage past → count ≡ fontCount false past
     → r ≡ lawfulDefinition past (command opcode params)
+
+-- r is the fault of a selection
+abbrev pub SelectionFaultIs : List ℕ → Stage → ℕ → List ℕ → ℕ → Type 0
+SelectionFaultIs fonts at-stage opcode params r =
+    (past : List Command) → Tells false fonts past → Lawfully past → r ≡ standingOr at-stage Select (selectionFault past opcode params)
+
+-- r is the fault of a definition
+abbrev pub DefinitionFaultIs : List ℕ → Volume → List ℕ → List ℕ → ℕ → List ℕ → ℕ → Type 0
+DefinitionFaultIs file v fonts again opcode params r =
+    (page : ℕ) (past : List Command) → Agrees file page v fonts again past → r ≡ standingOr (v .stage) Define (definitionFault past opcode params)
 
 -- r is the lowest number that applies to a command
 abbrev pub FaultIs : List ℕ → Volume → List ℕ → List ℕ → ℕ → List ℕ → ℕ → Type 0

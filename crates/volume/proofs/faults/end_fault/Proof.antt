@@ -1,14 +1,37 @@
--- `volume::faults::end_fault` meets its contract: fonts left out, then the pointer, then the identification. Assumes nothing.
-use mathlib.Core.Path.{refl}
+-- `volume::faults::end_fault` meets its contract: 5, then fonts left out, then the pointer, then the identification. Assumes nothing.
+use mathlib.Core.Path.{_≡_, refl, ap}
+use mathlib.Core.Bool.{cond, not}
+use Prim.Native.Nat.{ℕ}
+use lib.Dec.{eqb}
+use lib.IntN.{pos}
 use native.Mathlib.Omega.{arith}
 use borrow.Author.Needs.{needs}
-use borrow.Author.Tests.{eq-eqb, ne-eqb, not-true, not-false}
+use borrow.Author.Tests.{eq-eqb, ne-eqb}
+use Rattle.refusals.specs.Numbers.{wrongFontDefinition}
+use Rattle.numbers.specs.Signs.{sameNumber}
+use Rattle.numbers.specs.Bytes.{signedAt}
 use Rattle.numbers.proofs.Signed.{read-pos}
+use Rattle.commands.specs.declared.Kind.the-variants.{PostPost}
+use Rattle.volume.specs.Steps.{standingOr}
+use Rattle.volume.proofs.FaultLaws.{answered, passed-on}
 use Rattle.volume.proofs.faults.end_fault.Statement.{statement}
 use Rattle.volume.proofs.faults.end_fault.Tie as tie
 
+pointer-wrong : (c : tie.After-points-to) → not (c .points-to .result) ≡ not (sameNumber (signedAt (c .before .before .before .before .before .before .before .args .params .now) 0 4) (pos (c .before .before .before .before .before .before .before .args .v .post)))
+pointer-wrong c = rw (c .points-to .ensures, read-pos (c .before .before .before .before .before .before .before .args .v .post) (omega arith)) refl
+
+-- past 5 and 7 the answer is left to 9 and 10
+no-font-left : (c : tie.Else2) {r later : ℕ} → r ≡ later → r ≡ standingOr (c .before .before .before .before .before .args .v .stage) PostPost (cond (not (eqb (c .before .before .before .before .before .args .v .again) (c .before .before .before .before .before .args .v .fonts))) wrongFontDefinition later)
+no-font-left c e = passed-on (ap not (c .before .before .before .may-stand .ensures)) _ _ (c .before .before .if1 .left) (passed-on refl _ _ (ap not (eq-eqb _ _ (c .if2 .left))) e)
+
+may-stand-requires : tie.Need-may-stand-requires
+may-stand-requires c κs = search needs
+
 returns : tie.Need-returns
-returns c = rw (ne-eqb _ _ (c .if1 .taken)) refl
+returns c = answered (ap not (c .before .may-stand .ensures)) _ _ (c .if1 .taken)
+
+returns-2 : tie.Need-returns-2
+returns-2 c = passed-on (ap not (c .before .before .before .may-stand .ensures)) _ _ (c .before .before .if1 .left) (answered refl wrongFontDefinition _ (ap not (ne-eqb _ _ (c .if2 .taken))))
 
 cast-points-to : tie.Need-cast-points-to
 cast-points-to c = search needs
@@ -16,26 +39,28 @@ cast-points-to c = search needs
 points-to-requires : tie.Need-points-to-requires
 points-to-requires c κs = search needs
 
-returns-2 : tie.Need-returns-2
-returns-2 c = rw (eq-eqb _ _ (c .before .before .before .if1 .left), ← read-pos (c .before .before .before .before .before .before .args .v .post) (omega arith), ← c .before .points-to .ensures, not-true (c .before .points-to .result) (c .if2 .taken))
-
-shared-slice-read-if3 : tie.Need-shared-slice-read-if3
-shared-slice-read-if3 c = search needs
-
 returns-3 : tie.Need-returns-3
-returns-3 c = rw (eq-eqb _ _ (c .before .before .before .before .before .if1 .left), ← read-pos (c .before .before .before .before .before .before .before .before .args .v .post) (omega arith), ← c .before .before .before .points-to .ensures, not-false (c .before .before .before .points-to .result) (c .before .before .if2 .left), ne-eqb _ _ (c .if3 .taken))
+returns-3 c = no-font-left (c .before .before .before) (answered (pointer-wrong (c .before)) _ _ (c .if3 .taken))
+
+shared-slice-read-if4 : tie.Need-shared-slice-read-if4
+shared-slice-read-if4 c = search needs
 
 returns-4 : tie.Need-returns-4
-returns-4 c = rw (eq-eqb _ _ (c .before .before .before .before .before .if1 .left), ← read-pos (c .before .before .before .before .before .before .before .before .args .v .post) (omega arith), ← c .before .before .before .points-to .ensures, not-false (c .before .before .before .points-to .result) (c .before .before .if2 .left), eq-eqb _ _ (c .if3 .left))
+returns-4 c = no-font-left (c .before .before .before .before .before) (passed-on (pointer-wrong (c .before .before .before)) _ _ (c .before .before .if3 .left) (answered refl _ _ (ap not (ne-eqb _ _ (c .if4 .taken)))))
+
+returns-5 : tie.Need-returns-5
+returns-5 c = no-font-left (c .before .before .before .before .before) (passed-on (pointer-wrong (c .before .before .before)) _ _ (c .before .before .if3 .left) (passed-on refl _ _ (ap not (eq-eqb _ _ (c .if4 .left))) refl))
 
 pub end-fault-spec : {M : Type 1} → statement M
 end-fault-spec =
     tie.close
     (tie.spec
+    may-stand-requires
     returns
+    returns-2
     cast-points-to
     points-to-requires
-    returns-2
-    shared-slice-read-if3
     returns-3
-    returns-4)
+    shared-slice-read-if4
+    returns-4
+    returns-5)
