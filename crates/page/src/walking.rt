@@ -45,19 +45,9 @@ pub fn walk(
     let mut hints = [0usize; 256];
     let table = commands::length_table();
     loop {
-        let level = page.now;
+        let now = page.now;
         let depth = page.depth;
-        let step = steps::step_at(
-            &table,
-            file,
-            widths,
-            fonts,
-            terms,
-            at,
-            level,
-            page.font,
-            hint,
-        );
+        let step = steps::step_at(&table, file, widths, fonts, terms, at, now, page.font, hint);
         let asked = step.asked;
         let adds = asked.adds;
         let turn = asked.turn;
@@ -80,7 +70,7 @@ pub fn walk(
             }
             Turn::PastRule(width) => page = page.past_rule(ruler, width),
             Turn::Push => {
-                page.stack[depth] = level;
+                page.stack[depth] = now;
                 page = page.push();
             }
             Turn::Pop => {

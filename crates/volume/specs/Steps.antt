@@ -58,6 +58,31 @@ stateOf page past =
       selected = selected past;
     }
 
+-- the same volume but for its stage, place and depths
+abbrev pub changed : Volume → Stage → ℕ → ℕ → ℕ → Volume
+changed v stage at depth greatest =
+    record {
+      stage = stage;
+      at = at;
+      depth = depth;
+      greatest = greatest;
+      pages = v .pages;
+      bop = v .bop;
+      wanted = v .wanted;
+      post = v .post;
+      num = v .num;
+      den = v .den;
+      mag = v .mag;
+      fonts = v .fonts;
+      again = v .again;
+      selected = v .selected;
+    }
+
+-- what every command changes: the stage, the place and the depth
+abbrev pub movedOn : Volume → Kind → ℕ → Volume
+movedOn v kind length =
+    changed v (stageAfter kind (v .stage)) (v .at + (1 + length)) (depthAfter kind (v .depth)) (max (v .greatest) (depthAfter kind (v .depth)))
+
 -- the state after one more command
 abbrev pub afterOf : ℕ → Volume → Kind → List ℕ → Volume
 afterOf page v kind params =
@@ -232,26 +257,6 @@ mayPushOrPop opcode depth = cond (eqb opcode 141) (ltb depth deepest) (eqb opcod
 -- one of these, or fnt_num_0 to fnt_num_63 of a font that is defined
 abbrev pub mayPass : List ℕ → ℕ → ℕ → Bool
 mayPass fonts opcode depth = cond (leb 171 opcode && ltb opcode 235) (not (eqb (getD fonts (opcode - 171) 0) 0)) (mayPushOrPop opcode depth)
-
--- the same volume but for its stage, place and depths
-abbrev pub changed : Volume → Stage → ℕ → ℕ → ℕ → Volume
-changed v stage at depth greatest =
-    record {
-      stage = stage;
-      at = at;
-      depth = depth;
-      greatest = greatest;
-      pages = v .pages;
-      bop = v .bop;
-      wanted = v .wanted;
-      post = v .post;
-      num = v .num;
-      den = v .den;
-      mag = v .mag;
-      fonts = v .fonts;
-      again = v .again;
-      selected = v .selected;
-    }
 
 -- ---- answers
 

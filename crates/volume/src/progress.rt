@@ -4,11 +4,12 @@ use crate::Volume;
 use crate::rules;
 use commands::Kind;
 ghost use mathlib.Core.Path.{_≡_};
-ghost use Prim.Native.Nat.{_+_, _≤_, _<_, _^_, max};
+ghost use mathlib.Core.List.{[]};
+ghost use Prim.Native.Nat.{ℕ, _+_, _≤_, _<_, _^_, max};
 ghost use lib.ListN.{length};
 ghost use Rattle.commands.specs.declared.Kind.the-variants.{Push};
 ghost use Rattle.volume.specs.Past.{stageAfter, depthAfter};
-ghost use Rattle.volume.specs.Steps.{afterOf, WithRoom};
+ghost use Rattle.volume.specs.Steps.{stateOf, movedOn, afterOf, WithRoom};
 
 fn next_stage(kind: Kind, stage: Stage) -> Stage
     ensures { λ r. ⌜ r ≡ stageAfter kind stage ⌝ }
@@ -45,18 +46,38 @@ pub fn greater(a: usize, b: usize) -> usize
     if a < b { b } else { a }
 }
 
-// What the commands amount to after one more.
-pub fn after(v: Volume, page: usize, kind: Kind, params: &[u8]) -> Volume
-    requires { ⌜ (v .at + (1 + length (now params)) < 2 ^ 32) × WithRoom kind (now params) ⌝ }
-    requires { ⌜ (v .depth ≤ v .at) × (v .pages ≤ v .at) × (v .fonts ≤ v .at) × (v .again ≤ v .at) ⌝ }
-    ensures { λ r. ⌜ r ≡ afterOf page v kind (now (params .entry)) ⌝ }
+// What no command amounts to.
+pub fn fresh() -> Volume
+    ensures { λ r. ⌜ ((page : ℕ) → r ≡ stateOf page []) ⌝ }
 {
-    let stage = v.stage;
-    let at = v.at;
+    Volume {
+        stage: Stage::AtStart,
+        at: 0,
+        depth: 0,
+        greatest: 0,
+        pages: 0,
+        bop: -1,
+        wanted: 0,
+        post: 0,
+        num: 0,
+        den: 0,
+        mag: 0,
+        fonts: 0,
+        again: 0,
+        selected: false,
+    }
+}
+
+// What every command changes: the stage, the place and the depth.
+fn moved_on(v: Volume, kind: Kind, length: usize) -> Volume
+    requires { ⌜ (v .at + (1 + length) < 2 ^ 32) × (v .depth ≤ v .at) ⌝ }
+    ensures { λ r. ⌜ r ≡ movedOn v kind length ⌝ }
+{
     let depth = next_depth(kind, v.depth);
-    let mut next = Volume {
+    let stage = v.stage;
+    Volume {
         stage: next_stage(kind, stage),
-        at: at + (1 + params.len()),
+        at: v.at + (1 + length),
         depth: depth,
         greatest: greater(v.greatest, depth),
         pages: v.pages,
@@ -69,7 +90,18 @@ pub fn after(v: Volume, page: usize, kind: Kind, params: &[u8]) -> Volume
         fonts: v.fonts,
         again: v.again,
         selected: v.selected,
-    };
+    }
+}
+
+// What the commands amount to after one more.
+pub fn after(v: Volume, page: usize, kind: Kind, params: &[u8]) -> Volume
+    requires { ⌜ (v .at + (1 + length (now params)) < 2 ^ 32) × WithRoom kind (now params) ⌝ }
+    requires { ⌜ (v .depth ≤ v .at) × (v .pages ≤ v .at) × (v .fonts ≤ v .at) × (v .again ≤ v .at) ⌝ }
+    ensures { λ r. ⌜ r ≡ afterOf page v kind (now (params .entry)) ⌝ }
+{
+    let stage = v.stage;
+    let at = v.at;
+    let mut next = moved_on(v, kind, params.len());
     match kind {
         Kind::Pre => {
             next.num = numbers::unsigned_at(params, 1, 4);

@@ -1,7 +1,6 @@
 // The scan of a whole file: its commands from the front, one after the other.
 use crate::Checked;
 use crate::Scanned;
-use crate::Stage;
 use crate::Summary;
 use crate::Volume;
 use crate::faults;
@@ -55,22 +54,7 @@ pub fn scan(file: &[u8], page: usize, fonts: &mut [u32; 256]) -> Scanned
         });
     }
     let mut again = [0u32; 256];
-    let mut v = Volume {
-        stage: Stage::AtStart,
-        at: 0,
-        depth: 0,
-        greatest: 0,
-        pages: 0,
-        bop: -1,
-        wanted: 0,
-        post: 0,
-        num: 0,
-        den: 0,
-        mag: 0,
-        fonts: 0,
-        again: 0,
-        selected: false,
-    };
+    let mut v = progress::fresh();
     let table = commands::length_table();
     loop {
         v = plain::passed(&table, &*fonts, file, v);

@@ -241,11 +241,11 @@ kept : (n : tie.After-note Inv-loop μ-loop) → step (read n) .asked .turn ≡ 
     × (getD (set (before n .stack) (before n .depth) (before n .now)) (before n .depth) zeroLevel ≡ before n .now)
 kept n turn-is = stored (before n) (omega (arith, room n turn-is, here (read n) .sound .full))
 
-mul-level : tie.Need-mul-level Inv-loop μ-loop
-mul-level c = let n = c .before .before .before .before in omega (arith, room n (c .enum-told2 .given .1))
+mul-now : tie.Need-mul-now Inv-loop μ-loop
+mul-now c = let n = c .before .before .before .before in omega (arith, room n (c .enum-told2 .given .1))
 
-element-set-from-level : tie.Need-element-set-from-level Inv-loop μ-loop
-element-set-from-level c = let n = c .before .before .before .before in room n (c .enum-told2 .given .1)
+element-set-from-now : tie.Need-element-set-from-now Inv-loop μ-loop
+element-set-from-now c = let n = c .before .before .before .before in room n (c .enum-told2 .given .1)
 
 push-requires : tie.Need-push-requires Inv-loop μ-loop
 push-requires c κs = let n = c .before .before .before .before in (room n (c .enum-told2 .given .1), kept n (c .enum-told2 .given .1) .1)
@@ -366,8 +366,8 @@ walk-spec =
     loop-less-5
     loop-again-5
     enum-told-2
-    mul-level
-    element-set-from-level
+    mul-now
+    element-set-from-now
     push-requires
     loop-less-6
     loop-again-6

@@ -13,6 +13,7 @@ use Rattle.commands.specs.declared.Kind.the-variants.{PostPost}
 use Rattle.commands.specs.Kinds.{is}
 use Rattle.commands.specs.Reading.{readAnswer}
 use Rattle.commands.proofs.Readings.{Reads, given-reads}
+use Rattle.volume.specs.declared.Volume.{Volume}
 use Rattle.volume.specs.Judged.{judged}
 use Rattle.volume.specs.Steps.{stateOf, Going}
 use Rattle.volume.proofs.Arms.{kind-others}
@@ -31,14 +32,19 @@ returns : tie.Need-returns Inv-loop μ-loop
 unfolding judged
 returns c = (simp (lt-ltb _ _ (c .if1 .taken)), tt)
 
+fresh-requires : tie.Need-fresh-requires Inv-loop μ-loop
+fresh-requires c κs = tt
+
 length-table-requires : tie.Need-length-table-requires Inv-loop μ-loop
 length-table-requires c κs = tt
 
 loop-holds : tie.Need-loop-holds Inv-loop μ-loop
 loop-holds c =
-    let s = c .before .before .before in
-    subst (λ (table : List ℕ). Going (now (s .args .file)) (s .args .page) (stateOf (s .args .page) []) table (replicate 256 0)) (sym (s .pre))
-    (starting (now (s .args .file)) (s .args .page) (c .before .if1 .left))
+    let f = c .before in
+    let s = f .before .before .before in
+    subst (λ (v : Volume). Going (now (s .args .file)) (s .args .page) v (now (s .args .fonts)) (replicate 256 0)) (sym (f .fresh .ensures (s .args .page)))
+    (subst (λ (table : List ℕ). Going (now (s .args .file)) (s .args .page) (stateOf (s .args .page) []) table (replicate 256 0)) (sym (s .pre))
+    (starting (now (s .args .file)) (s .args .page) (f .before .if1 .left)))
 
 passed-requires : tie.Need-passed-requires Inv-loop μ-loop
 passed-requires c κs = c .before .before .before .length-table .ensures
@@ -52,7 +58,7 @@ module _ (c : tie.After-passed Inv-loop μ-loop) where
   looped = c .before .before .before
 
   abbrev entered : tie.Start Inv-loop μ-loop
-  entered = looped .before .before .before .before
+  entered = looped .before .before .before .before .before
 
   going : Going (now (entered .args .file)) (entered .args .page) (c .passed .result) (looped .loop .fonts) (looped .loop .again)
   going = c .passed .ensures .0 (entered .args .page) (looped .loop .again) (looped .loop .inv)
@@ -180,6 +186,7 @@ scan-spec =
     Inv-loop
     μ-loop
     returns
+    fresh-requires
     length-table-requires
     loop-holds
     passed-requires
