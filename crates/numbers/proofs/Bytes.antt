@@ -1,15 +1,13 @@
 -- Laws of numbers in bytes: one byte more, how large, two parts joined, and what was written is read back. Assumes nothing.
 use mathlib.Core.Path.{_≡_, refl, sym, ap, ap₂, _∙_, subst}
-use mathlib.Core.Bool.{Bool, true, false}
 use mathlib.Core.List.{List, [], _∷_, _++_}
 use Prim.Native.Nat.{ℕ, zero, suc, _+_, _*_, _/_, _%_, _^_, _≤_, _<_}
 use native.Mathlib.Nat.{zero-add, add-zero, add-suc, add-assoc, mul-assoc, pow-suc, pow-le-pow-right, div-add-mod', div-lt-iff-lt-mul}
-use native.Mathlib.Numerals.{add-one, lt-of-le-of-ne}
+use native.Mathlib.Numerals.{add-one}
 use native.Mathlib.Omega.{arith}
 use lib.ListN.{getD, drop, length, length-append, List·getD-append}
 use lib.Seq.{getD-append-seam, getD-drop}
-use lib.Dec.{lit<, eqb}
-use borrow.Author.Tests.{eqb-true, eqb-false}
+use lib.Dec.{lit<}
 use lib.IntN.{ℤ}
 use Rattle.numbers.specs.Signs.{fromTwos, toTwos}
 use Rattle.numbers.specs.Bytes.{unsignedAt, signedAt, bytesOf, signedBytesOf}
@@ -33,22 +31,6 @@ pub unsigned-below : (bytes : List ℕ) (at count : ℕ) → ((i : ℕ) → i < 
 unfolding unsignedAt
 unsigned-below bytes at zero byte = omega arith
 unsigned-below bytes at (suc count) byte = omega (arith, unsigned-below bytes at count (λ i h. byte i (omega arith)), byte count (omega arith), pow-suc 256 count)
-
--- ---- equal numbers have equal bytes
-
-pub unsigned-same : (xs ys : List ℕ) → ((i : ℕ) → getD xs i 0 < 256) → ((i : ℕ) → getD ys i 0 < 256) → (at count : ℕ) → unsignedAt xs at count ≡ unsignedAt ys at count
-    → (i : ℕ) → i < count → getD xs (at + i) 0 ≡ getD ys (at + i) 0
-unfolding unsignedAt
-unsigned-same xs ys xs-bytes ys-bytes at zero e i h = absurd (omega arith)
-unsigned-same xs ys xs-bytes ys-bytes at (suc count) e i h =
-    let front : unsignedAt xs at count ≡ unsignedAt ys at count = omega (arith, e, xs-bytes (at + count), ys-bytes (at + count)) in
-    let last : getD xs (at + count) 0 ≡ getD ys (at + count) 0 = omega (arith, e, front) in
-    by last (unsigned-same xs ys xs-bytes ys-bytes at count front i) (eqb i count) refl
-  where
-    by : getD xs (at + count) 0 ≡ getD ys (at + count) 0 → (i < count → getD xs (at + i) 0 ≡ getD ys (at + i) 0)
-        → (is-last : Bool) → eqb i count ≡ is-last → getD xs (at + i) 0 ≡ getD ys (at + i) 0
-    by last earlier true is = rw (eqb-true i count is) last
-    by last earlier false is = earlier (lt-of-le-of-ne (omega arith) (eqb-false i count is))
 
 -- ---- the bytes in two parts
 
