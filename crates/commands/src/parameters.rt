@@ -5,11 +5,14 @@ ghost use lib.ListN.{length};
 ghost use lib.IntN.{natAbs};
 ghost use Rattle.commands.specs.Parameters.{numberAt, characterCode, distance, ruleHeight, ruleWidth, selectedFont, definedFont};
 
-// A parameter of one to four bytes: signed where it has four.
+// A parameter of one to four bytes: signed where it has four. Most have one, and a loop whose count is not known costs more than a byte.
 fn number_at(params: &[u8], at: usize, count: usize) -> i64
     requires { ⌜ (at + count ≤ length (now params)) × (count ≤ 4) ⌝ }
     ensures { λ r. ⌜ (r ≡ numberAt (now (params .entry)) at count) × (natAbs r ≤ 2 ^ 31) ⌝ }
 {
+    if count == 1 {
+        return numbers::wide(params[at]) as i64;
+    }
     if count == 4 {
         return numbers::signed_at(params, at, count);
     }

@@ -1,21 +1,21 @@
 -- The font that a selection leaves: what its entry in the table of definitions leads to. Assumes nothing.
-use mathlib.Core.Path.{_≡_, refl, sym, ap, _∙_, subst}
+use mathlib.Core.Path.{_≡_, refl, sym, ap, ap₂, _∙_, subst}
 use mathlib.Core.Bool.{true, false}
 use mathlib.Core.List.{List}
-use Prim.Native.Nat.{ℕ, _+_, _-_, _<_, _≤_, _^_}
+use Prim.Native.Nat.{ℕ, _+_, _≤_}
+use native.Mathlib.Nat.{add-zero}
 use native.Mathlib.Omega.{arith}
-use lib.ListN.{getD, take, drop}
+use lib.ListN.{getD}
 use lib.IntN.{ℤ, natAbs}
 use Rattle.numbers.specs.Bytes.{unsignedAt}
-use Rattle.commands.specs.declared.Reading.{Reading}
 use Rattle.commands.specs.Commands.{Command}
-use Rattle.commands.specs.Parameters.{fontChecksum, fontScale}
-use Rattle.commands.proofs.Readings.{Reads}
+use Rattle.volume.specs.declared.Part.{Part}
 use Rattle.volume.specs.Past.{body, Definition, definitionOf}
 use Rattle.volume.specs.Rules.{lawfulFont}
-use Rattle.volume.proofs.FontTables.{told-none, read-says}
-use Rattle.volume.proofs.NameLaws.{Leads, opcode-between}
-use Rattle.state.specs.declared.Font.{Font}
+use Rattle.volume.specs.Steps.{SayingAt}
+use Rattle.volume.proofs.FontTables.{told-none}
+use Rattle.volume.proofs.Sayings.{number-there}
+use Rattle.volume.proofs.NameLaws.{Leads, said-there}
 use Rattle.state.specs.Registers.{unselected}
 use Rattle.page.specs.Placing.{fontBy}
 use Rattle.page.specs.Steps.{Known, InScale, Told}
@@ -35,19 +35,17 @@ module _ {file fonts : List ℕ} {past : List Command} (told : Told file fonts p
     no-definition e = sym (ap (fontBy number) (told-none (told .tells) number lawful refl e))
 
     -- an entry leads to the definition, and the definition to the font
-    module _ {at : ℕ} (leads : Leads file fonts number past (told .tells) (told .standing) lawful at) (r : Reading) (read : Reads file at r) where
-      abbrev said : List ℕ
-      said = take (r .next - (r .start + (r .opcode - 242))) (drop (r .start + (r .opcode - 242)) file)
+    module _ {at : ℕ} (leads : Leads file fonts number past (told .tells) (told .standing) lawful at) (r : Part) (saying : SayingAt file at r) where
+      number-is : (from : ℕ) → from + 4 ≤ 14 → unsignedAt file (r .start + from) 4 ≡ unsignedAt (body (leads .c)) from 4
+      number-is from h =
+          ap (λ (part : Part). unsignedAt file (part .start + from) 4) (said-there file fonts number past (told .tells) (told .standing) lawful leads r saying)
+          ∙ number-there file at (leads .ahead) (leads .kind-is) from 4 h
 
-      said-is : said ≡ body (leads .c)
-      said-is =
-          let between = opcode-between file fonts number past (told .tells) (told .standing) lawful leads r read in
-          read-says read (leads .ahead) (between .0) (between .1)
-
-      pub font-is : record { number = natAbs number; checksum = unsignedAt said 0 4; scale = unsignedAt said 4 4 } ≡ fontBy number (definitionOf false number past)
+      pub font-is : record { number = natAbs number; checksum = unsignedAt file (r .start) 4; scale = unsignedAt file (r .start + 4) 4 } ≡ fontBy number (definitionOf false number past)
       font-is =
-          ap (λ (l : List ℕ). record { number = natAbs number; checksum = fontChecksum l; scale = fontScale l }) said-is
+          ap₂ (λ (sum size : ℕ). record { number = natAbs number; checksum = sum; scale = size })
+          (ap (λ (start : ℕ). unsignedAt file start 4) (sym (add-zero (r .start))) ∙ number-is 0 (omega arith)) (number-is 4 (omega arith))
           ∙ ap (fontBy number) (sym (leads .defined))
 
-      pub scale-in : unsignedAt said 4 4 ≤ 134217727
-      scale-in = subst (λ (l : List ℕ). fontScale l ≤ 134217727) (sym said-is) (subst (λ (d : Definition). InScale d) (leads .defined) (told .scales number))
+      pub scale-in : unsignedAt file (r .start + 4) 4 ≤ 134217727
+      scale-in = subst (λ (size : ℕ). size ≤ 134217727) (sym (number-is 4 (omega arith))) (subst (λ (d : Definition). InScale d) (leads .defined) (told .scales number))

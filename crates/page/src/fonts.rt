@@ -1,14 +1,10 @@
 // The font that a selection names, from its definition before post.
-use commands::Read;
 use state::Font;
 use volume::fonts;
-ghost use mathlib.Core.Path.{_≡_};
-ghost use Rattle.commands.specs.Lengths.{lengths};
 ghost use Rattle.page.specs.Steps.{FontIs};
 
 // The font of a number, by the table of the definitions before post; one that is not defined has scale 0.
-pub fn font_of(table: &[u8; 122], file: &[u8], fonts: &[u32; 256], number: i64) -> Font
-    requires { ⌜ now table ≡ lengths ⌝ }
+pub fn font_of(file: &[u8], fonts: &[u32; 256], number: i64) -> Font
     ensures { λ r. ⌜ FontIs (now (file .entry)) (now (fonts .entry)) number r ⌝ }
 {
     let unselected = Font {
@@ -23,26 +19,16 @@ pub fn font_of(table: &[u8; 122], file: &[u8], fonts: &[u32; 256], number: i64) 
     if entry == 0 {
         return unselected;
     }
-    match commands::read_by(table, file, entry - 1) {
-        Read::Refused(_) => unselected,
-        Read::Command(reading) => {
-            let opcode = reading.opcode;
-            let start = reading.start;
-            let next = reading.next;
-            if opcode < 243 {
-                return unselected;
-            }
-            if 246 < opcode {
-                return unselected;
-            }
-            let from = start + (opcode - 242) as usize;
-            let said = &file[from..next];
-            let which = number as u64;
-            Font {
-                number: which,
-                checksum: numbers::unsigned_at(said, 0, 4),
-                scale: numbers::unsigned_at(said, 4, 4),
-            }
-        }
+    let part = fonts::saying_at(file, entry - 1);
+    let start = part.start;
+    let end = part.end;
+    if end - start < 14 {
+        return unselected;
+    }
+    let which = number as u64;
+    Font {
+        number: which,
+        checksum: numbers::unsigned_at(file, start, 4),
+        scale: numbers::unsigned_at(file, start + 4, 4),
     }
 }

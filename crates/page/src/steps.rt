@@ -253,7 +253,6 @@ fn rule(terms: Terms, level: Level, sets: bool, params: &[u8], hint: usize) -> A
 
 // What a command of a kind asks.
 fn asked_by(
-    table: &[u8; 122],
     file: &[u8],
     widths: &[u8],
     fonts: &[u32; 256],
@@ -265,7 +264,7 @@ fn asked_by(
     hint: usize,
 ) -> Asked
     requires { ⌜ Whole (command opcode (now params)) × Told (now file) (now fonts) (history (now file)) ⌝ }
-    requires { ⌜ (checkedTable (now widths) ≡ given (terms .records)) × Accepted (terms .ruler .k) × Known font × Bounded level × (now table ≡ lengths) ⌝ }
+    requires { ⌜ (checkedTable (now widths) ≡ given (terms .records)) × Accepted (terms .ruler .k) × Known font × Bounded level ⌝ }
     ensures { λ r. ⌜ CommandAsks (settingBy terms (now (widths .entry)) (history (now (file .entry)))) level font (command opcode (now (params .entry))) r ⌝ }
 {
     let kind = commands::kind_of(opcode);
@@ -280,7 +279,7 @@ fn asked_by(
         Kind::Select => {
             let number = parameters::selected_font(opcode, params);
             Asked {
-                turn: Turn::Select(fonts::font_of(table, file, fonts, number)),
+                turn: Turn::Select(fonts::font_of(file, fonts, number)),
                 adds: Adds::Nothing,
                 hint: hint,
             }
@@ -330,7 +329,6 @@ pub fn step_at(
             let params = &file[start..next];
             Step {
                 asked: asked_by(
-                    table,
                     file,
                     widths,
                     fonts,

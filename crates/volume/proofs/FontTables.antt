@@ -1,28 +1,23 @@
--- What a font table tells of the commands so far, what stands in the file where a definition was read, and when a definition keeps the rules.
--- Assumes nothing.
+-- What a font table tells of the commands so far, and when a definition keeps the rules. Assumes nothing.
 use mathlib.Core.Path.{_≡_, refl, ap, sym, subst, _∙_}
 use mathlib.Core.Bool.{Bool, true, false, cond, not, _&&_, and-eq-true-iff}
-use mathlib.Core.List.{List, [], _∷_, _++_}
-use Prim.Native.Nat.{ℕ, _+_, _-_, _<_, _≤_}
+use mathlib.Core.List.{List, [], _∷_}
+use Prim.Native.Nat.{ℕ, _+_, _-_, _<_}
 use native.Mathlib.Omega.{arith}
 use lib.Dec.{T, eqb, ltb}
 use lib.ListN.{length, getD, take, drop, length-drop}
-use lib.Seq.{take-all, drop-drop, take-add, drop-at, length-take-le}
+use lib.Seq.{take-all}
 use lib.IntN.{ℤ, pos, negsuc, natAbs}
 use lib.Signed.{nonNeg}
 use borrow.Author.Tests.{ne-eqb, leb-true, le-leb}
 use Rattle.numbers.specs.Signs.{sameNumber}
 use Rattle.commands.specs.declared.Kind.the-variants.{Define}
-use Rattle.commands.specs.declared.Reading.{Reading}
 use Rattle.commands.specs.Kinds.{kindOf, is}
-use Rattle.commands.specs.Commands.{Command, kindOfCommand, whole, front}
+use Rattle.commands.specs.Commands.{Command, kindOfCommand}
 use Rattle.commands.specs.Parameters.{definedFont, definition, fontScale, fontDesignSize}
-use Rattle.commands.proofs.Opcodes.{kind-range, range-kind}
-use Rattle.commands.proofs.Lengths.{fixed-of, whole-fixed}
-use Rattle.commands.proofs.Readings.{Reads, commandAt}
 use Rattle.state.specs.Limits.{mostFonts}
 use Rattle.volume.specs.declared.Stage.{Stage}
-use Rattle.volume.specs.Past.{place, stage, isAfterPost, defines, fontNumber, body, Definition, none, stands, definitionOf, isDefined, fontCount}
+use Rattle.volume.specs.Past.{place, stage, isAfterPost, defines, fontNumber, Definition, none, stands, definitionOf, isDefined, fontCount}
 use Rattle.volume.specs.Rules.{lawfulFont, lawfulSize, says, lawfulDefinition}
 use Rattle.volume.specs.Steps.{command, entryOf, Tells, Standing, SayingIs}
 use Rattle.volume.proofs.Arms.{is-kind}
@@ -132,35 +127,6 @@ module _ (past : List Command) (number : ℤ) (said : List ℕ) where
     pub once-before : definitionOf false number past ≡ none → ltb (fontCount false past) mostFonts ≡ inTurn past number said
     once-before e = rw (early, e)
 
--- ---- the parts of a definition
-
 -- the bytes of a definition's parameters from a font's number on
 pub said-all : (params : List ℕ) (from : ℕ) → take (length params - from) (drop from params) ≡ drop from params
 said-all params from = take-all (length params - from) (drop from params) (omega (arith, length-drop from params))
-
-drop-taken : (k n : ℕ) (l : List ℕ) → k ≤ n → n ≤ length l → drop k (take n l) ≡ take (n - k) (drop k l)
-drop-taken k n l h i =
-    let count : k + (n - k) ≡ n = omega arith in
-    let parts : take n l ≡ take k l ++ take (n - k) (drop k l) = rw count at (take-add k (n - k) l) in
-    ap (drop k) parts ∙ drop-at (take k l) _ k (length-take-le k l (omega arith))
-
--- what was read at a place, where a definition stands there
-module _ {file : List ℕ} {at : ℕ} {r : Reading} (reads : Reads file at r) where
-  pub saying-inside : 243 ≤ r .opcode → r .opcode ≤ 246 → r .start + (r .opcode - 242) ≤ r .next
-  saying-inside low high =
-      omega (arith, reads .nexts, whole-fixed (commandAt file r) (reads .good), fixed-of (r .opcode) (range-kind Define low high))
-
-  module _ {c : Command} {rest : List ℕ} (ahead : front (drop at file) ≡ whole c rest) where
-    read-command : commandAt file r ≡ c
-    read-command = cc (reads .ahead)
-
-    pub read-define : kindOfCommand c ≡ Define → (243 ≤ r .opcode) × (r .opcode ≤ 246)
-    read-define define = kind-range (r .opcode) (omega (arith, reads .good .defined)) (ap kindOfCommand read-command ∙ define)
-
-    pub read-says : 243 ≤ r .opcode → r .opcode ≤ 246 → take (r .next - (r .start + (r .opcode - 242))) (drop (r .start + (r .opcode - 242)) file) ≡ body c
-    read-says low high =
-        let count : r .next - (r .start + (r .opcode - 242)) ≡ r .next - r .start - (r .opcode - 242) = omega arith in
-        let inside : r .start + (r .opcode - 242) ≤ r .next = saying-inside low high in
-        let long : r .next - r .start ≤ length (drop (r .start) file) = simp length-drop (omega (arith, reads .inside)) in
-        rw (count, ← drop-drop (r .opcode - 242) (r .start) file, ← drop-taken (r .opcode - 242) (r .next - r .start) (drop (r .start) file) (omega arith) long)
-        (ap body read-command)

@@ -1,32 +1,22 @@
 -- Where a font's name stands: what its entry in the table leads to. Assumes nothing.
-use mathlib.Core.Path.{_≡_, refl, sym, ap, ap₂, _∙_, subst}
+use mathlib.Core.Path.{_≡_, refl, sym, ap, _∙_, subst}
 use mathlib.Core.Bool.{true, false}
 use mathlib.Core.List.{List}
 use Prim.Native.Nat.{ℕ, _+_, _-_, _≤_}
 use native.Mathlib.Omega.{arith}
-use lib.ListN.{length, getD, drop}
+use lib.ListN.{getD, drop}
 use lib.IntN.{ℤ, natAbs}
 use Rattle.refusals.specs.Numbers.{noFont}
 use Rattle.refusals.specs.Answer.{refused, given}
 use Rattle.commands.specs.declared.Kind.the-variants.{Define}
-use Rattle.commands.specs.declared.Reading.{Reading}
-use Rattle.commands.specs.Kinds.{kindOf}
 use Rattle.commands.specs.Commands.{Command, kindOfCommand, whole, front}
-use Rattle.commands.specs.Reading.{readAt, reading}
-use Rattle.commands.proofs.Opcodes.{kind-range, range-kind}
-use Rattle.commands.proofs.Lengths.{fixed-of, whole-fixed}
-use Rattle.commands.proofs.Readings.{commandAt, Reads}
+use Rattle.volume.specs.declared.Part.{Part}
 use Rattle.volume.specs.Past.{Definition, none, stands, definitionOf}
 use Rattle.volume.specs.Rules.{lawfulFont}
 use Rattle.volume.specs.Names.{namePart, namedBy}
-use Rattle.volume.specs.Steps.{entryOf, Tells, Standing, AllStanding, Lawfully}
+use Rattle.volume.specs.Steps.{entryOf, Tells, Standing, AllStanding, Lawfully, sayingPart, SayingAt}
 use Rattle.volume.proofs.FontTables.{lawful-in, definition-kind, told-entry, told-none}
-
--- the name of a definition that was read lies within the file
-pub name-inside : (file : List ℕ) (at : ℕ) (r : Reading) → Reads file at r → 243 ≤ r .opcode → r .opcode ≤ 246
-    → (r .start + (r .opcode - 242) + 14 ≤ r .next) × (r .next ≤ length file)
-name-inside file at r read low high =
-    (omega (arith, read .nexts, whole-fixed (commandAt file r) (read .good), fixed-of (r .opcode) (range-kind Define low high)), read .inside)
+use Rattle.volume.proofs.Sayings.{body-long, body-all}
 
 -- a font of no lawful number has no name
 pub no-number : (past : List Command) (number : ℤ) → Lawfully past → lawfulFont number ≡ false → refused noFont 0 ≡ namedBy (definitionOf false number past)
@@ -55,28 +45,17 @@ module _ (file fonts : List ℕ) (number : ℤ) (past : List Command) (tells : T
           let back : at ≡ getD fonts (natAbs number) 0 - 1 = omega arith in
           subst Leads back (record { c = c; rest = s .0; defined = q; ahead = s .1; kind-is = definition-kind false number past q })
 
-  module _ {at : ℕ} (l : Leads at) where
-    -- so something is read there
-    pub not-refused : (n p : ℕ) → readAt file at ≡ refused n p → ⊥
-    not-refused n p e = let z : _≡_ {A = ℕ} 0 1 = cc (ap (reading at) (l .ahead)) in omega arith
+  -- the part that holds what the definition says, and the name at its end
+  module _ {at : ℕ} (l : Leads at) (r : Part) (saying : SayingAt file at r) where
+    pub said-there : r ≡ sayingPart at (l .c)
+    said-there = saying .2 (l .c) (l .rest) (l .ahead) (l .kind-is)
 
-    module _ (r : Reading) (read : Reads file at r) where
-      same-command : commandAt file r ≡ l .c
-      same-command = let e : whole (commandAt file r) (drop (r .next) file) ≡ whole (l .c) (l .rest) = sym (read .ahead) ∙ l .ahead in cc
+    pub said-long : 14 ≤ r .end - r .start
+    said-long = subst (λ (part : Part). 14 ≤ part .end - part .start) (sym said-there) (omega (arith, body-all file at (l .ahead) (l .kind-is), body-long file at (l .ahead) (l .kind-is)))
 
-      defining : kindOf (r .opcode) ≡ Define
-      defining = ap kindOfCommand same-command ∙ l .kind-is
-
-      pub opcode-between : (243 ≤ r .opcode) × (r .opcode ≤ 246)
-      opcode-between = kind-range (r .opcode) (omega (arith, read .good .defined)) defining
-
-      pub name-is : given (record { start = r .start + (r .opcode - 242) + 14; end = r .next }) ≡ namedBy (definitionOf false number past)
-      name-is =
-          let start-is : r .start + (r .opcode - 242) + 14 ≡ at + (r .opcode - 242) + 15 = omega (arith, read .starts) in
-          let end-is : r .next ≡ at + 1 + length (commandAt file r .params) = omega (arith, read .nexts, read .starts) in
-          ap₂ (λ (s e : ℕ). given (record { start = s; end = e })) start-is end-is
-          ∙ ap (λ (c : Command). given (namePart at c)) same-command
-          ∙ ap namedBy (sym (l .defined))
-
-      pub inside : (r .start + (r .opcode - 242) + 14 ≤ r .next) × (r .next ≤ length file)
-      inside = name-inside file at r read (opcode-between .0) (opcode-between .1)
+    pub name-is : given (record { start = r .start + 14; end = r .end }) ≡ namedBy (definitionOf false number past)
+    name-is =
+        let start-is : sayingPart at (l .c) .start + 14 ≡ namePart at (l .c) .start = omega arith in
+        ap (λ (part : Part). given (record { start = part .start + 14; end = part .end })) said-there
+        ∙ ap (λ (start : ℕ). given (record { start = start; end = namePart at (l .c) .end })) start-is
+        ∙ ap namedBy (sym (l .defined))

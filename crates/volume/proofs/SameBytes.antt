@@ -1,23 +1,15 @@
--- The test of two lists of bytes is whether they are equal, and so whether all their bytes are. Assumes nothing.
-use mathlib.Core.Path.{_≡_, refl, sym, ap, subst}
-use mathlib.Core.Bool.{Bool, true, false, _&&_}
+-- The test of two lists of bytes: only equal lists pass it, and it goes byte by byte. Assumes nothing.
+use mathlib.Core.Path.{_≡_, refl, sym, ap, _∙_}
+use mathlib.Core.Bool.{Bool, true, false, not, _&&_, and-true, and-false}
 use mathlib.Core.List.{List, [], _∷_}
-use mathlib.Core.Logic.{⊎-elim}
-use Prim.Native.Nat.{ℕ, _+_, _-_, _<_, _≤_}
+use Prim.Native.Nat.{ℕ, suc, _+_, _<_, _≤_}
+use native.Mathlib.Numerals.{add-one}
 use native.Mathlib.Omega.{arith}
 use lib.Dec.{eqb}
-use lib.ListN.{length, getD}
-use lib.Seq.{ext-getD}
-use borrow.Author.Tests.{eq-eqb, eqb-true, eqb-false}
-use Rattle.numbers.specs.Bytes.{unsignedAt}
-use Rattle.numbers.proofs.Bytes.{unsigned-same}
-use Rattle.commands.proofs.Ranges.{below-or-not}
+use lib.ListN.{length, getD, drop, drop-of-length-le}
+use lib.Seq.{drop-cons}
+use borrow.Author.Tests.{eq-eqb, ne-eqb, eqb-true}
 use Rattle.volume.specs.Rules.{sameBytes}
-
-pub same-refl : (xs : List ℕ) → sameBytes xs xs ≡ true
-unfolding sameBytes
-same-refl [] = refl
-same-refl (x ∷ xs) = rw (eq-eqb x x refl) (same-refl xs)
 
 pub same-true : (xs ys : List ℕ) → sameBytes xs ys ≡ true → xs ≡ ys
 unfolding sameBytes
@@ -30,46 +22,33 @@ same-true (x ∷ xs) (y ∷ ys) e = go (eqb x y) refl e (same-true xs ys)
     go true q e rest-same = let h : xs ≡ ys = rest-same e in cc (eqb-true x y q)
     go false q e rest-same = let z : _≡_ {A = ℕ} 0 1 = cc in absurd (omega arith)
 
--- lists that differ fail it
-pub differ : (xs ys : List ℕ) → (xs ≡ ys → ⊥) → false ≡ sameBytes xs ys
-differ xs ys unequal = by (sameBytes xs ys) refl
-  where
-    by : (t : Bool) → sameBytes xs ys ≡ t → false ≡ t
-    by true e = absurd (unequal (same-true xs ys e))
-    by false e = refl
-
--- and lists that differ in some bytes
-pub differ-there : (xs ys : List ℕ) (at count : ℕ) → eqb (unsignedAt xs at count) (unsignedAt ys at count) ≡ false → false ≡ sameBytes xs ys
-differ-there xs ys at count t = differ xs ys (λ e. eqb-false _ _ t (ap (λ (bytes : List ℕ). unsignedAt bytes at count) e))
+-- lists of two lengths fail it
+pub other-length : (xs ys : List ℕ) → (length xs ≡ length ys → ⊥) → false ≡ sameBytes xs ys
+unfolding sameBytes
+other-length [] [] unequal = absurd (unequal refl)
+other-length [] (y ∷ ys) unequal = refl
+other-length (x ∷ xs) [] unequal = refl
+other-length (x ∷ xs) (y ∷ ys) unequal = rw (← other-length xs ys (λ e. unequal (ap suc e))) (sym (and-false (eqb x y)))
 
 -- ---- byte by byte
 
-abbrev pub SameUpTo : List ℕ → List ℕ → ℕ → Type 0
-SameUpTo xs ys upto = (i : ℕ) → i < upto → getD xs i 0 ≡ getD ys i 0
+-- no byte before a place differs, and those from there on are the same: all are
+abbrev pub Decides : List ℕ → List ℕ → Bool → ℕ → Type 0
+Decides xs ys differ at = (not differ && sameBytes (drop at xs) (drop at ys)) ≡ sameBytes xs ys
 
--- lists of one length whose bytes are the same pass it
-pub all-same : (xs ys : List ℕ) → length xs ≡ length ys → SameUpTo xs ys (length xs) → true ≡ sameBytes xs ys
-all-same xs ys long same = sym (rw (ext-getD 0 xs ys long same) (same-refl ys))
+module _ (xs ys : List ℕ) (differ : Bool) (at : ℕ) (long : length xs ≡ length ys) (so-far : Decides xs ys differ at) where
+  pub at-end : length xs ≤ at → not differ ≡ sameBytes xs ys
+  unfolding sameBytes
+  at-end h = sym (and-true (not differ)) ∙ (rw (drop-of-length-le xs h, drop-of-length-le ys {i = at} (omega arith)) at so-far)
 
--- ---- byte after byte, count of them as one number
+  module _ (h : at < length xs) where
+    one-by-one : sameBytes (drop at xs) (drop at ys) ≡ (eqb (getD xs at 0) (getD ys at 0) && sameBytes (drop (at + 1) xs) (drop (at + 1) ys))
+    unfolding sameBytes
+    one-by-one = rw (add-one, drop-cons xs at 0 h, drop-cons ys at 0 (omega arith)) refl
 
-module _ (xs ys : List ℕ) (xs-bytes : (i : ℕ) → getD xs i 0 < 256) (ys-bytes : (i : ℕ) → getD ys i 0 < 256) (at count : ℕ) (so-far : SameUpTo xs ys at) where
-  abbrev tested : Bool
-  tested = eqb (unsignedAt xs at count) (unsignedAt ys at count)
+    -- after another byte all is decided
+    pub one-other : (getD xs at 0 ≡ getD ys at 0 → ⊥) → Decides xs ys true (at + 1)
+    one-other unequal = sym (and-false (not differ)) ∙ (rw (one-by-one, ne-eqb (getD xs at 0) (getD ys at 0) unequal) at so-far)
 
-  -- the next are the same
-  pub same-further : tested ≡ true → SameUpTo xs ys (at + count)
-  same-further t i h = ⊎-elim (so-far i) further (below-or-not i at)
-    where
-      further : at ≤ i → getD xs i 0 ≡ getD ys i 0
-      further past =
-          let back : at + (i - at) ≡ i = omega arith in
-          subst (λ (n : ℕ). getD xs n 0 ≡ getD ys n 0) back (unsigned-same xs ys xs-bytes ys-bytes at count (eqb-true _ _ t) (i - at) (omega arith))
-
-  -- the last decide
-  pub last-decide : length xs ≡ length ys → at + count ≡ length xs → tested ≡ sameBytes xs ys
-  last-decide long all = by tested refl
-    where
-      by : (t : Bool) → tested ≡ t → t ≡ sameBytes xs ys
-      by true e = all-same xs ys long (subst (SameUpTo xs ys) all (same-further e))
-      by false e = differ-there xs ys at count e
+    pub one-same : getD xs at 0 ≡ getD ys at 0 → Decides xs ys differ (at + 1)
+    one-same equal = rw (one-by-one, eq-eqb (getD xs at 0) (getD ys at 0) equal) at so-far

@@ -209,6 +209,17 @@ abbrev pub SelectionIs : List ℕ → ℕ → List ℕ → Bool → Type 0
 SelectionIs fonts opcode params r =
     (past : List Command) → Tells false fonts past → Lawfully past → r ≡ isDefined (definitionOf false (selectedFont opcode params) past)
 
+-- the part of the file that holds check sum, s, d, a, l and name of the definition at a place: after the font's number, to the command's end
+abbrev pub sayingPart : ℕ → Command → Part
+sayingPart at c = record { start = at + 1 + (c .opcode - 242); end = at + 1 + length (c .params) }
+
+-- r lies within the file, and is that part where a definition stands at the place
+abbrev pub SayingAt : List ℕ → ℕ → Part → Type 0
+SayingAt file at r =
+    (r .start ≤ r .end)
+    × (r .end ≤ length file)
+    × ((c : Command) (rest : List ℕ) → front (drop at file) ≡ whole c rest → kindOfCommand c ≡ Define → r ≡ sayingPart at c)
+
 -- r says whether the definition that stands at a place says just this
 abbrev pub SayingIs : List ℕ → ℕ → List ℕ → Bool → Type 0
 SayingIs file at said r = (c : Command) (rest : List ℕ) → front (drop at file) ≡ whole c rest → kindOfCommand c ≡ Define → r ≡ sameBytes (body c) said

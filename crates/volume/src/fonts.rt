@@ -1,9 +1,9 @@
 // Font definitions and selections. A table has, for each font number 0 to 255, one more than the place of its definition, or 0.
+use crate::Part;
 use crate::Stage;
 use crate::comparing;
 use crate::rules;
 use commands::Kind;
-use commands::Read;
 use commands::parameters;
 use state::Page;
 ghost use mathlib.Core.Path.{_≡_};
@@ -15,7 +15,7 @@ ghost use Rattle.commands.specs.declared.Kind.the-variants.{Define, Select};
 ghost use Rattle.commands.specs.Kinds.{kindOf};
 ghost use Rattle.commands.specs.Lengths.{fixedLength};
 ghost use Rattle.volume.specs.Rules.{lawfulFont};
-ghost use Rattle.volume.specs.Steps.{SelectionIs, SayingIs, DefinitionIs, LawfullyNumbered, tableAfter};
+ghost use Rattle.volume.specs.Steps.{SelectionIs, SayingAt, SayingIs, DefinitionIs, LawfullyNumbered, tableAfter};
 
 // Whether a number is one of the fonts 0 to 255.
 pub fn lawful_font(number: i64) -> bool
@@ -53,28 +53,43 @@ pub fn lawful_selection(fonts: &[u32; 256], opcode: u8, params: &[u8]) -> bool
     entry_of(fonts, number) != 0
 }
 
+// The part of the file that holds what the definition at a place says: check sum, s, d, a, l and name. The empty part at the file's start where none stands.
+pub fn saying_at(file: &[u8], at: usize) -> Part
+    ensures { λ r. ⌜ SayingAt (now (file .entry)) at r ⌝ }
+{
+    let nothing = Part { start: 0, end: 0 };
+    if file.len() <= at {
+        return nothing;
+    }
+    let opcode = file[at];
+    if opcode < 243 {
+        return nothing;
+    }
+    if 246 < opcode {
+        return nothing;
+    }
+    let start = at + 1 + (opcode - 242) as usize;
+    let name = start + 14;
+    if file.len() < name {
+        return nothing;
+    }
+    let lengths = numbers::wide(file[start + 12]) + numbers::wide(file[start + 13]);
+    let end = name + lengths as usize;
+    if file.len() < end {
+        return nothing;
+    }
+    Part { start, end }
+}
+
 // Whether the definition that stands at a place says just this: check sum, s, d, a, l and name.
 fn same_definition(file: &[u8], at: usize, said: &[u8]) -> bool
-    requires { ⌜ 8 ≤ length (now said) ⌝ }
     ensures { λ r. ⌜ SayingIs (now (file .entry)) at (now (said .entry)) r ⌝ }
 {
-    match commands::read_at(file, at) {
-        Read::Refused(_) => false,
-        Read::Command(reading) => {
-            let opcode = reading.opcode;
-            let start = reading.start;
-            let next = reading.next;
-            if opcode < 243 {
-                return false;
-            }
-            if 246 < opcode {
-                return false;
-            }
-            let from = start + (opcode - 242) as usize;
-            let found = &file[from..next];
-            comparing::same_bytes(found, said)
-        }
-    }
+    let part = saying_at(file, at);
+    let start = part.start;
+    let end = part.end;
+    let found = &file[start..end];
+    comparing::same_bytes(found, said)
 }
 
 // 7: whether a definition keeps the rules, at a stage, with so many fonts defined before post.

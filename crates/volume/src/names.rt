@@ -4,7 +4,6 @@ use crate::Part;
 use crate::Scanned;
 use crate::fonts;
 use crate::scanning;
-use commands::Read;
 use refusals::Refusal;
 ghost use mathlib.Core.Path.{_≡_};
 ghost use lib.ListN.{length};
@@ -26,26 +25,17 @@ fn named_by(file: &[u8], fonts: &[u32; 256], number: i64) -> Named
     if entry == 0 {
         return nowhere;
     }
-    match commands::read_at(file, entry - 1) {
-        Read::Refused(_) => nowhere,
-        Read::Command(reading) => {
-            let opcode = reading.opcode;
-            let start = reading.start;
-            let end = reading.next;
-            if opcode < 243 {
-                return nowhere;
-            }
-            if 246 < opcode {
-                return nowhere;
-            }
-            let said = start + (opcode - 242) as usize;
-            let name = said + 14;
-            Named::At(Part {
-                start: name,
-                end: end,
-            })
-        }
+    let part = fonts::saying_at(file, entry - 1);
+    let start = part.start;
+    let end = part.end;
+    if end - start < 14 {
+        return nowhere;
     }
+    let name = start + 14;
+    Named::At(Part {
+        start: name,
+        end: end,
+    })
 }
 
 // Where the name of a font stands.

@@ -110,7 +110,7 @@ selected-font-requires c κs =
     (between .0, between .1, omega (arith, whole-plain (asking k) (start k .pre .0 .0) e refl))
 
 font-of-requires : tie.Need-font-of-requires
-font-of-requires c κs = start (c .before .before .before) .pre .1 .4
+font-of-requires c κs = search needs
 
 enum-told-4 : tie.Need-enum-told-4
 enum-told-4 c = search needs

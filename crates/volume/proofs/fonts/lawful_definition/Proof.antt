@@ -175,7 +175,7 @@ sub-same-definition : tie.Need-sub-same-definition
 sub-same-definition c = search needs
 
 same-definition-requires : tie.Need-same-definition-requires
-same-definition-requires c κs = let s = begun (c .before .before .before .before .before .before) in rw (said-is s) (omega (arith, said-long s))
+same-definition-requires c κs = search needs
 
 returns-6 : tie.Need-returns-6
 returns-6 c =
