@@ -50,6 +50,10 @@ characterKey checksum scale code = (checksum * 2 ^ 32 + scale) * 256 + code
 nine : (table : List ℕ) (at : ℕ) → unsignedAt table at 9 ≡ characterKey (unsignedAt table at 4) (unsignedAt table (at + 4) 4) (getD table (at + 8) 0)
 nine table at = unsigned-more table at 8 ∙ ap (λ (n : ℕ). n * 256 + getD table (at + 8) 0) (unsigned-join table at 4 4)
 
+-- a key of a code alone has scale 0
+pub low-key : (table : List ℕ) (at : ℕ) → unsignedAt table at 9 < 256 → unsignedAt table (at + 4) 4 ≡ 0
+low-key table at low = omega (arith, nine table at)
+
 module _ (table : List ℕ) (index : ℕ) where
   pub key-is : (k : Key) → KeyAt table (index * widthRecordSize) k → keyNumber k ≡ recordOf table index .key
   unfolding recordOf

@@ -1,7 +1,7 @@
 -- The table's check: its loop against `checkedFrom`, and what holds of a table that was judged right: whole records, whose keys rise. Assumes nothing.
-use mathlib.Core.Path.{_≡_, refl, sym, ap, subst, _∙_}
+use mathlib.Core.Path.{_≡_, refl, sym, ap, ap₂, subst, _∙_}
 use mathlib.Core.Logic.{⊎-elim}
-use mathlib.Core.Bool.{Bool, true, false, not, cond, _&&_, and-eq-true-iff}
+use mathlib.Core.Bool.{Bool, true, false, not, cond, _&&_, and-assoc, and-eq-true-iff}
 use mathlib.Core.List.{List}
 use Prim.Native.Nat.{ℕ, zero, suc, _+_, _*_, _/_, _≤_, _<_}
 use native.Mathlib.Nat.{lt-trans, eq-or-lt-of-le}
@@ -9,13 +9,14 @@ use native.Mathlib.Omega.{arith}
 use lib.Dec.{ltb, leb, eqb}
 use lib.ListN.{length, getD}
 use borrow.Author.Tests.{ltb-true, ltb-false, leb-true, leb-false, lt-ltb, le-ltb, lt-leb, le-leb, not-false}
+use Rattle.numbers.specs.Bytes.{unsignedAt}
 use Rattle.refusals.specs.Numbers.{wrongWidthTable}
 use Rattle.refusals.specs.Answer.{refused, given, refuseIf}
 use Rattle.refusals.proofs.Answer.{given-next, given-same}
 use Rattle.widths.specs.declared.table.Key.{Key}
-use Rattle.widths.specs.Steps.{keyNumber, KeyAt}
+use Rattle.widths.specs.Steps.{keyNumber, KeyAt, lawfulRest}
 use Rattle.widths.proofs.Halving.{LastBytes}
-use Rattle.widths.proofs.Keys.{less-or-not, key-is}
+use Rattle.widths.proofs.Keys.{less-or-not, key-is, low-key}
 use Rattle.widths.specs.Scaling.{lawfulScale, lawfulFirst}
 use Rattle.widths.specs.Table.{widthRecordSize, recordAt, recordOf, rises, lawfulFields, wholeRecord, rightRecord, checkedFrom, checkedTable}
 
@@ -29,24 +30,32 @@ rises-by last next false e = lt-ltb last next (omega (arith, ltb-false next (las
 rises-next : (last next : ℕ) → ltb last next ≡ not (ltb next (last + 1))
 rises-next last next = rises-by last next (ltb next (last + 1)) refl
 
--- what holds at the loop's head: so many records are judged, so many at most are left, and a next key must reach `least`
+-- what holds at the loop's head: so many records are judged, so many at most are left, and the key of a next one with lawful fields must reach `least`
 pub record Checking (table : List ℕ) (at least : ℕ) : Type 0 where
   pub index : ℕ
   pub left : ℕ
   pub place : at ≡ index * widthRecordSize
   pub enough : index + left ≡ suc (length table)
-  pub reach : rises table index ≡ not (ltb (recordOf table index .key) least)
+  pub reach : (rises table index && lawfulFields (recordOf table index)) ≡ (not (ltb (recordOf table index .key) least) && lawfulFields (recordOf table index))
   pub rest : checkedFrom left table index ≡ checkedTable table
 
 module _ (table : List ℕ) where
-  pub check-starts : Checking table 0 0
+  -- a first key below 256 has scale 0, which is not lawful
+  first-reach : (low : Bool) → ltb (recordOf table 0 .key) 256 ≡ low → lawfulFields (recordOf table 0) ≡ (not low && lawfulFields (recordOf table 0))
+  unfolding recordOf
+  first-reach true e =
+      let none : unsignedAt table 4 4 ≡ 0 = low-key table 0 (ltb-true (unsignedAt table 0 9) 256 e) in
+      ap (λ (scale : ℕ). lawfulScale scale && lawfulRest (recordAt table 0)) none
+  first-reach false e = refl
+
+  pub check-starts : Checking table 0 256
   check-starts =
       record {
         index = 0;
         left = suc (length table);
         place = refl;
         enough = omega arith;
-        reach = sym (ap not (le-ltb (recordOf table 0 .key) 0 (omega arith)));
+        reach = first-reach (ltb (recordOf table 0 .key) 256) refl;
         rest = refl;
       }
 
@@ -76,7 +85,7 @@ module _ (table : List ℕ) where
         left = left;
         place = omega arith;
         enough = omega arith;
-        reach = rises-next (recordOf table index .key) (recordOf table (suc index) .key);
+        reach = ap (λ (rise : Bool). rise && lawfulFields (recordOf table (suc index))) (rises-next (recordOf table index .key) (recordOf table (suc index) .key));
         rest = sym (opened left index h ∙ simp e) ∙ rest;
       }
 
@@ -98,23 +107,28 @@ module _ (table : List ℕ) where
     pub check-cut : at < length table → length table < at + widthRecordSize → refused wrongWidthTable at ≡ checkedTable table
     check-cut h l = wrong h (simp (lt-leb (c .index * widthRecordSize + widthRecordSize) (length table) (omega (arith, c .place))))
 
-    -- a whole record is right where its key reaches `least` and its fields are lawful
-    right-is : at + widthRecordSize ≤ length table → rightRecord table (c .index) ≡ (not (ltb here least) && lawfulFields (recordAt table at))
+    -- the key reaches `least`, and its scale is lawful
+    abbrev pub keyRight : Bool
+    keyRight = not (ltb here least) && lawfulScale (recordAt table at .scale)
+
+    -- a whole record is right where its key is, and the rest
+    right-is : at + widthRecordSize ≤ length table → rightRecord table (c .index) ≡ (keyRight && lawfulRest (recordAt table at))
     unfolding recordOf
     right-is h =
-        simp (le-leb (c .index * widthRecordSize + widthRecordSize) (length table) (omega (arith, c .place)), c .reach)
-        (ap (λ (n : ℕ). not (ltb here least) && lawfulFields (recordAt table n)) (sym (c .place)))
+        simp (le-leb (c .index * widthRecordSize + widthRecordSize) (length table) (omega (arith, c .place)))
+        (c .reach ∙ ap (λ (n : ℕ). not (ltb here least) && lawfulFields (recordAt table n)) (sym (c .place))
+        ∙ sym (and-assoc (not (ltb here least)) (lawfulScale (recordAt table at .scale)) (lawfulRest (recordAt table at))))
 
-    pub check-low : at + widthRecordSize ≤ length table → ltb here least ≡ true → refused wrongWidthTable at ≡ checkedTable table
-    check-low h e = wrong (omega arith) (right-is h ∙ simp e)
+    pub check-key : at + widthRecordSize ≤ length table → keyRight ≡ false → refused wrongWidthTable at ≡ checkedTable table
+    check-key h e = wrong (omega arith) (right-is h ∙ ap (λ (key : Bool). key && lawfulRest (recordAt table at)) e)
 
-    pub check-unlawful : at + widthRecordSize ≤ length table → ltb here least ≡ false → lawfulFields (recordAt table at) ≡ false → refused wrongWidthTable at ≡ checkedTable table
-    check-unlawful h e f = wrong (omega arith) (right-is h ∙ simp (e, f))
+    pub check-rest : at + widthRecordSize ≤ length table → keyRight ≡ true → lawfulRest (recordAt table at) ≡ false → refused wrongWidthTable at ≡ checkedTable table
+    check-rest h e f = wrong (omega arith) (right-is h ∙ ap₂ _&&_ e f)
 
-    pub check-turns : at + widthRecordSize ≤ length table → ltb here least ≡ false → lawfulFields (recordAt table at) ≡ true → Checking table (at + widthRecordSize) (here + 1)
+    pub check-turns : at + widthRecordSize ≤ length table → keyRight ≡ true → lawfulRest (recordAt table at) ≡ true → Checking table (at + widthRecordSize) (here + 1)
     check-turns h e f =
         subst (λ (n : ℕ). Checking table (n + widthRecordSize) (here + 1)) (sym (c .place))
-        (turn-by (c .left) (c .index) (omega (arith, c .place)) (c .enough) (right-is h ∙ simp (e, f)) (c .rest))
+        (turn-by (c .left) (c .index) (omega (arith, c .place)) (c .enough) (right-is h ∙ ap₂ _&&_ e f) (c .rest))
 
 -- ---- a right table
 

@@ -1,7 +1,9 @@
 -- What the code's own steps give and keep; no promise cites this. Assumes nothing.
-use Prim.Native.Nat.{ℕ, _+_, _*_, _^_, _≤_, _<_}
+use Prim.Native.Nat.{ℕ, _+_, _*_, _%_, _^_, _≤_, _<_}
 use mathlib.Core.Path.{_≡_}
+use mathlib.Core.Bool.{Bool, true, not, _&&_}
 use mathlib.Core.List.{List}
+use lib.Dec.{ltb, eqb}
 use lib.ListN.{getD}
 use Rattle.refusals.specs.Numbers.{wrongWidthTable}
 use Rattle.refusals.specs.Answer.{Answer, refused, given}
@@ -12,7 +14,8 @@ use Rattle.widths.specs.declared.table.Table.{Table}
 use Rattle.widths.specs.declared.table.Table.the-variants.{Right, Wrong}
 use Rattle.widths.specs.declared.table.Place.{Place}
 use Rattle.widths.specs.declared.table.Place.the-variants.{At, Nowhere}
-use Rattle.widths.specs.Table.{recordOf}
+use Rattle.widths.specs.Scaling.{lawfulScale, lawfulFirst}
+use Rattle.widths.specs.Table.{WidthRecord, recordOf}
 use Rattle.widths.specs.LookUp.{LookUp, found, absent, metricOf}
 
 -- z and α after the halving
@@ -31,6 +34,18 @@ pub record KeyAt (table : List ℕ) (at : ℕ) (k : Key) : Type 0 where
   pub scale-below : unsignedAt table (at + 4) 4 < 2 ^ 32
   pub code-is : k .code ≡ getD table (at + 8) 0
   pub code-below : k .code < 256
+
+-- a key reaches another: it is not below it
+abbrev pub reaches : Key → Key → Bool
+reaches key least = not (ltb (keyNumber key) (keyNumber least))
+
+-- what a next key must reach: where a key of its head can have its code, its scale is lawful
+abbrev pub LeastKey : Key → Type 0
+LeastKey least = (least .code ≤ 256) × (least .code < 256 → lawfulScale (least .head % 2 ^ 32) ≡ true)
+
+-- the fields beside the key are right
+abbrev pub lawfulRest : WidthRecord → Bool
+lawfulRest r = eqb (r .zero-byte) 0 && lawfulFirst (r .width .b0)
 
 -- the check's answer: 14 at the place of the first wrong record, or how many records
 abbrev pub tableSays : Table → Answer ℕ

@@ -3,13 +3,15 @@ use crate::FixWord;
 use crate::Metric;
 use crate::scaling;
 ghost use mathlib.Core.Path.{_≡_};
-ghost use Prim.Native.Nat.{_+_, _*_, _≤_, _<_, _^_};
+ghost use mathlib.Core.Bool.{_&&_};
+ghost use Prim.Native.Nat.{_+_, _*_, _%_, _≤_, _<_, _^_};
 ghost use lib.Dec.{ltb, eqb};
 ghost use lib.ListN.{length};
 ghost use Rattle.refusals.specs.Answer.{given};
-ghost use Rattle.widths.specs.Table.{recordAt, recordOf, lawfulFields, checkedTable};
+ghost use Rattle.widths.specs.Scaling.{lawfulScale};
+ghost use Rattle.widths.specs.Table.{recordAt, recordOf, checkedTable};
 ghost use Rattle.widths.specs.LookUp.{metricOf, walk};
-ghost use Rattle.widths.specs.Steps.{keyNumber, KeyAt, tableSays, foundAt, Among, FirstNotBelow};
+ghost use Rattle.widths.specs.Steps.{keyNumber, KeyAt, reaches, LeastKey, lawfulRest, tableSays, foundAt, Among, FirstNotBelow};
 
 // The layout of a width record: its size, and where the fields after check sum and scale start.
 const RECORD_SIZE: usize = 16;
@@ -66,9 +68,9 @@ fn key_at(table: &[u8], at: usize) -> Key
     }
 }
 
-// Whether key a is below key b. The key that a next record must reach may be one past the last code.
+// Whether key a is below key b.
 fn below(a: Key, b: Key) -> bool
-    requires { ⌜ (a .code < 256) × (b .code ≤ 256) ⌝ }
+    requires { ⌜ (a .code < 256) × (b .code < 256) ⌝ }
     ensures { λ r. ⌜ r ≡ ltb (keyNumber a) (keyNumber b) ⌝ }
 {
     if a.head < b.head {
@@ -91,35 +93,46 @@ fn same(a: Key, b: Key) -> bool
     a.code == b.code
 }
 
-// Whether scale, zero byte and the width's first byte of the record at a place are right. The scale is taken from the
-// record's key: reading its bytes again would keep the key from being one load.
-fn lawful_fields(table: &[u8], at: usize, key: Key) -> bool
-    requires { ⌜ (at + 16 ≤ length (now table)) × KeyAt (now table) at key ⌝ }
-    ensures { λ r. ⌜ r ≡ lawfulFields (recordAt (now (table .entry)) at) ⌝ }
+// Whether a record's key reaches the least that it must, with a scale that is lawful. The scale is taken from the key: reading its
+// bytes again would keep the key from being one load. Where the head is that of the key before it, the scale was judged there.
+fn lawful_key(key: Key, least: Key) -> bool
+    requires { ⌜ (key .code < 256) × LeastKey least ⌝ }
+    ensures { λ r. ⌜ r ≡ reaches key least && lawfulScale (key .head % 2 ^ 32) ⌝ }
 {
-    if !scaling::lawful_scale(key.head % SCALE_SPAN) {
+    if key.head == least.head {
+        return least.code <= key.code;
+    }
+    if key.head < least.head {
         return false;
     }
+    scaling::lawful_scale(key.head % SCALE_SPAN)
+}
+
+// Whether the zero byte and the width's first byte of the record at a place are right.
+fn lawful_rest(table: &[u8], at: usize) -> bool
+    requires { ⌜ at + 16 ≤ length (now table) ⌝ }
+    ensures { λ r. ⌜ r ≡ lawfulRest (recordAt (now (table .entry)) at) ⌝ }
+{
     if table[at + ZERO_AT] != 0 {
         return false;
     }
     scaling::lawful_first(table[at + WIDTH_AT])
 }
 
-// The check of a whole table. A next record must reach `least`: one past the key before it, 0 at first. Bytes after the
-// whole records are judged once, after the loop.
+// The check of a whole table. A next record must reach `least`: one past the key before it. At first it is the least with a head above 0: scale 0 is
+// not lawful. Bytes after the whole records are judged once, after the loop.
 pub fn check_table(table: &[u8]) -> Table
     ensures { λ r. ⌜ tableSays r ≡ checkedTable (now (table .entry)) ⌝ }
 {
     let mut at: usize = 0;
-    let mut least = Key { head: 0, code: 0 };
+    let mut least = Key { head: 0, code: 256 };
     let whole = table.len() - table.len() % RECORD_SIZE;
     while at < whole {
         let key = key_at(table, at);
-        if below(key, least) {
+        if !lawful_key(key, least) {
             return Table::Wrong(at);
         }
-        if !lawful_fields(table, at, key) {
+        if !lawful_rest(table, at) {
             return Table::Wrong(at);
         }
         let next_code = key.code + 1;

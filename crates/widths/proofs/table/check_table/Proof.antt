@@ -1,19 +1,23 @@
 -- `widths::table::check_table` meets its contract. Assumes nothing.
-use Prim.Native.Nat.{ℕ, _+_, _-_, _*_, _≤_}
-use mathlib.Core.Path.{_≡_, sym, ap, subst, _∙_}
+use Prim.Native.Nat.{ℕ, _+_, _-_, _*_, _%_, _^_, _≤_}
+use mathlib.Core.Path.{_≡_, sym, ap₂, subst, _∙_}
+use mathlib.Core.Bool.{true, not, _&&_, and-eq-true-iff}
+use mathlib.Core.List.{List}
 use native.Mathlib.Omega.{arith}
 use borrow.Author.Tests.{not-true, not-false}
 use lib.Dec.{ltb}
 use lib.ListN.{length}
 use denote.Ref.{now}
+use Rattle.numbers.specs.Bytes.{unsignedAt}
+use Rattle.widths.specs.Scaling.{lawfulScale}
 use Rattle.widths.specs.Table.{widthRecordSize, recordOf}
-use Rattle.widths.specs.Steps.{keyNumber}
-use Rattle.widths.proofs.TableLaws.{Checking, check-starts, check-ends, check-cut, check-low, check-unlawful, check-turns, key-here}
+use Rattle.widths.specs.Steps.{keyNumber, reaches, LeastKey}
+use Rattle.widths.proofs.TableLaws.{Checking, check-starts, check-ends, check-cut, keyRight, check-key, check-rest, check-turns, key-here}
 use Rattle.widths.proofs.table.check_table.Statement.{statement}
 use Rattle.widths.proofs.table.check_table.Tie as tie
 
 abbrev Inv-loop : tie.InvT-loop
-Inv-loop table at₀ least₀ whole at least = (at ≤ whole) × (least .code ≤ 256) × Checking table at (keyNumber least)
+Inv-loop table at₀ least₀ whole at least = (at ≤ whole) × LeastKey least × Checking table at (keyNumber least)
 
 abbrev μ-loop : tie.MeasureT-loop
 μ-loop table at₀ least₀ whole at least = whole - at
@@ -22,7 +26,7 @@ sub-whole : tie.Need-sub-whole Inv-loop μ-loop
 sub-whole c = omega arith
 
 loop-holds : tie.Need-loop-holds Inv-loop μ-loop
-loop-holds c = (omega arith, omega arith, check-starts (now (c .before .args .table)))
+loop-holds c = (omega arith, (omega arith, λ h. absurd (omega arith)), check-starts (now (c .before .args .table)))
 
 -- the record of a turn lies within the table
 inside : (c : tie.In-loop Inv-loop μ-loop) → c .before .loop .at + widthRecordSize ≤ length (now (c .before .before .before .args .table))
@@ -31,28 +35,42 @@ inside c = omega (arith, c .before .loop .inv .2 .place)
 key-at-requires : tie.Need-key-at-requires Inv-loop μ-loop
 key-at-requires c κs = inside c
 
-below-requires : tie.Need-below-requires Inv-loop μ-loop
-below-requires c κs = (c .key-at .ensures .code-below, c .before .before .loop .inv .1)
+lawful-key-requires : tie.Need-lawful-key-requires Inv-loop μ-loop
+lawful-key-requires c κs = (c .key-at .ensures .code-below, c .before .before .loop .inv .1)
 
--- the test of the rise, on the record's key
-below-test : (c : tie.After-below Inv-loop μ-loop) → c .below .result ≡ ltb (recordOf (now (c .before .before .before .before .before .args .table)) (c .before .before .before .loop .inv .2 .index) .key) (keyNumber (c .before .before .before .loop .least))
-below-test c =
-    let l = c .before .before .before .loop in
-    c .below .ensures ∙ ap (λ (n : ℕ). ltb n (keyNumber (l .least))) (key-here (now (c .before .before .before .before .before .args .table)) (l .at) (keyNumber (l .least)) (l .inv .2) (c .before .key-at .result) (c .before .key-at .ensures))
+-- the test of the key, on the record's own
+module _ (c : tie.After-lawful-key Inv-loop μ-loop) where
+  abbrev head : tie.At-loop Inv-loop μ-loop
+  head = c .before .before .before
+
+  abbrev table : List ℕ
+  table = now (head .before .before .args .table)
+
+  abbrev least : ℕ
+  least = keyNumber (head .loop .least)
+
+  key-test : c .lawful-key .result ≡ keyRight table (head .loop .at) least (head .loop .inv .2)
+  key-test =
+      let k = c .before .key-at in
+      let scale-is : k .result .head % 2 ^ 32 ≡ unsignedAt table (head .loop .at + 4) 4 = omega (arith, k .ensures .head-is, k .ensures .scale-below) in
+      c .lawful-key .ensures
+      ∙ ap₂ (λ (n scale : ℕ). not (ltb n least) && lawfulScale scale) (key-here table (head .loop .at) least (head .loop .inv .2) (k .result) (k .ensures)) scale-is
 
 returns : tie.Need-returns Inv-loop μ-loop
 returns c =
-    let l = c .before .before .before .before .loop in
-    check-low (now (c .before .before .before .before .before .before .args .table)) (l .at) (keyNumber (l .least)) (l .inv .2) (inside (c .before .before .before)) (sym (below-test (c .before)) ∙ c .if1 .taken)
+    let k = c .before in
+    let l = head k .loop in
+    check-key (table k) (l .at) (least k) (l .inv .2) (inside (k .before .before)) (sym (key-test k) ∙ not-true _ (c .if1 .taken))
 
-lawful-fields-requires : tie.Need-lawful-fields-requires Inv-loop μ-loop
-lawful-fields-requires c κs = (inside (c .before .before .before), c .before .before .key-at .ensures)
+lawful-rest-requires : tie.Need-lawful-rest-requires Inv-loop μ-loop
+lawful-rest-requires c κs = inside (c .before .before .before)
 
 returns-2 : tie.Need-returns-2 Inv-loop μ-loop
 returns-2 c =
-    let l = c .before .before .before .before .before .before .loop in
-    check-unlawful (now (c .before .before .before .before .before .before .before .before .args .table)) (l .at) (keyNumber (l .least)) (l .inv .2) (inside (c .before .before .before .before .before))
-    (sym (below-test (c .before .before .before)) ∙ c .before .before .if1 .left) (sym (c .before .lawful-fields .ensures) ∙ not-true _ (c .if2 .taken))
+    let k = c .before .before .before in
+    let l = head k .loop in
+    check-rest (table k) (l .at) (least k) (l .inv .2) (inside (k .before .before))
+    (sym (key-test k) ∙ not-false _ (c .before .before .if1 .left)) (sym (c .before .lawful-rest .ensures) ∙ not-true _ (c .if2 .taken))
 
 add-next-code : tie.Need-add-next-code Inv-loop μ-loop
 add-next-code c = omega arith
@@ -65,14 +83,15 @@ loop-less c = omega arith
 
 loop-again : tie.Need-loop-again Inv-loop μ-loop
 loop-again c =
-    let table = now (c .before .before .before .before .before .before .before .before .before .args .table) in
-    let l = c .before .before .before .before .before .before .before .loop in
-    let key = c .before .before .before .before .before .key-at in
-    let next : Checking table (l .at + widthRecordSize) (recordOf table (l .inv .2 .index) .key + 1) =
-    check-turns table (l .at) (keyNumber (l .least)) (l .inv .2) (inside (c .before .before .before .before .before .before)) (sym (below-test (c .before .before .before .before)) ∙ c .before .before .before .if1 .left) (sym (c .before .before .lawful-fields .ensures) ∙ not-false _ (c .before .if2 .left)) in
-    let e : recordOf table (l .inv .2 .index) .key + 1 ≡ key .result .head * 256 + (key .result .code + 1) =
-    omega (arith, key-here table (l .at) (keyNumber (l .least)) (l .inv .2) (key .result) (key .ensures)) in
-    (omega (arith, l .inv .2 .place), omega (arith, key .ensures .code-below), subst (Checking table (l .at + widthRecordSize)) e next)
+    let k = c .before .before .before .before in
+    let l = head k .loop in
+    let key = k .before .key-at in
+    let right : keyRight (table k) (l .at) (least k) (l .inv .2) ≡ true = sym (key-test k) ∙ not-false _ (c .before .before .before .if1 .left) in
+    let lawful : lawfulScale (key .result .head % 2 ^ 32) ≡ true = and-eq-true-iff (reaches (key .result) (l .least)) (lawfulScale (key .result .head % 2 ^ 32)) .0 (sym (k .lawful-key .ensures) ∙ not-false _ (c .before .before .before .if1 .left)) .1 in
+    let next = check-turns (table k) (l .at) (least k) (l .inv .2) (inside (k .before .before)) right (sym (c .before .before .lawful-rest .ensures) ∙ not-false _ (c .before .if2 .left)) in
+    let e : recordOf (table k) (l .inv .2 .index) .key + 1 ≡ key .result .head * 256 + (key .result .code + 1) =
+    omega (arith, key-here (table k) (l .at) (least k) (l .inv .2) (key .result) (key .ensures)) in
+    (omega (arith, l .inv .2 .place), (omega (arith, key .ensures .code-below), λ h. lawful), subst (Checking (table k) (l .at + widthRecordSize)) e next)
 
 returns-3 : tie.Need-returns-3 Inv-loop μ-loop
 returns-3 c =
@@ -93,9 +112,9 @@ check-table-spec =
     sub-whole
     loop-holds
     key-at-requires
-    below-requires
+    lawful-key-requires
     returns
-    lawful-fields-requires
+    lawful-rest-requires
     returns-2
     add-next-code
     add-at
