@@ -27,7 +27,8 @@ INVALID = " invalid in font "
 OVERFLOW = " arithmetic overflow! parameter changed "
 POSTAMBLE = re.compile(r"Postamble starts at byte (\d+)\.")
 TOTALS = re.compile(r"maxv=-?\d+, maxh=-?\d+, maxstackdepth=(\d+), totalpages=(\d+)")
-LOADED = re.compile(r"Font \d+: .*---loaded at size \d+ DVI units")
+# Where check sums or design sizes do not agree with the TFM file, DVItype says so in between, and this on a line of its own.
+LOADED = re.compile(r"(?:Font \d+: .*| *)---loaded at size \d+ DVI units")
 
 
 class NoWitness(Exception):
