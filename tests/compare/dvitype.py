@@ -27,7 +27,7 @@ INVALID = " invalid in font "
 OVERFLOW = " arithmetic overflow! parameter changed "
 POSTAMBLE = re.compile(r"Postamble starts at byte (\d+)\.")
 TOTALS = re.compile(r"maxv=-?\d+, maxh=-?\d+, maxstackdepth=(\d+), totalpages=(\d+)")
-# Where check sums or design sizes do not agree with the TFM file, DVItype says so in between, and this on a line of its own.
+# Where a check sum is not that of the TFM file, DVItype says so in between, and this stands on a line of its own.
 LOADED = re.compile(r"(?:Font \d+: .*| *)---loaded at size \d+ DVI units")
 
 

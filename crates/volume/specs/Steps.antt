@@ -78,7 +78,7 @@ changed v stage at depth greatest =
       selected = v .selected;
     }
 
--- what every command changes: the stage, the place and the depth
+-- the stage, the place and the depth after one more command, the rest as it was
 abbrev pub movedOn : Volume → Kind → ℕ → Volume
 movedOn v kind length =
     changed v (stageAfter kind (v .stage)) (v .at + (1 + length)) (depthAfter kind (v .depth)) (max (v .greatest) (depthAfter kind (v .depth)))

@@ -46,7 +46,7 @@ pub fn greater(a: usize, b: usize) -> usize
     if a < b { b } else { a }
 }
 
-// What no command amounts to.
+// What the empty list of commands amounts to.
 pub fn fresh() -> Volume
     ensures { λ r. ⌜ ((page : ℕ) → r ≡ stateOf page []) ⌝ }
 {
@@ -68,7 +68,7 @@ pub fn fresh() -> Volume
     }
 }
 
-// What every command changes: the stage, the place and the depth.
+// The stage, the place and the depth after one more command; the rest as it was.
 fn moved_on(v: Volume, kind: Kind, length: usize) -> Volume
     requires { ⌜ (v .at + (1 + length) < 2 ^ 32) × (v .depth ≤ v .at) ⌝ }
     ensures { λ r. ⌜ r ≡ movedOn v kind length ⌝ }
