@@ -20,7 +20,8 @@ use Rattle.volume.specs.declared.Summary.{Summary}
 use Rattle.volume.specs.Past.{isA, place, num, den, mag, Definition, none, stands, definitionOf}
 use Rattle.volume.specs.Rules.{preambleWrong, misplaced, depthWrong, definitionWrong, fontMissing, pointerWrong, postambleWrong, fault}
 use Rattle.volume.specs.Judged.{summary, tail, onFront, onFault, onEnd, judgedFrom, judged}
-use Rattle.volume.specs.Names.{namedBy, namePlace, history}
+use Rattle.volume.specs.Names.{namedBy, namePlace}
+use Rattle.volume.specs.History.{history}
 use Rattle.page.specs.Placing.{Setting, Outcome, leavesRange, goes, Placed, after, onOutcome, placing}
 use Rattle.page.specs.Answers.{withRoom, pageOutside, settingOf, placedAccepted, placedPage, placedCounts}
 use Rattle.page.specs.Records.{placementRecordSize as size}

@@ -3,3 +3,4 @@ pub mod Lengths
 pub mod Commands
 pub mod Parameters
 pub mod Reading
+pub mod Steps

@@ -4,10 +4,8 @@ use mathlib.Core.List.{List}
 use lib.Dec.{ltb}
 use lib.ListN.{length, drop}
 use Rattle.refusals.specs.Numbers.{fileTooLong, fileEnds, undefinedOpcode}
-use Rattle.refusals.specs.Answer.{Answer, refused, given, refusal, refuseIf}
+use Rattle.refusals.specs.Answer.{Answer, refused, given, refuseIf}
 use Rattle.commands.specs.declared.Reading.{Reading}
-use Rattle.commands.specs.declared.Read.{Read}
-use Rattle.commands.specs.declared.Read.the-variants as Read
 use Rattle.commands.specs.Commands.{Command, Front, cut, undefined, whole, front}
 
 -- the opcode, where its parameters start, and the place after them
@@ -19,11 +17,6 @@ reading at (whole c rest) = given (record { opcode = c .opcode; start = at + 1; 
 -- "2 or 3 (the place given; at or past the end it is 2)"
 abbrev pub readAt : List ℕ → ℕ → Answer Reading
 readAt file at = reading at (front (drop at file))
-
--- what the code's answer says
-abbrev pub readAnswer : Read → Answer Reading
-readAnswer (Read.Command r) = given r
-readAnswer (Read.Refused r) = refusal r
 
 -- "file longer than 16,777,216 bytes"
 abbrev pub longestFile : ℕ

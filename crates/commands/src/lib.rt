@@ -8,7 +8,8 @@ ghost use Prim.Native.Nat.{_+_, _≤_, _<_};
 ghost use lib.ListN.{length, drop};
 ghost use Rattle.commands.specs.Kinds.{kindOf};
 ghost use Rattle.commands.specs.Lengths.{lengths, fixedLength, innerLength};
-ghost use Rattle.commands.specs.Reading.{readAnswer, readAt};
+ghost use Rattle.commands.specs.Reading.{readAt};
+ghost use Rattle.commands.specs.Steps.{readAnswer};
 
 // A file longer than this is refused
 pub const LONGEST_FILE: usize = 16777216;

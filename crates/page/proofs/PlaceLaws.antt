@@ -12,15 +12,16 @@ use Rattle.refusals.specs.Numbers.{noSuchPage, positionOutOfRange, areaTooShort
 use Rattle.refusals.specs.Answer.{Answer, refused, given, refuseIf, andThen}
 use Rattle.refusals.proofs.Answer.{given-not-refused}
 use Rattle.units.specs.declared.Ratio.{Ratio}
-use Rattle.units.specs.Unit.{Units, unitOf, drift}
+use Rattle.units.specs.Unit.{unitOf, drift}
+use Rattle.units.specs.Steps.{Units}
 use Rattle.units.proofs.Unit.{accepted}
 use Rattle.widths.specs.Table.{checkedTable}
 use Rattle.commands.specs.Reading.{longestFile}
 use Rattle.volume.specs.declared.Volume.{Volume}
-use Rattle.volume.specs.Past.{num, den, mag, bopOf}
+use Rattle.volume.specs.Past.{num, den, mag}
+use Rattle.volume.specs.Steps.{bopOf, stateOf, summaryOf}
 use Rattle.volume.specs.Judged.{judged}
-use Rattle.volume.specs.Names.{history}
-use Rattle.volume.specs.Steps.{stateOf, summaryOf}
+use Rattle.volume.specs.History.{history}
 use Rattle.volume.proofs.Accepts.{accepts-lawful}
 use Rattle.state.specs.Registers.{freshState}
 use Rattle.page.specs.declared.Counts.{Counts}

@@ -15,7 +15,7 @@ use Rattle.refusals.specs.Answer.{given}
 use Rattle.numbers.specs.Signs.{sameNumber}
 use Rattle.numbers.specs.Bytes.{unsignedAt}
 use Rattle.numbers.proofs.Signed.{diff, lt-yes}
-use Rattle.units.specs.Unit.{Units}
+use Rattle.units.specs.Steps.{Units}
 use Rattle.commands.specs.declared.Kind.the-variants.{Define, Pre, PostPost}
 use Rattle.commands.specs.Commands.{Command, kindOfCommand, whole, front}
 use Rattle.commands.specs.Parameters.{fontScale}
@@ -27,7 +27,7 @@ use Rattle.volume.specs.declared.Summary.{Summary}
 use Rattle.volume.specs.Past.{isA, place, stage, num, den, mag, fontNumber, body, defines, stands, definitionOf}
 use Rattle.volume.specs.Rules.{isAtStart, lawfulPreamble, positiveAt, mayStand, lawfulSize, lawfulFont, lawfulDefinition, fontLeftOut, Allowed}
 use Rattle.volume.specs.Judged.{judgedFrom, judged}
-use Rattle.volume.specs.Names.{historyFrom, history}
+use Rattle.volume.specs.History.{historyFrom, history}
 use Rattle.volume.proofs.Arms.{is-kind}
 use Rattle.volume.proofs.FaultLaws.{all-kept}
 use Rattle.volume.proofs.FontTables.{defines-kind}

@@ -16,7 +16,7 @@ use Rattle.commands.specs.Kinds.{is}
 use Rattle.commands.specs.Commands.{Command, kindOfCommand, whole, front}
 use Rattle.volume.specs.Past.{isA, depthAfter}
 use Rattle.volume.specs.Rules.{wrongAtDepth}
-use Rattle.volume.specs.Names.{history}
+use Rattle.volume.specs.History.{history}
 use Rattle.volume.proofs.Arms.{is-kind}
 use Rattle.volume.proofs.Going.{after-command}
 use Rattle.state.specs.declared.Level.{Level}

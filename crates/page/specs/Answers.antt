@@ -11,7 +11,7 @@ use Rattle.units.specs.Unit.{unitOf, drift}
 use Rattle.widths.specs.Table.{checkedTable}
 use Rattle.volume.specs.Past.{num, den, mag}
 use Rattle.volume.specs.Judged.{judged}
-use Rattle.volume.specs.Names.{history}
+use Rattle.volume.specs.History.{history}
 use Rattle.state.specs.Registers.{freshState}
 use Rattle.page.specs.declared.Counts.{Counts}
 use Rattle.page.specs.Records.{placementRecordSize, allBytes}

@@ -14,7 +14,7 @@ use Rattle.commands.specs.Lengths.{lengths, fixedLength, innerLengthOf, innerLe
 use Rattle.commands.specs.Commands.{frontAfter}
 use Rattle.volume.specs.Rules.{sameBytes}
 use Rattle.volume.specs.Judged.{tail, judgedFrom, judged}
-use Rattle.volume.specs.Names.{history, historyFrom}
+use Rattle.volume.specs.History.{history, historyFrom}
 use Rattle.page.specs.declared.Record.{Record}
 use Rattle.page.specs.Records.{recordBytes, allBytes}
 use Rattle.page.specs.Placing.{Placed, after, placing}

@@ -8,7 +8,7 @@ use lib.ListN.{length, take, drop}
 use lib.IntN.{ℤ, natAbs, _+ℤ_}
 use Rattle.refusals.specs.Numbers.{positionOutOfRange}
 use Rattle.refusals.specs.Answer.{Answer, refused, given, refusal}
-use Rattle.units.specs.Unit.{Accepted}
+use Rattle.units.specs.Steps.{Accepted}
 use Rattle.units.specs.Rounding.{roundedUp}
 use Rattle.widths.specs.LookUp.{LookUp}
 use Rattle.widths.specs.Table.{checkedTable}
@@ -23,7 +23,7 @@ use Rattle.volume.specs.Rules.{wrongAtDepth}
 use Rattle.volume.specs.declared.Volume.{Volume}
 use Rattle.volume.specs.declared.Scanned.the-variants as Scanned
 use Rattle.volume.specs.Judged.{judged}
-use Rattle.volume.specs.Names.{history}
+use Rattle.volume.specs.History.{history}
 use Rattle.volume.specs.Steps.{Tells, AllStanding, Lawfully, summaryOf, Kept}
 use Rattle.state.specs.declared.Level.{Level}
 use Rattle.state.specs.declared.Font.{Font}

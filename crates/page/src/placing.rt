@@ -15,7 +15,7 @@ use widths::table::Table;
 ghost use mathlib.Core.Path.{_≡_};
 ghost use lib.ListN.{length};
 ghost use Rattle.refusals.specs.Answer.{andThen};
-ghost use Rattle.volume.specs.Names.{history};
+ghost use Rattle.volume.specs.History.{history};
 ghost use Rattle.state.specs.Registers.{freshState};
 ghost use Rattle.page.specs.PageList.{pageOf};
 ghost use Rattle.page.specs.Placing.{placing};

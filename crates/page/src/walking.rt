@@ -8,7 +8,7 @@ use crate::steps;
 use state::Page;
 ghost use mathlib.Core.Path.{_≡_};
 ghost use lib.ListN.{length};
-ghost use Rattle.volume.specs.Names.{history};
+ghost use Rattle.volume.specs.History.{history};
 ghost use Rattle.state.specs.Registers.{freshState};
 ghost use Rattle.page.specs.PageList.{pageOf};
 ghost use Rattle.page.specs.Placing.{placing};

@@ -23,7 +23,7 @@ use Rattle.volume.specs.declared.Summary.{Summary}
 use Rattle.volume.specs.Past.{num, den, mag}
 use Rattle.volume.specs.Rules.{preambleWrong, misplaced, depthWrong, definitionWrong, fontMissing, pointerWrong, postambleWrong, fault}
 use Rattle.volume.specs.Judged.{judged}
-use Rattle.volume.specs.Names.{history}
+use Rattle.volume.specs.History.{history}
 use Rattle.volume.proofs.Refused.{ends-early, strange, breaks, other-byte, too-few, later, file-refuses}
 use Rattle.volume.proofs.Refused as check
 use Rattle.state.specs.Registers.{unselected, freshState}

@@ -8,7 +8,7 @@ use lib.Dec.{ltb}
 use lib.IntN.{ℤ, pos, natAbs, negℤ, _+ℤ_, _-ℤ_}
 use lib.Signed.{ltZ}
 use Rattle.numbers.proofs.Signed.{sum, diff, up-neg, dn-neg, abs-neg, abs-sum, same}
-use Rattle.units.specs.Unit.{Accepted}
+use Rattle.units.specs.Steps.{Accepted}
 use Rattle.units.specs.Rounding.{rounded}
 use Rattle.units.proofs.Rounding.{rounded-half}
 use Rattle.state.specs.declared.moving.Ruler.{Ruler}

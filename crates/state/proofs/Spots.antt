@@ -7,7 +7,7 @@ use lib.IntN.{ℤ, natAbs, _+ℤ_}
 use mir.Syntax.{w64}
 use mir.Val.{SFits, toZ, ofZ}
 use Rattle.numbers.proofs.Signed.{read, abs-sum, sum-fits}
-use Rattle.units.specs.Unit.{Accepted}
+use Rattle.units.specs.Steps.{Accepted}
 use Rattle.state.specs.declared.moving.Direction.{Direction}
 use Rattle.state.specs.declared.moving.Ruler.{Ruler}
 use Rattle.state.specs.declared.moving.Spot.{Spot}

@@ -3,7 +3,7 @@ use Prim.Native.Nat.{ℕ, zero, suc, _≤_, _^_}
 use mathlib.Core.List.{List, [], _∷_}
 use lib.ListN.{getD}
 use lib.IntN.{natAbs}
-use Rattle.units.specs.Unit.{Accepted}
+use Rattle.units.specs.Steps.{Accepted}
 use Rattle.state.specs.declared.Level.{Level}
 use Rattle.state.specs.declared.Page.{Page}
 use Rattle.state.specs.declared.moving.Ruler.{Ruler}

@@ -3,7 +3,7 @@ use units::Ratio;
 ghost use mathlib.Core.Path.{_≡_};
 ghost use Prim.Native.Nat.{_≤_, _^_};
 ghost use lib.IntN.{natAbs, _+ℤ_};
-ghost use Rattle.units.specs.Unit.{Accepted};
+ghost use Rattle.units.specs.Steps.{Accepted};
 ghost use Rattle.state.specs.Moving.{leaves, near, drifted, settled, moved};
 
 pub enum Direction {

@@ -11,7 +11,7 @@ use lib.Signed.{ltZ}
 use Rattle.numbers.specs.Signs.{withSign}
 use Rattle.numbers.proofs.Signed.{abs-sign, abs-neg}
 use Rattle.units.specs.declared.Ratio.{Ratio}
-use Rattle.units.specs.Unit.{Accepted}
+use Rattle.units.specs.Steps.{Accepted}
 use Rattle.units.specs.Rounding.{nearestWhole, rounded, roundedUp}
 
 module _ {k : Ratio} (a : Accepted k) (m : ℕ) where

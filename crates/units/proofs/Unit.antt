@@ -11,7 +11,8 @@ use Rattle.refusals.specs.Answer.{given}
 use Rattle.refusals.proofs.Answer.{given-next, given-same}
 use Rattle.units.specs.declared.Ratio.{Ratio}
 use Rattle.units.specs.Divisor.{lowest}
-use Rattle.units.specs.Unit.{Units, Accepted, ratioOf, outOfRange, resolutionOutside, inRange, unitOf}
+use Rattle.units.specs.Unit.{ratioOf, outOfRange, resolutionOutside, inRange, unitOf}
+use Rattle.units.specs.Steps.{Units, Accepted}
 use Rattle.units.proofs.Cancelling.{cut, num-some, den-small}
 
 neither : (a b : Bool) → (a || b) ≡ false → (a ≡ false) × (b ≡ false)

@@ -2,4 +2,4 @@ pub mod Divisor
 pub mod Unit
 pub mod Rounding
 pub mod Starred
-pub mod Cancelling
+pub mod Steps

@@ -1,12 +1,10 @@
 -- "Registers and pixels": what a pixel is, from the file's units and the resolution. Assumes nothing.
-use Prim.Native.Nat.{ℕ, _*_, _≤_, _<_, _^_}
+use Prim.Native.Nat.{ℕ, _*_}
 use mathlib.Core.Bool.{Bool, _&&_, _||_, not, cond}
 use lib.Dec.{ltb, leb}
 use Rattle.refusals.specs.Numbers.{wrongResolution, unitOutOfRange}
-use Rattle.refusals.specs.Answer.{Answer, given, refusal, refuseIf}
+use Rattle.refusals.specs.Answer.{Answer, given, refuseIf}
 use Rattle.units.specs.declared.Ratio.{Ratio}
-use Rattle.units.specs.declared.UnitFound.{UnitFound}
-use Rattle.units.specs.declared.UnitFound.the-variants as Found
 use Rattle.units.specs.Divisor.{lowest}
 
 -- "K = num × mag × R / (den × 1000 × 254000), R in dots per inch. Let P/Q be K in lowest terms"
@@ -30,27 +28,6 @@ abbrev pub unitOf : ℕ → ℕ → ℕ → ℕ → Answer Ratio
 unitOf num den mag resolution =
     refuseIf (resolutionOutside resolution) wrongResolution 0 (inRange (ratioOf num den mag resolution))
 
--- what the code's answer says
-abbrev pub unitAnswer : UnitFound → Answer Ratio
-unitAnswer (Found.Is k) = given k
-unitAnswer (Found.Refused r) = refusal r
-
 -- "D is 2 for R ≥ 200, 1 for 100 to 199, 0 below"
 abbrev pub drift : ℕ → ℕ
 drift resolution = cond (leb 200 resolution) 2 (cond (leb 100 resolution) 1 0)
-
--- num, den and mag of a preamble that was accepted
-pub record Units (num den mag : ℕ) : Type 0 where
-  pub num-positive : 0 < num
-  pub num-below : num < 2 ^ 31
-  pub den-positive : 0 < den
-  pub den-below : den < 2 ^ 31
-  pub mag-positive : 0 < mag
-  pub mag-below : mag < 2 ^ 31
-
--- K that was accepted: above 0 and at most 1/2, with room for a product with 32 bits
-pub record Accepted (k : Ratio) : Type 0 where
-  pub positive : 0 < k .p
-  pub small : k .p ≤ 1073741823
-  pub half : 2 * k .p ≤ k .q
-  pub room : k .q < 2 ^ 60

@@ -4,9 +4,9 @@ ghost use mathlib.Core.Path.{_≡_};
 ghost use Prim.Native.Nat.{_<_, _≤_, _^_};
 ghost use lib.IntN.{natAbs};
 ghost use Rattle.units.specs.Divisor.{commonDivisor, lowest};
-ghost use Rattle.units.specs.Unit.{Units, Accepted, unitAnswer, inRange, unitOf, drift};
+ghost use Rattle.units.specs.Unit.{inRange, unitOf, drift};
 ghost use Rattle.units.specs.Rounding.{nearestWhole, rounded, roundedUp};
-ghost use Rattle.units.specs.Cancelling.{product, Cancelled};
+ghost use Rattle.units.specs.Steps.{product, Cancelled, Units, Accepted, unitAnswer};
 
 // P/Q
 pub struct Ratio {

@@ -21,7 +21,7 @@ use Rattle.volume.specs.declared.Volume.{Volume}
 use Rattle.volume.specs.Past.{isA, place, stage, selected, fontNumber}
 use Rattle.volume.specs.Rules.{lawfulFont, lawfulDefinition, fontLeftOut, fault}
 use Rattle.volume.specs.Judged.{summary, tail, judgedFrom, judged}
-use Rattle.volume.specs.Names.{historyFrom, history}
+use Rattle.volume.specs.History.{historyFrom, history}
 use Rattle.volume.specs.Steps.{stateOf, afterOf, tableAfter, Tells, Agrees, Going, isPlain, Passes, none-more, one-more}
 use Rattle.volume.proofs.FaultLaws.{all-kept}
 use Rattle.volume.proofs.Turns.{judged-cut, judged-undefined, judged-faulty, judged-last, judged-onward, history-last, history-onward}

@@ -11,7 +11,7 @@ use Rattle.commands.proofs.Fronts.{front-written}
 use Rattle.volume.specs.declared.Summary.{Summary}
 use Rattle.volume.specs.Lawful.{fillers, Follows, ends, goes, Lawful}
 use Rattle.volume.specs.Judged.{summary, judged}
-use Rattle.volume.specs.Names.{historyFrom, history}
+use Rattle.volume.specs.History.{historyFrom, history}
 use Rattle.volume.proofs.Turns.{history-start, history-last, history-onward}
 use Rattle.volume.proofs.Accepts.{upToLast, counts, accepts-lawful, lawful-counts}
 

@@ -20,7 +20,7 @@ use Rattle.volume.specs.declared.Scanned.the-variants as Scanned
 use Rattle.volume.specs.Past.{isA, place}
 use Rattle.volume.specs.Rules.{fault}
 use Rattle.volume.specs.Judged.{tail, judged}
-use Rattle.volume.specs.Names.{history}
+use Rattle.volume.specs.History.{history}
 use Rattle.volume.specs.Steps.{stateOf, afterOf, tableAfter, Tells, AllStanding, Lawfully, Agrees, Going, WithRoom, LawfullyNumbered, FaultIs, summaryOf, Kept, Same}
 use Rattle.volume.proofs.Bounds.{depth-small, pages-small, fonts-small, post-small}
 use Rattle.volume.proofs.Going.{lawful-number, at-is, turn-faulty, turn-last, told-last, agrees-after, turn-onward}

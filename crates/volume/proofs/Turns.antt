@@ -15,7 +15,7 @@ use Rattle.volume.specs.declared.Summary.{Summary}
 use Rattle.volume.specs.Past.{isA, place}
 use Rattle.volume.specs.Rules.{fault}
 use Rattle.volume.specs.Judged.{summary, tail, onFault, judgedFrom, judged}
-use Rattle.volume.specs.Names.{historyFrom, history}
+use Rattle.volume.specs.History.{historyFrom, history}
 
 fault-refuses : (at : ℕ) {found : ℕ} (number : ℕ) (next : Unit {0} → Answer Summary) → found ≡ number → (number ≡ 0 → ⊥)
     → onFault at found next ≡ refused number at

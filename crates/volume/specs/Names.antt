@@ -1,38 +1,17 @@
 -- "The name is given back as the part of the caller's file that holds it, area first, not as a copy; of a font's two definitions the one before post
 -- is meant." Assumes nothing.
-use Prim.Native.Nat.{ℕ, zero, suc, _+_, _-_}
-use mathlib.Core.Bool.{Bool, true, false}
-use mathlib.Core.List.{List, [], _∷_}
+use Prim.Native.Nat.{ℕ, _+_, _-_}
+use mathlib.Core.Bool.{false}
+use mathlib.Core.List.{List, []}
 use lib.ListN.{length, take, drop}
 use lib.IntN.{ℤ}
 use Rattle.refusals.specs.Numbers.{noFont}
 use Rattle.refusals.specs.Answer.{Answer, refused, given, andThen}
-use Rattle.commands.specs.declared.Kind.the-variants.{PostPost}
-use Rattle.commands.specs.Commands.{Command, Front, cut, undefined, whole, front}
+use Rattle.commands.specs.Commands.{Command}
 use Rattle.volume.specs.declared.Part.{Part}
-use Rattle.volume.specs.Past.{isA, place, Definition, none, stands, definitionOf}
+use Rattle.volume.specs.Past.{Definition, none, stands, definitionOf}
+use Rattle.volume.specs.History.{history}
 use Rattle.volume.specs.Judged.{judged}
-
--- the commands of a file up to post_post, the newest first
-abbrev pub onNext : List Command → Front → (Command → List ℕ → List Command) → List Command
-onNext past cut next = past
-onNext past undefined next = past
-onNext past (whole c rest) next = next c rest
-
--- post_post is the last
-abbrev pub onLast : Bool → List Command → (Unit {0} → List Command) → List Command
-onLast true past next = past
-onLast false past next = next tt
-
--- from the commands before on, in at most so many commands
-unfoldable pub historyFrom : ℕ → List Command → List ℕ → List Command
-historyFrom zero past bytes = past
-historyFrom (suc left) past bytes =
-    onNext past (front bytes) (λ c rest. onLast (isA PostPost c) (c ∷ past) (λ _. historyFrom left (c ∷ past) rest))
-
--- of a whole file
-unfoldable pub history : List ℕ → List Command
-history file = historyFrom (suc (length file)) [] file
 
 -- the part of a definition that holds the name: after c[4] s[4] d[4] a[1] l[1], to the command's end
 abbrev pub namePart : ℕ → Command → Part

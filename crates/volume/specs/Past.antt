@@ -3,7 +3,6 @@
 use Prim.Native.Nat.{ℕ, _+_, _-_, max}
 use mathlib.Core.Bool.{Bool, true, false, cond, not, _&&_}
 use mathlib.Core.List.{List, [], _∷_}
-use lib.Dec.{eqb}
 use lib.ListN.{length}
 use lib.IntN.{ℤ, pos, negsuc}
 use Rattle.numbers.specs.Signs.{sameNumber}
@@ -75,11 +74,6 @@ pages (c ∷ past) = cond (isA Bop c) (pages past + 1) (pages past)
 abbrev pub lastBop : List Command → ℤ
 lastBop [] = negsuc 0
 lastBop (c ∷ past) = cond (isA Bop c) (pos (place past)) (lastBop past)
-
--- the place of the bop of a page, counted from 1; 0 where there is none
-abbrev pub bopOf : ℕ → List Command → ℕ
-bopOf page [] = 0
-bopOf page (c ∷ past) = cond (isA Bop c && eqb (pages past + 1) page) (place past) (bopOf page past)
 
 -- the place of post
 abbrev pub postPlace : List Command → ℕ

@@ -2,7 +2,7 @@
 use Prim.Native.Nat.{ℕ, _+_, _-_, _<_, _≤_, max}
 use mathlib.Core.Path.{_≡_}
 use mathlib.Core.Bool.{Bool, true, false, cond, not, _&&_, _||_}
-use mathlib.Core.List.{List}
+use mathlib.Core.List.{List, [], _∷_}
 use lib.Dec.{ltb, leb, eqb}
 use lib.ListN.{length, getD, drop, set}
 use lib.IntN.{ℤ, pos, natAbs}
@@ -27,16 +27,22 @@ use Rattle.volume.specs.declared.Named.{Named}
 use Rattle.volume.specs.declared.Named.the-variants as Named
 use Rattle.volume.specs.declared.Checked.{Checked}
 use Rattle.volume.specs.declared.Checked.the-variants as Checked
-use Rattle.volume.specs.Past.{place, stage, stageAfter, depth, depthAfter, greatest, pages, lastBop, bopOf, postPlace, num, den, mag, selected, defines, body, Definition, none, stands, definitionOf, isDefined, fontCount}
+use Rattle.volume.specs.Past.{isA, place, stage, stageAfter, depth, depthAfter, greatest, pages, lastBop, postPlace, num, den, mag, selected, defines, body, Definition, none, stands, definitionOf, isDefined, fontCount}
 use Rattle.volume.specs.Rules.{lawfulPreamble, mayStand, wrongAtDepth, lawfulFont, sameBytes, lawfulDefinition, lawfulPostamble, fault}
 use Rattle.volume.specs.Judged.{judged, judgedFrom}
-use Rattle.volume.specs.Names.{history, historyFrom, namedBy}
+use Rattle.volume.specs.History.{history, historyFrom}
+use Rattle.volume.specs.Names.{namedBy}
 
 -- a command of an opcode and its parameters
 abbrev pub command : ℕ → List ℕ → Command
 command opcode params = record { opcode = opcode; params = params }
 
 -- ---- the state that stands for the commands so far, while the bop of one page is wanted
+
+-- the place of the bop of a page, counted from 1; 0 where there is none
+abbrev pub bopOf : ℕ → List Command → ℕ
+bopOf page [] = 0
+bopOf page (c ∷ past) = cond (isA Bop c && eqb (pages past + 1) page) (place past) (bopOf page past)
 
 -- all that the code holds of them
 abbrev pub stateOf : ℕ → List Command → Volume

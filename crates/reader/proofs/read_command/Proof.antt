@@ -7,7 +7,8 @@ use lib.ListN.{length}
 use denote.Ref.{now}
 use Rattle.refusals.specs.Numbers.{fileTooLong}
 use Rattle.refusals.specs.Answer.{refuseIf}
-use Rattle.commands.specs.Reading.{readAnswer, readAt, longestFile, commandRead}
+use Rattle.commands.specs.Reading.{readAt, longestFile, commandRead}
+use Rattle.commands.specs.Steps.{readAnswer}
 use Rattle.reader.proofs.read_command.Statement.{statement}
 use Rattle.reader.proofs.read_command.Tie as tie
 

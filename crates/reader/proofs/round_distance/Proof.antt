@@ -14,7 +14,8 @@ use mir.Facts.{toZ-ofZ}
 use Rattle.refusals.specs.Answer.{Answer, given, andThen}
 use Rattle.numbers.proofs.Signed.{le-yes, no-lt, yes-lt}
 use Rattle.units.specs.declared.Ratio.{Ratio}
-use Rattle.units.specs.Unit.{Units, unitOf, unitAnswer}
+use Rattle.units.specs.Unit.{unitOf}
+use Rattle.units.specs.Steps.{Units, unitAnswer}
 use Rattle.units.specs.Rounding.{rounded, roundedDistance}
 use Rattle.units.proofs.Unit.{accepted}
 use Rattle.reader.proofs.Words.{small, cast-fits, cast-is}

@@ -9,12 +9,13 @@ use Rattle.refusals.specs.Numbers.{noSuchPage}
 use Rattle.refusals.specs.Answer.{Answer, refused, given, andThen}
 use Rattle.units.specs.declared.Ratio.{Ratio}
 use Rattle.units.specs.declared.UnitFound.{UnitFound}
-use Rattle.units.specs.Unit.{unitAnswer, unitOf, drift}
+use Rattle.units.specs.Unit.{unitOf, drift}
+use Rattle.units.specs.Steps.{unitAnswer}
 use Rattle.widths.specs.declared.table.Table.{Table}
 use Rattle.widths.specs.Table.{checkedTable}
 use Rattle.widths.specs.Steps.{tableSays}
 use Rattle.volume.specs.Past.{num, den, mag}
-use Rattle.volume.specs.Names.{history}
+use Rattle.volume.specs.History.{history}
 use Rattle.state.specs.Registers.{freshState}
 use Rattle.page.specs.PageList.{pageOf}
 use Rattle.page.specs.Placing.{Placed, placing}

@@ -7,7 +7,7 @@ use borrow.Author.Needs.{needs}
 use lib.ListN.{length}
 use denote.Ref.{now}
 use Rattle.refusals.specs.Answer.{Answer}
-use Rattle.volume.specs.Names.{history}
+use Rattle.volume.specs.History.{history}
 use Rattle.state.specs.Registers.{freshState}
 use Rattle.page.specs.declared.Counts.{Counts}
 use Rattle.page.specs.declared.Walked.{Walked}

@@ -21,7 +21,7 @@ use Rattle.commands.specs.Commands.{Command, kindOfCommand}
 use Rattle.commands.specs.Parameters.{characterCode, selectedFont}
 use Rattle.commands.proofs.Opcodes.{first, last, kind-range}
 use Rattle.commands.proofs.Lengths.{fixedBy, hasInner, whole-at-most, whole-plain}
-use Rattle.volume.specs.Names.{history}
+use Rattle.volume.specs.History.{history}
 use Rattle.volume.proofs.Arms.{kind-arm, kind-others, is-kind}
 use Rattle.state.specs.declared.Font.{Font}
 use Rattle.state.specs.Registers.{State}

@@ -7,9 +7,10 @@ use lib.ListN.{length, drop}
 use denote.Ref.{now}
 use Rattle.refusals.proofs.Answer.{given-not-refused}
 use Rattle.commands.specs.Commands.{Command, whole}
-use Rattle.commands.specs.Reading.{readAnswer, reading}
+use Rattle.commands.specs.Reading.{reading}
+use Rattle.commands.specs.Steps.{readAnswer}
 use Rattle.commands.proofs.Readings.{commandAt, Reads, given-reads}
-use Rattle.volume.specs.Names.{history}
+use Rattle.volume.specs.History.{history}
 use Rattle.page.specs.Steps.{settingBy, CommandAsks}
 use Rattle.page.proofs.steps.step_at.Statement.{statement}
 use Rattle.page.proofs.steps.step_at.Tie as tie

@@ -11,7 +11,8 @@ use Rattle.refusals.specs.Answer.{Answer, andThen}
 use Rattle.volume.specs.declared.Part.{Part}
 use Rattle.volume.specs.declared.Summary.{Summary}
 use Rattle.volume.specs.Past.{definitionOf}
-use Rattle.volume.specs.Names.{history, namedBy}
+use Rattle.volume.specs.Names.{namedBy}
+use Rattle.volume.specs.History.{history}
 use Rattle.volume.specs.Steps.{scanAnswer, Kept}
 use Rattle.volume.proofs.names.name_place.Statement.{statement}
 use Rattle.volume.proofs.names.name_place.Tie as tie

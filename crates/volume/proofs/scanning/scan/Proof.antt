@@ -11,7 +11,7 @@ use denote.Ref.{now}
 use Rattle.commands.specs.declared.Kind.{Kind}
 use Rattle.commands.specs.declared.Kind.the-variants.{PostPost}
 use Rattle.commands.specs.Kinds.{is}
-use Rattle.commands.specs.Reading.{readAnswer}
+use Rattle.commands.specs.Steps.{readAnswer}
 use Rattle.commands.proofs.Readings.{Reads, given-reads}
 use Rattle.volume.specs.declared.Volume.{Volume}
 use Rattle.volume.specs.Judged.{judged}
