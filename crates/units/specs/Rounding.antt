@@ -1,4 +1,4 @@
--- "Rounding n". Assumes nothing.
+-- Distances in pixels: rounded to the nearest, and rounded up. Assumes nothing.
 use Prim.Native.Nat.{ℕ, suc, _+_, _*_, _-_, _/_}
 use mathlib.Core.Bool.{Bool, _&&_, not}
 use lib.IntN.{ℤ, pos, negsuc, negℤ, natAbs}
@@ -9,15 +9,15 @@ use Rattle.numbers.specs.Signs.{withSign}
 use Rattle.units.specs.declared.Ratio.{Ratio}
 use Rattle.units.specs.Unit.{unitOf}
 
--- "the whole part of |K × n| + 1/2", for |n| = m
+-- K × m and a half, cut to a whole number (rule 5.5)
 unfoldable pub nearestWhole : Ratio → ℕ → ℕ
 nearestWhole k m = (2 * k .p * m + k .q) / (2 * k .q)
 
--- "the sign of n times the whole part of |K × n| + 1/2"
+-- n in pixels, to the nearest; a half goes away from 0 (rule 5.5)
 abbrev pub rounded : Ratio → ℤ → ℤ
 rounded k n = withSign n (nearestWhole k (natAbs n))
 
--- "K × n rounded up", towards plus infinity for both signs of n
+-- the least whole number that is not below K × n (rule 5.6)
 abbrev pub roundedUp : Ratio → ℤ → ℤ
 roundedUp k (pos m) = pos ((k .p * m + (k .q - 1)) / k .q)
 roundedUp k (negsuc m) = negℤ (pos (k .p * suc m / k .q))
@@ -26,7 +26,7 @@ roundedUp k (negsuc m) = negℤ (pos (k .p * suc m / k .q))
 abbrev pub positive : ℤ → Bool
 positive z = ltZ (pos 0) z
 
--- "rounding takes num, den, mag, R and any signed 32-bit distance and gives 4 (one of the three units not positive), 12, 13 in that order, place 0"
+-- what round_distance answers (rule 9.5)
 abbrev pub roundedDistance : ℤ → ℤ → ℤ → ℕ → ℤ → Answer ℤ
 roundedDistance num den mag resolution n =
     refuseIf (not (positive num && positive den && positive mag)) wrongPreamble 0

@@ -1,4 +1,4 @@
--- The starred examples of document 01 on units and rounding, as entries of lists. Assumes nothing.
+-- The starred examples on units and rounding, as entries of lists: what document 01 asks to be proved. Assumes nothing.
 use Prim.Native.Nat.{ℕ}
 use mathlib.Core.Path.{_≡_, refl}
 use mathlib.Core.List.{List, [], _∷_, map}
@@ -10,7 +10,7 @@ use Rattle.units.specs.Divisor.{divisorWithin, commonDivisor, lowest}
 use Rattle.units.specs.Unit.{unitOf}
 use Rattle.units.specs.Rounding.{nearestWhole, rounded}
 
--- num, den, mag and R, and the P/Q or the refusal that document 01 prints
+-- num, den, mag and R, and what K must be, or the refusal
 pub record UnitExample : Type 0 where
   pub num : ℕ
   pub den : ℕ
@@ -18,17 +18,17 @@ pub record UnitExample : Type 0 where
   pub resolution : ℕ
   pub printed : Answer Ratio
 
--- K and a distance, and the rounded distance that document 01 prints
+-- K and a distance, and the rounded distance that it must give
 pub record RoundingExample : Type 0 where
   pub ratio : Ratio
   pub distance : ℤ
   pub printed : ℤ
 
--- "K is 1/2"
+-- K = 1/2
 abbrev pub half : Ratio
 half = record { p = 1; q = 2 }
 
--- "M's units, R 500: K is 1/2, accepted; *R 501: 13"; "*TeX's num 25,400,000, den 473,628,672, mag 1000, R 300: P/Q is 625/9,867,264"
+-- the units of the smallest file at 500, where K is just a half, and at 501, where it is above; TeX's own units at 300
 abbrev pub unitExamples : List UnitExample
 unitExamples =
     record { num = 254; den = 1; mag = 1000; resolution = 500; printed = given half }
@@ -36,7 +36,7 @@ unitExamples =
     ∷ record { num = 25400000; den = 473628672; mag = 1000; resolution = 300; printed = given (record { p = 625; q = 9867264 }) }
     ∷ []
 
--- "At 1/2, *1, −1, 3, −3 round to 1, −1, 2, −2"
+-- halves of either sign at K = 1/2
 abbrev pub roundingExamples : List RoundingExample
 roundingExamples =
     record { ratio = half; distance = pos 1; printed = pos 1 }
@@ -53,7 +53,7 @@ unitFound e = unitOf (e .num) (e .den) (e .mag) (e .resolution)
 abbrev pub roundingFound : RoundingExample → ℤ
 roundingFound e = rounded (e .ratio) (e .distance)
 
--- the definitions give what is printed
+-- the definitions give what they must
 pub units-hold : map unitFound unitExamples ≡ map (λ e. e .printed) unitExamples
 unfolding divisorWithin commonDivisor lowest
 units-hold = refl

@@ -1,4 +1,4 @@
--- The starred examples of document 01 on widths, as entries of a list. Assumes nothing.
+-- The starred examples on widths, as entries of a list. Assumes nothing.
 use Prim.Native.Nat.{ℕ}
 use mathlib.Core.Path.{_≡_, refl}
 use mathlib.Core.List.{List, [], _∷_, map}
@@ -7,13 +7,13 @@ use Rattle.refusals.specs.Answer.{Answer, given}
 use Rattle.widths.specs.declared.FixWord.{FixWord}
 use Rattle.widths.specs.Scaling.{fixWord, halving, scaledWidth}
 
--- a fix word and a scale, and the width that document 01 prints
+-- a fix word and a scale, and the width that they must give
 pub record WidthExample : Type 0 where
   pub width : FixWord
   pub scale : ℕ
   pub printed : Answer ℤ
 
--- "*Width 0,9,199,28 at s 655,360: 400,497. *255,255,255,255 at 100: −1. *0,16,0,0 at 8,388,609: 8,388,608."
+-- a width of ordinary text; the least negative word; the word of 1 at a scale whose halving loses a bit
 abbrev pub widthExamples : List WidthExample
 widthExamples =
     record { width = fixWord 0 9 199 28; scale = 655360; printed = given (pos 400497) }
@@ -25,7 +25,7 @@ widthExamples =
 abbrev pub widthFound : WidthExample → Answer ℤ
 widthFound e = scaledWidth (e .scale) (e .width)
 
--- the definitions give what is printed
+-- the definitions give what they must
 pub widths-hold : map widthFound widthExamples ≡ map (λ e. e .printed) widthExamples
 unfolding halving
 widths-hold = refl
