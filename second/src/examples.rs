@@ -1,4 +1,4 @@
-//! The examples of "Examples to hold it to", and cases beside them.
+//! The worked examples of document 01, and cases beside them.
 
 use crate::check::check;
 use crate::fonts::name_of_font;
@@ -119,9 +119,9 @@ fn tabled(table: &[u8]) -> String {
     }
 }
 
-// ---- the examples of the document ----
+// ---- document 01's examples ----
 
-// "M is: [...]; 100 bytes."
+// M, the least file there is: one page with nothing on it.
 #[test]
 fn m_itself() {
     let file = m();
@@ -130,14 +130,14 @@ fn m_itself() {
     assert_eq!(file[96..], [223; 4]);
 }
 
-// "*M: 1 page, 0 fonts, depth 0, post 61. With five 223s: accepted."
+// M is right, and stays so with more padding.
 #[test]
 fn m_accepted() {
     assert_eq!(checked(&m()), "1 0 0 61");
     assert_eq!(checked(&[m(), vec![223]].concat()), "1 0 0 61");
 }
 
-// "*M less its last byte: 11 at 99. *First 95 bytes: 2 at 90. *Empty: 2 at 0."
+// M cut inside its padding, inside its last command, and down to nothing.
 #[test]
 fn m_cut() {
     assert_eq!(checked(&m()[..99]), "refused 11 at 99");
@@ -145,8 +145,8 @@ fn m_cut() {
     assert_eq!(checked(&[]), "refused 2 at 0");
 }
 
-// "*Byte 60 made 142: 6 at 60. t made 2: 10 at 61. q made 60: 9 at 90. *bop* pointing to 0:
-// 9 at 15."
+// M with a pop for its eop, a page too many in its count, and a wrong pointer at the end and at
+// the page.
 #[test]
 fn m_changed() {
     assert_eq!(checked(&changed(m(), 60, 142)), "refused 6 at 60");
@@ -157,7 +157,7 @@ fn m_changed() {
     assert_eq!(checked(&file), "refused 9 at 15");
 }
 
-// "*pre* then a whole *post*: 5 at 15. Identification 3 in *pre*: 4 at 0."
+// No page at all; another format.
 #[test]
 fn post_without_a_page_and_identification() {
     assert_eq!(checked(&[&m()[..15], &m()[61..90]].concat()), "refused 5 at 15");
@@ -165,8 +165,7 @@ fn post_without_a_page_and_identification() {
     assert_eq!(checked(&changed(m(), 1, 3)), "refused 4 at 0");
 }
 
-// "*M's units, R 500: K is 1/2, accepted; *R 501: 13. At 1/2, *1, -1, 3, -3 round to 1, -1,
-// 2, -2."
+// The greatest K that is allowed, the first that is not, and halves rounded away from zero.
 #[test]
 fn one_half() {
     assert_eq!(Unit::new(254, 1, 1000, 500).unwrap(), Unit { p: 1, q: 2 });
@@ -178,15 +177,14 @@ fn one_half() {
     assert_eq!(placed(&m(), &[], 501, 1, 0), ["refused 13 at 0"]);
 }
 
-// "*TeX's num 25,400,000, den 473,628,672, mag 1000, R 300: P/Q is 625/9,867,264."
+// The units that TeX writes.
 #[test]
 fn tex_units() {
     let unit = Unit::new(25_400_000, 473_628_672, 1000, 300).unwrap();
     assert_eq!(unit, Unit { p: 625, q: 9_867_264 });
 }
 
-// "K 3/10, D 2, s 100: [...]": the moves themselves are tried beside them, in placing; here
-// the same through a whole file.
+// Moves that make the pixel drift, on a page; `placing` tries the moves by themselves.
 #[test]
 fn six_moves_in_a_file() {
     for (step, hh) in [(5u8, 11), (251, -11)] {
@@ -202,8 +200,8 @@ fn six_moves_in_a_file() {
     }
 }
 
-// "*Width 0,9,199,28 at s 655,360: 400,497. *255,255,255,255 at 100: -1. *0,16,0,0 at
-// 8,388,609: 8,388,608."
+// A usual width, the negative one nearest to zero, and one that a single division would give a
+// unit too much.
 #[test]
 fn widths() {
     assert_eq!(scale_width(655_360, [0, 9, 199, 28]), Ok(400_497));
@@ -239,8 +237,7 @@ fn printed_example() -> Vec<u8> {
     Parts { pages: vec![page], ..parts() }.build()
 }
 
-// "M with six *right1* 5, *set_rule* 4 7, *put_rule* 1 1 put before *eop* (pointers mended),
-// empty table, R 300, page 1, prints in whole:"
+// The one answer that document 01 prints line by line.
 #[test]
 fn the_printed_example() {
     let file = written("printed.dvi", &printed_example());
@@ -293,7 +290,7 @@ fn order_at_one_command() {
     for at in [69, 73, 77, 87] {
         assert_eq!(checked(&changed(m(), at, 77)), "refused 10 at 61");
     }
-    // l, u and the ten counts are free.
+    // What no rule looks at: l, u and the counts in bop.
     for at in (16..56).chain(78..86) {
         assert_eq!(checked(&changed(m(), at, 77)), "1 0 0 61");
     }
@@ -556,7 +553,7 @@ fn registers_and_stack_placed() {
     assert_eq!(placed(&file, &[], 300, 1, 0), ["end 0 0 0"]);
 }
 
-// "*push* saves all eight numbers. [...] The font is not saved."
+// A pop gives the pixels back as they were, but leaves the font selected meanwhile.
 #[test]
 fn the_pixel_pair_is_saved() {
     let mut page = vec![174];

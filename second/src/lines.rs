@@ -92,7 +92,7 @@ fn asked(line: &[u8], limits: Limits) -> Result<Result<String, Refusal>, NoInput
             let (file, widths) = (dvi(file)?, table(widths)?);
             Ok(place(&file, &widths, resolution, page, area).map(|placed| {
                 let mut lines: Vec<String> = placed.records.iter().map(record_line).collect();
-                // "then `end` with records, missing, specials"
+                // The counts come last.
                 let records = placed.records.len();
                 lines.push(format!("end {records} {} {}", placed.missing, placed.specials));
                 lines.join("\n")

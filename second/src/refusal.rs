@@ -1,4 +1,4 @@
-//! "A refusal is a number and a place."
+//! Why an input is turned down: which of the numbered reasons, and at which byte.
 
 #[derive(Debug, Clone, Copy, PartialEq, Eq)]
 pub struct Refusal {
