@@ -176,9 +176,7 @@ impl Passed<'_> {
     fn refused_7(&self, says: &Meaning) -> bool {
         match says {
             Meaning::DefineFont(font) if self.post.is_none() => {
-                !font.in_range()
-                    || self.fonts.len() >= MOST_FONTS
-                    || find(&self.fonts, font.number).is_some()
+                !font.in_range() || self.fonts.len() >= MOST_FONTS || find(&self.fonts, font.number).is_some()
             }
             Meaning::DefineFont(font) => {
                 // It has to repeat an earlier definition that was not repeated yet.
@@ -187,10 +185,9 @@ impl Passed<'_> {
                 !equal || find(&self.repeated, font.number).is_some()
             }
             // No definition can follow, so what is still unrepeated stays so.
-            Meaning::PostPost { .. } => self
-                .fonts
-                .iter()
-                .any(|font| find(&self.repeated, font.number).is_none()),
+            Meaning::PostPost { .. } => {
+                self.fonts.iter().any(|font| find(&self.repeated, font.number).is_none())
+            }
             _ => false,
         }
     }

@@ -84,22 +84,26 @@ pub fn read_command(file: &[u8], at: u64) -> Result<Command, Refusal> {
     if added > (left - fixed) as u64 {
         return Err(refusal(2, at));
     }
-    Ok(Command {
-        opcode,
-        at,
-        before,
-        after: before + fixed + added as usize,
-    })
+    Ok(Command { opcode, at, before, after: before + fixed + added as usize })
 }
 
 /// What a command says, its parameters read.
 #[derive(Debug, Clone, PartialEq, Eq)]
 pub enum Meaning {
     /// `moves` is true of the *set* forms, false of the *put* forms.
-    Character { code: i32, moves: bool },
-    Rule { height: i32, width: i32, moves: bool },
+    Character {
+        code: i32,
+        moves: bool,
+    },
+    Rule {
+        height: i32,
+        width: i32,
+        moves: bool,
+    },
     Nop,
-    BeginPage { pointer: i32 },
+    BeginPage {
+        pointer: i32,
+    },
     EndPage,
     Push,
     Pop,
@@ -113,9 +117,24 @@ pub enum Meaning {
     SelectFont(i32),
     Special,
     DefineFont(FontDefinition),
-    Pre { identification: u8, num: i32, den: i32, mag: i32 },
-    Post { pointer: i32, num: i32, den: i32, mag: i32, depth: u32, pages: u32 },
-    PostPost { pointer: i32, identification: u8 },
+    Pre {
+        identification: u8,
+        num: i32,
+        den: i32,
+        mag: i32,
+    },
+    Post {
+        pointer: i32,
+        num: i32,
+        den: i32,
+        mag: i32,
+        depth: u32,
+        pages: u32,
+    },
+    PostPost {
+        pointer: i32,
+        identification: u8,
+    },
 }
 
 /// The meaning of a command that `read_command` gave for this file.
@@ -144,11 +163,9 @@ pub fn meaning(file: &[u8], command: &Command) -> Meaning {
         number @ 171..=234 => Meaning::SelectFont(i32::from(number) - 171),
         235..=238 => Meaning::SelectFont(signed_if_four(p)),
         239..=242 => Meaning::Special,
-        243..=246 => Meaning::DefineFont(FontDefinition::read(
-            p,
-            usize::from(command.opcode) - 242,
-            command.before,
-        )),
+        243..=246 => {
+            Meaning::DefineFont(FontDefinition::read(p, usize::from(command.opcode) - 242, command.before))
+        }
         247 => Meaning::Pre {
             identification: p[0],
             num: signed(&p[1..5]),
@@ -174,9 +191,7 @@ mod tests {
     use super::*;
 
     fn read(file: &[u8], at: u64) -> Result<(u8, usize, usize), (u8, u64)> {
-        read_command(file, at)
-            .map(|c| (c.opcode, c.before, c.after))
-            .map_err(|r| (r.number, r.place))
+        read_command(file, at).map(|c| (c.opcode, c.before, c.after)).map_err(|r| (r.number, r.place))
     }
 
     #[test]

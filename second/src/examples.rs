@@ -27,9 +27,9 @@ fn font(bytes: u8, number: i64, check_sum: u32, s: i64, d: i64, area: &str, name
 }
 
 struct Parts {
-    first: Vec<u8>,          // between pre and the first bop
-    pages: Vec<Vec<u8>>,     // the insides of the pages
-    last: Vec<u8>,           // between post and post_post
+    first: Vec<u8>,      // between pre and the first bop
+    pages: Vec<Vec<u8>>, // the insides of the pages
+    last: Vec<u8>,       // between post and post_post
     units: [i64; 3],
     depth: u16,
 }
@@ -382,7 +382,8 @@ fn font_rules() {
     assert_eq!(given(many(64), back), format!("1 64 0 {}", 61 + 64 * 19));
     assert_eq!(given(many(65), many(65)), format!("refused 7 at {}", 15 + 64 * 19));
     // Between pages and inside a page, nop too.
-    let inside = Parts { pages: vec![[vec![138], n(1, 3), vec![174, 65]].concat(), vec![]], last: n(2, 3), ..parts() };
+    let inside =
+        Parts { pages: vec![[vec![138], n(1, 3), vec![174, 65]].concat(), vec![]], last: n(2, 3), ..parts() };
     assert_eq!(checked(&inside.build()), "2 1 0 129");
 }
 
@@ -405,17 +406,16 @@ fn selection_and_characters() {
         ..parts()
     };
     assert_eq!(checked(&late.build()), "refused 8 at 60");
-    let before = Parts {
-        pages: vec![vec![235, 200, 65], vec![65]],
-        ..Parts::with_font(definition.clone(), vec![])
-    };
+    let before =
+        Parts { pages: vec![vec![235, 200, 65], vec![65]], ..Parts::with_font(definition.clone(), vec![]) };
     assert_eq!(checked(&before.build()), "refused 8 at 125");
 }
 
 #[test]
 fn names() {
     let first = font(2, 5, 9, 100, 100, "area:", "name");
-    let file = Parts { last: font(1, 5, 9, 100, 100, "area:", "name"), ..Parts::with_font(first, vec![]) }.build();
+    let file =
+        Parts { last: font(1, 5, 9, 100, 100, "area:", "name"), ..Parts::with_font(first, vec![]) }.build();
     let part = name_of_font(&file, 5).unwrap();
     assert_eq!(part, 32..41);
     assert_eq!(&file[part], b"area:name");
@@ -490,10 +490,10 @@ fn page_of_font_3(page: Vec<u8>) -> Vec<u8> {
 fn characters_placed() {
     let page = vec![
         174, // font 3
-        65, // hh 0; then h 100, hh 31
-        65, // hh 31; then h 200, hh 62
+        65,  // hh 0; then h 100, hh 31
+        65,  // hh 31; then h 200, hh 62
         128, 200, // hh 62; then h 250, hh 102, held to 75 + 2
-        67, // missing
+        67,  // missing
         133, 66, // put at hh 77
         66, // hh 77; then h 150, hh 47 (45 + 2)
         239, 2, 1, 2, // special
@@ -710,8 +710,8 @@ fn lengths_of_files() {
 #[test]
 fn changed_by_chance() {
     let page = vec![
-        174, 65, 128, 200, 141, 143, 5, 66, 148, 10, 147, 162, 20, 161, 142, 239, 1, 0, 131, 0, 0, 0, 65, 170, 0,
-        0, 1, 0, 146, 0, 1, 0, 0,
+        174, 65, 128, 200, 141, 143, 5, 66, 148, 10, 147, 162, 20, 161, 142, 239, 1, 0, 131, 0, 0, 0, 65,
+        170, 0, 0, 1, 0, 146, 0, 1, 0, 0,
     ];
     let base = Parts { depth: 1, ..Parts::with_font(font(1, 3, 9, 100, 100, "a", "b"), page) }.build();
     assert_eq!(placed(&base, &character_table(), 300, 1, 60_000).last().unwrap(), "end 4 0 1");

@@ -45,8 +45,7 @@ fn asked(line: &[u8], limits: Limits) -> Result<Result<String, Refusal>, NoInput
         [b"read", file, at] => {
             let at = plain(at, u64::MAX)?;
             let file = dvi(file)?;
-            Ok(read_command(&file, at)
-                .map(|c| format!("command {} {} {}", c.opcode, c.before, c.after)))
+            Ok(read_command(&file, at).map(|c| format!("command {} {} {}", c.opcode, c.before, c.after)))
         }
         [b"check", file] => {
             let file = dvi(file)?;

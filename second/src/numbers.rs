@@ -3,9 +3,7 @@
 /// One to four bytes as a number that is never negative.
 pub fn unsigned(bytes: &[u8]) -> u32 {
     assert!((1..=4).contains(&bytes.len()));
-    bytes
-        .iter()
-        .fold(0u32, |number, byte| (number << 8) | u32::from(*byte))
+    bytes.iter().fold(0u32, |number, byte| (number << 8) | u32::from(*byte))
 }
 
 /// One to four bytes as a two's complement number.

@@ -84,11 +84,7 @@ impl Measure {
     /// takes the pixel of the position reached.
     fn moved(&self, position: i64, pixel: i64, n: i64, near: bool) -> Result<(i64, i64), Leaves> {
         let position = grown(position, n)?;
-        let pixel = if near {
-            pixel + self.unit.rounded(n)
-        } else {
-            self.unit.rounded(position)
-        };
+        let pixel = if near { pixel + self.unit.rounded(n) } else { self.unit.rounded(position) };
         Ok((position, self.held_to_drift(pixel, position)))
     }
 }

@@ -7,10 +7,7 @@ pub struct Refusal {
 }
 
 pub fn refusal(number: u8, place: usize) -> Refusal {
-    Refusal {
-        number,
-        place: place as u64,
-    }
+    Refusal { number, place: place as u64 }
 }
 
 impl std::fmt::Display for Refusal {

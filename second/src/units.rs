@@ -36,10 +36,7 @@ impl Unit {
         let above = positive(num) * positive(mag) * u128::from(resolution);
         let below = positive(den) * 1000 * 254_000;
         let divisor = common_divisor(above, below);
-        let unit = Unit {
-            p: above / divisor,
-            q: below / divisor,
-        };
+        let unit = Unit { p: above / divisor, q: below / divisor };
         if unit.p > 1_073_741_823 || 2 * unit.p > unit.q {
             return Err(refusal(13, 0));
         }

@@ -80,10 +80,7 @@ impl<'a> Table<'a> {
         sought[4..8].copy_from_slice(&scale.to_be_bytes());
         sought[8] = code;
         // Keys are in order and none comes twice, so halving finds the one sought.
-        let index = self
-            .records
-            .binary_search_by(|record| record[0..9].cmp(&sought[..]))
-            .ok()?;
+        let index = self.records.binary_search_by(|record| record[0..9].cmp(&sought[..])).ok()?;
         let record = self.records[index];
         Some(Found {
             escapement: signed(&record[10..12]),
