@@ -649,6 +649,16 @@ fn lines_answered() {
         ("name FONT.DVI -2147483648", "refused 8 at 0"),
         ("name FONT.DVI 2147483648", "no input"),
         ("name FONT.DVI -2147483649", "no input"),
+        ("spell FONT.DVI 3", "spelled -"),
+        ("spell FONT.DVI 4", "refused 8 at 0"),
+        ("spell FONT.DVI -2147483648", "refused 8 at 0"),
+        ("spell FONT.DVI 2147483648", "no input"),
+        ("spell FONT.DVI -2147483649", "no input"),
+        ("spell FONT.DVI", "no input"),
+        ("spell FONT.DVI 3 3", "no input"),
+        ("spell TABLE 3", "refused 4 at 0"),
+        ("spell nowhere 3", "no input"),
+        ("spelled FONT.DVI 3", "no input"),
         ("round 254 1 1000 500 -3", "rounded -2"),
         ("round 254 1 1000 500 3", "rounded 2"),
         ("round 254 1 1000 500 -0", "rounded 0"),
@@ -684,6 +694,44 @@ fn lines_answered() {
 }
 
 #[test]
+fn names_spelled() {
+    let long = "k".repeat(255);
+    let fonts = [
+        font(1, 5, 9, 100, 100, "\u{1}/", "Zoé"),
+        font(2, 6, 9, 100, 100, "", "cmr10"),
+        font(3, 7, 9, 100, 100, "tex:", ""),
+        font(4, 8, 9, 100, 100, &long, &long),
+        font(1, 9, 9, 100, 100, "", "-"),
+    ]
+    .concat();
+    let file = Parts::with_font(fonts, vec![]).build();
+    let path = written("names.dvi", &file);
+    let ask = |word: &str, number: i32| answer(format!("{word} {path} {number}").as_bytes(), DESK);
+    assert_eq!(ask("spell", 5), "spelled 012f5a6fc3a9");
+    assert_eq!(ask("spell", 6), "spelled 636d723130");
+    assert_eq!(ask("spell", 7), "spelled 7465783a");
+    assert_eq!(ask("spell", 8), format!("spelled {}", "6b".repeat(510)));
+    assert_eq!(ask("spell", 9), "spelled 2d");
+    // The bytes are those whose ends `name` tells; what `name` refuses, `spell` refuses too.
+    for number in 0..12 {
+        let (name, spelled) = (ask("name", number), ask("spell", number));
+        match name.strip_prefix("name ") {
+            Some(ends) => {
+                let (start, end) = ends.split_once(' ').unwrap();
+                let (start, end): (usize, usize) = (start.parse().unwrap(), end.parse().unwrap());
+                let digits = spelled.strip_prefix("spelled ").unwrap().as_bytes();
+                let pairs = digits.chunks(2).map(|pair| std::str::from_utf8(pair).unwrap());
+                let bytes: Vec<u8> = pairs.map(|pair| u8::from_str_radix(pair, 16).unwrap()).collect();
+                assert_eq!(bytes, file[start..end]);
+            }
+            None => assert_eq!(spelled, name),
+        }
+    }
+    let cut = written("names.cut", &file[..20]);
+    assert_eq!(answer(format!("spell {cut} 5").as_bytes(), DESK), "refused 2 at 15");
+}
+
+#[test]
 fn lengths_of_files() {
     let mut long = m();
     long.resize(262_144, 223);
@@ -694,6 +742,9 @@ fn lengths_of_files() {
     std::fs::write(&path, &long).unwrap();
     assert_eq!(answer(line.as_bytes(), DESK), "no input");
     assert_eq!(answer(line.as_bytes(), LONG), "accepted 1 0 0 61");
+    let spell = format!("spell {path} 0");
+    assert_eq!(answer(spell.as_bytes(), DESK), "no input");
+    assert_eq!(answer(spell.as_bytes(), LONG), "refused 8 at 0");
     long.resize(16_777_217, 223);
     std::fs::write(&path, &long).unwrap();
     assert_eq!(answer(line.as_bytes(), LONG), "refused 1 at 0");

@@ -59,6 +59,11 @@ fn asked(line: &[u8], limits: Limits) -> Result<Result<String, Refusal>, NoInput
             let file = dvi(file)?;
             Ok(name_of_font(&file, font).map(|part| format!("name {} {}", part.start, part.end)))
         }
+        [b"spell", file, font] => {
+            let font = signed_word(font)?;
+            let file = dvi(file)?;
+            Ok(name_of_font(&file, font).map(|part| format!("spelled {}", hexadecimal(&file[part]))))
+        }
         [b"round", num, den, mag, resolution, n] => {
             let (num, den, mag) = (signed_word(num)?, signed_word(den)?, signed_word(mag)?);
             let (resolution, n) = (unsigned_word(resolution)?, signed_word(n)?);
@@ -99,6 +104,14 @@ fn asked(line: &[u8], limits: Limits) -> Result<Result<String, Refusal>, NoInput
         }
         _ => Err(NoInput),
     }
+}
+
+/// Two digits for each byte; a dash stands for none, so that an answer never lacks a word.
+fn hexadecimal(bytes: &[u8]) -> String {
+    if bytes.is_empty() {
+        return "-".to_string();
+    }
+    bytes.iter().map(|byte| format!("{byte:02x}")).collect()
 }
 
 /// The bytes of a file, if it can be read and is not longer than the limit.
