@@ -4,7 +4,7 @@ use crate::commands::{meaning, read_command, Command, Meaning, LONGEST_FILE};
 use crate::fonts::{find, FontDefinition, MOST_FONTS};
 use crate::refusal::{refusal, Refusal};
 
-/// "The stack is one hundred levels of eight numbers."
+/// No more pushes than this may be open at a time.
 const DEEPEST: usize = 100;
 
 /// What an accepted file holds.
@@ -51,10 +51,10 @@ struct Passed<'a> {
     post: Option<usize>,
 }
 
-/// "The file check gives the number of pages, the number of fonts, the greatest stack depth
-/// and the place of *post*." "The file is judged from the front."
+/// Walks the whole file, command by command, and gathers what the answer and the placing of a
+/// page need. The first command at fault decides which refusal is given.
 pub fn check(file: &[u8]) -> Result<Survey, Refusal> {
-    // "Length (1) is judged before all"
+    // No command is looked at in a file too long.
     if file.len() > LONGEST_FILE {
         return Err(refusal(1, 0));
     }
@@ -76,7 +76,6 @@ pub fn check(file: &[u8]) -> Result<Survey, Refusal> {
         let command = read_command(file, at as u64)?;
         let says = meaning(file, &command);
         if let Some(number) = passed.lowest_refusal(&command, &says) {
-            // "The place is the opcode's".
             return Err(refusal(number, at));
         }
         passed.take(&command, says);
@@ -95,8 +94,8 @@ pub fn check(file: &[u8]) -> Result<Survey, Refusal> {
     })
 }
 
-/// "tail (11) after *post_post* has passed": "after *post_post*, a byte other than 223 (its
-/// place), or else fewer than four bytes (place: file length)".
+/// The padding at the end: 223s alone, four at least. A foreign byte is refused (11) where it
+/// stands, a padding too short at the file's end.
 fn check_tail(file: &[u8], from: usize) -> Result<(), Refusal> {
     let tail = &file[from..];
     if let Some(offset) = tail.iter().position(|byte| *byte != 223) {
@@ -109,7 +108,7 @@ fn check_tail(file: &[u8], from: usize) -> Result<(), Refusal> {
 }
 
 impl Passed<'_> {
-    /// "then the lowest of 4 to 10 that applies."
+    /// A command can have several faults; the one of the smallest number is told.
     fn lowest_refusal(&self, command: &Command, says: &Meaning) -> Option<u8> {
         let judged = [
             (4, self.refused_4(says)),
@@ -124,8 +123,7 @@ impl Passed<'_> {
         lowest.map(|(number, _)| *number)
     }
 
-    /// "first command is not *pre*, its identification is not 2, or num, den or mag is not
-    /// positive as a signed number"
+    /// The file does not open with a *pre* of this format and with units above zero.
     fn refused_4(&self, says: &Meaning) -> bool {
         if self.section != Section::Start {
             return false;
@@ -138,7 +136,7 @@ impl Passed<'_> {
         }
     }
 
-    /// "a command that may not stand there"
+    /// The command has no business in this section of the file.
     fn refused_5(&self, opcode: u8) -> bool {
         const NOP: u8 = 138;
         const BOP: u8 = 139;
@@ -147,25 +145,24 @@ impl Passed<'_> {
         const POST: u8 = 248;
         const POST_POST: u8 = 249;
         let may_stand = match self.section {
-            // "*pre* once, at place 0."
             Section::Start => opcode == PRE,
-            // "Then only *nop* and font definitions before the first page, between pages,
-            // and between the last page and *post*." "One page at least."
+            // Outside pages fonts are made known and nothing is set. *post* has to wait for a
+            // page.
             Section::Between => match opcode {
                 NOP | BOP | 243..=246 => true,
                 POST => !self.pages.is_empty(),
                 _ => false,
             },
-            // "A page: *bop*, any of opcodes 0 to 138, 141 to 246, then *eop*."
+            // All but another *bop* and what frames the file.
             Section::Page => matches!(opcode, 0..=138 | 141..=246 | EOP),
-            // "*post*, then only *nop* and font definitions, then *post_post*"
+            // The fonts are told once more.
             Section::Postamble => matches!(opcode, NOP | 243..=246 | POST_POST),
             Section::End => false,
         };
         !may_stand
     }
 
-    /// "*pop* at depth 0, *push* at depth 100, *eop* at depth above 0"
+    /// The stack has nothing to give, no room left, or is not empty as its page ends.
     fn refused_6(&self, says: &Meaning) -> bool {
         match says {
             Meaning::Pop => self.depth == 0,
@@ -175,32 +172,27 @@ impl Passed<'_> {
         }
     }
 
-    /// "a font definition against the rules below"
+    /// A font is defined wrongly or once too often, or was not repeated after *post*.
     fn refused_7(&self, says: &Meaning) -> bool {
         match says {
             Meaning::DefineFont(font) if self.post.is_none() => {
-                // "Before *post* a number is defined at most once."
-                !font.in_range()
-                    || self.fonts.len() >= MOST_FONTS
-                    || find(&self.fonts, font.number).is_some()
+                !font.in_range() || self.fonts.len() >= MOST_FONTS || find(&self.fonts, font.number).is_some()
             }
             Meaning::DefineFont(font) => {
-                // "After it the same numbers are defined, each once, with equal check sum,
-                // s, d, a, l and name".
+                // It has to repeat an earlier definition that was not repeated yet.
                 let before = find(&self.fonts, font.number);
                 let equal = before.is_some_and(|first| font.same_font(first, self.file));
                 !equal || find(&self.repeated, font.number).is_some()
             }
-            // "A font left out after *post* is 7 at *post_post*."
-            Meaning::PostPost { .. } => self
-                .fonts
-                .iter()
-                .any(|font| find(&self.repeated, font.number).is_none()),
+            // No definition can follow, so what is still unrepeated stays so.
+            Meaning::PostPost { .. } => {
+                self.fonts.iter().any(|font| find(&self.repeated, font.number).is_none())
+            }
             _ => false,
         }
     }
 
-    /// "selection of a font not yet defined; a character before a selection on this page"
+    /// A font is selected that nothing has defined, or a character finds none selected.
     fn refused_8(&self, says: &Meaning) -> bool {
         match says {
             Meaning::SelectFont(number) => find(&self.fonts, *number).is_none(),
@@ -209,7 +201,8 @@ impl Passed<'_> {
         }
     }
 
-    /// "a wrong pointer in *bop*, *post* or *post_post*"
+    /// The chain that leads back from the file's end through *post* and page by page to -1 is
+    /// broken.
     fn refused_9(&self, says: &Meaning) -> bool {
         let points_to = |pointer: i32, place: Option<usize>| match place {
             Some(place) => i64::from(pointer) == place as i64,
@@ -217,21 +210,18 @@ impl Passed<'_> {
         };
         let last_page = self.pages.last().copied();
         match *says {
-            // "*bop* points to the previous *bop*, the first holds -1."
             Meaning::BeginPage { pointer } => !points_to(pointer, last_page),
-            // "*post* points to the last *bop*, *post_post* to *post*."
             Meaning::Post { pointer, .. } => !points_to(pointer, last_page),
             Meaning::PostPost { pointer, .. } => !points_to(pointer, self.post),
             _ => false,
         }
     }
 
-    /// "num, den, mag, depth or page count in *post* wrong; identification in *post_post*
-    /// not 2"
+    /// The postamble tells of another file: of other units, another depth, another number of
+    /// pages or another format.
     fn refused_10(&self, says: &Meaning) -> bool {
         match *says {
-            // "*post* repeats num, den, mag; its s equals the greatest depth reached; its t is
-            // the number of pages, so more than 65,535 pages is 10."
+            // Two bytes count the pages, so no file of more than 65,535 gets past here.
             Meaning::Post { num, den, mag, depth, pages, .. } => {
                 self.units != Some((num, den, mag))
                     || depth as usize != self.greatest_depth
@@ -252,7 +242,7 @@ impl Passed<'_> {
             Meaning::BeginPage { .. } => {
                 self.pages.push(command.at);
                 self.depth = 0;
-                // "with an empty stack and no font"
+                // Every page selects its fonts anew.
                 self.selected = false;
                 self.section = Section::Page;
             }

@@ -4,11 +4,11 @@ use crate::fonts::FontDefinition;
 use crate::numbers::{signed, signed_if_four, unsigned};
 use crate::refusal::{refusal, Refusal};
 
-/// 1: "file longer than 16,777,216 bytes; place 0".
+/// 16 MiB; a longer file is refused (1) unread.
 pub const LONGEST_FILE: usize = 16_777_216;
 
-/// "The parameter bytes of opcodes 128 to 249 stand in one table".
-/// Only the parts of fixed length; names, comments and specials add to them.
+/// How many parameter bytes each opcode from 128 on has at least. Names, comments and specials
+/// come on top; their own parameters say how long they are.
 #[rustfmt::skip]
 const PARAMETER_BYTES: [usize; 122] = [
     1, 2, 3, 4,             // 128 to 131: set1 to set4
@@ -51,8 +51,8 @@ pub struct Command {
     pub after: usize,
 }
 
-/// "one command, read at a place that the caller gives, gives 1 (place 0), then 2 or 3
-/// (the place given; at or past the end it is 2)".
+/// Reads the command at any place whatever. A file too long is refused (1) at its start; a
+/// command cut off or missing (2) and an opcode that does not exist (3) where it was sought.
 pub fn read_command(file: &[u8], at: u64) -> Result<Command, Refusal> {
     if file.len() > LONGEST_FILE {
         return Err(refusal(1, 0));
@@ -63,8 +63,7 @@ pub fn read_command(file: &[u8], at: u64) -> Result<Command, Refusal> {
     let at = at as usize;
     let opcode = file[at];
     let before = at + 1;
-    // "At each command: no byte left, or parameters that do not fit, is 2;
-    // opcodes 250-255 are 3". An opcode of the latter has no parameters.
+    // An opcode that does not exist has no parameters to be cut off: 2 cannot go before 3.
     let fixed = match opcode {
         0..=127 => 0,
         128..=249 => PARAMETER_BYTES[usize::from(opcode) - 128],
@@ -74,8 +73,7 @@ pub fn read_command(file: &[u8], at: u64) -> Result<Command, Refusal> {
     if fixed > left {
         return Err(refusal(2, at));
     }
-    // "lengths inside a command (names, comments, specials) are read unsigned, whatever
-    // appendix A's sign, and add to it."
+    // These lengths never count as negative, not even those of four bytes.
     let parameters = &file[before..before + fixed];
     let added: u64 = match opcode {
         239..=242 => u64::from(unsigned(parameters)),
@@ -86,22 +84,26 @@ pub fn read_command(file: &[u8], at: u64) -> Result<Command, Refusal> {
     if added > (left - fixed) as u64 {
         return Err(refusal(2, at));
     }
-    Ok(Command {
-        opcode,
-        at,
-        before,
-        after: before + fixed + added as usize,
-    })
+    Ok(Command { opcode, at, before, after: before + fixed + added as usize })
 }
 
 /// What a command says, its parameters read.
 #[derive(Debug, Clone, PartialEq, Eq)]
 pub enum Meaning {
     /// `moves` is true of the *set* forms, false of the *put* forms.
-    Character { code: i32, moves: bool },
-    Rule { height: i32, width: i32, moves: bool },
+    Character {
+        code: i32,
+        moves: bool,
+    },
+    Rule {
+        height: i32,
+        width: i32,
+        moves: bool,
+    },
     Nop,
-    BeginPage { pointer: i32 },
+    BeginPage {
+        pointer: i32,
+    },
     EndPage,
     Push,
     Pop,
@@ -115,19 +117,33 @@ pub enum Meaning {
     SelectFont(i32),
     Special,
     DefineFont(FontDefinition),
-    Pre { identification: u8, num: i32, den: i32, mag: i32 },
-    Post { pointer: i32, num: i32, den: i32, mag: i32, depth: u32, pages: u32 },
-    PostPost { pointer: i32, identification: u8 },
+    Pre {
+        identification: u8,
+        num: i32,
+        den: i32,
+        mag: i32,
+    },
+    Post {
+        pointer: i32,
+        num: i32,
+        den: i32,
+        mag: i32,
+        depth: u32,
+        pages: u32,
+    },
+    PostPost {
+        pointer: i32,
+        identification: u8,
+    },
 }
 
 /// The meaning of a command that `read_command` gave for this file.
 pub fn meaning(file: &[u8], command: &Command) -> Meaning {
     let p = &file[command.before..command.after];
-    // Appendix A: "four-byte-long parameters, and shorter parameters that denote distances,
-    // can be either positive or negative."
+    // Distances have a sign in each of their forms.
     let register = || if p.is_empty() { None } else { Some(signed(p)) };
     match command.opcode {
-        // "Opcodes 0 to 127 and 171 to 234 are ranges, and each range is one rule."
+        // Here and from 171 to 234 the opcode itself is the parameter.
         code @ 0..=127 => Meaning::Character { code: i32::from(code), moves: true },
         128..=131 => Meaning::Character { code: signed_if_four(p), moves: true },
         132 => Meaning::Rule { height: signed(&p[0..4]), width: signed(&p[4..8]), moves: true },
@@ -147,18 +163,16 @@ pub fn meaning(file: &[u8], command: &Command) -> Meaning {
         number @ 171..=234 => Meaning::SelectFont(i32::from(number) - 171),
         235..=238 => Meaning::SelectFont(signed_if_four(p)),
         239..=242 => Meaning::Special,
-        243..=246 => Meaning::DefineFont(FontDefinition::read(
-            p,
-            usize::from(command.opcode) - 242,
-            command.before,
-        )),
+        243..=246 => {
+            Meaning::DefineFont(FontDefinition::read(p, usize::from(command.opcode) - 242, command.before))
+        }
         247 => Meaning::Pre {
             identification: p[0],
             num: signed(&p[1..5]),
             den: signed(&p[5..9]),
             mag: signed(&p[9..13]),
         },
-        // post p[4] num[4] den[4] mag[4] l[4] u[4] s[2] t[2]
+        // Bytes 16 to 23, the greatest height and width of a page, are under no rule.
         248 => Meaning::Post {
             pointer: signed(&p[0..4]),
             num: signed(&p[4..8]),
@@ -177,9 +191,7 @@ mod tests {
     use super::*;
 
     fn read(file: &[u8], at: u64) -> Result<(u8, usize, usize), (u8, u64)> {
-        read_command(file, at)
-            .map(|c| (c.opcode, c.before, c.after))
-            .map_err(|r| (r.number, r.place))
+        read_command(file, at).map(|c| (c.opcode, c.before, c.after)).map_err(|r| (r.number, r.place))
     }
 
     #[test]

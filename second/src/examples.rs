@@ -1,4 +1,4 @@
-//! The examples of "Examples to hold it to", and cases beside them.
+//! The worked examples of document 01, and cases beside them.
 
 use crate::check::check;
 use crate::fonts::name_of_font;
@@ -27,9 +27,9 @@ fn font(bytes: u8, number: i64, check_sum: u32, s: i64, d: i64, area: &str, name
 }
 
 struct Parts {
-    first: Vec<u8>,          // between pre and the first bop
-    pages: Vec<Vec<u8>>,     // the insides of the pages
-    last: Vec<u8>,           // between post and post_post
+    first: Vec<u8>,      // between pre and the first bop
+    pages: Vec<Vec<u8>>, // the insides of the pages
+    last: Vec<u8>,       // between post and post_post
     units: [i64; 3],
     depth: u16,
 }
@@ -119,9 +119,9 @@ fn tabled(table: &[u8]) -> String {
     }
 }
 
-// ---- the examples of the document ----
+// ---- document 01's examples ----
 
-// "M is: [...]; 100 bytes."
+// M, the least file there is: one page with nothing on it.
 #[test]
 fn m_itself() {
     let file = m();
@@ -130,14 +130,14 @@ fn m_itself() {
     assert_eq!(file[96..], [223; 4]);
 }
 
-// "*M: 1 page, 0 fonts, depth 0, post 61. With five 223s: accepted."
+// M is right, and stays so with more padding.
 #[test]
 fn m_accepted() {
     assert_eq!(checked(&m()), "1 0 0 61");
     assert_eq!(checked(&[m(), vec![223]].concat()), "1 0 0 61");
 }
 
-// "*M less its last byte: 11 at 99. *First 95 bytes: 2 at 90. *Empty: 2 at 0."
+// M cut inside its padding, inside its last command, and down to nothing.
 #[test]
 fn m_cut() {
     assert_eq!(checked(&m()[..99]), "refused 11 at 99");
@@ -145,8 +145,8 @@ fn m_cut() {
     assert_eq!(checked(&[]), "refused 2 at 0");
 }
 
-// "*Byte 60 made 142: 6 at 60. t made 2: 10 at 61. q made 60: 9 at 90. *bop* pointing to 0:
-// 9 at 15."
+// M with a pop for its eop, a page too many in its count, and a wrong pointer at the end and at
+// the page.
 #[test]
 fn m_changed() {
     assert_eq!(checked(&changed(m(), 60, 142)), "refused 6 at 60");
@@ -157,7 +157,7 @@ fn m_changed() {
     assert_eq!(checked(&file), "refused 9 at 15");
 }
 
-// "*pre* then a whole *post*: 5 at 15. Identification 3 in *pre*: 4 at 0."
+// No page at all; another format.
 #[test]
 fn post_without_a_page_and_identification() {
     assert_eq!(checked(&[&m()[..15], &m()[61..90]].concat()), "refused 5 at 15");
@@ -165,8 +165,7 @@ fn post_without_a_page_and_identification() {
     assert_eq!(checked(&changed(m(), 1, 3)), "refused 4 at 0");
 }
 
-// "*M's units, R 500: K is 1/2, accepted; *R 501: 13. At 1/2, *1, -1, 3, -3 round to 1, -1,
-// 2, -2."
+// The greatest K that is allowed, the first that is not, and halves rounded away from zero.
 #[test]
 fn one_half() {
     assert_eq!(Unit::new(254, 1, 1000, 500).unwrap(), Unit { p: 1, q: 2 });
@@ -178,15 +177,14 @@ fn one_half() {
     assert_eq!(placed(&m(), &[], 501, 1, 0), ["refused 13 at 0"]);
 }
 
-// "*TeX's num 25,400,000, den 473,628,672, mag 1000, R 300: P/Q is 625/9,867,264."
+// The units that TeX writes.
 #[test]
 fn tex_units() {
     let unit = Unit::new(25_400_000, 473_628_672, 1000, 300).unwrap();
     assert_eq!(unit, Unit { p: 625, q: 9_867_264 });
 }
 
-// "K 3/10, D 2, s 100: [...]": the moves themselves are tried beside them, in placing; here
-// the same through a whole file.
+// Moves that make the pixel drift, on a page; `placing` tries the moves by themselves.
 #[test]
 fn six_moves_in_a_file() {
     for (step, hh) in [(5u8, 11), (251, -11)] {
@@ -202,8 +200,8 @@ fn six_moves_in_a_file() {
     }
 }
 
-// "*Width 0,9,199,28 at s 655,360: 400,497. *255,255,255,255 at 100: -1. *0,16,0,0 at
-// 8,388,609: 8,388,608."
+// A usual width, the negative one nearest to zero, and one that a single division would give a
+// unit too much.
 #[test]
 fn widths() {
     assert_eq!(scale_width(655_360, [0, 9, 199, 28]), Ok(400_497));
@@ -239,8 +237,7 @@ fn printed_example() -> Vec<u8> {
     Parts { pages: vec![page], ..parts() }.build()
 }
 
-// "M with six *right1* 5, *set_rule* 4 7, *put_rule* 1 1 put before *eop* (pointers mended),
-// empty table, R 300, page 1, prints in whole:"
+// The one answer that document 01 prints line by line.
 #[test]
 fn the_printed_example() {
     let file = written("printed.dvi", &printed_example());
@@ -293,7 +290,7 @@ fn order_at_one_command() {
     for at in [69, 73, 77, 87] {
         assert_eq!(checked(&changed(m(), at, 77)), "refused 10 at 61");
     }
-    // l, u and the ten counts are free.
+    // What no rule looks at: l, u and the counts in bop.
     for at in (16..56).chain(78..86) {
         assert_eq!(checked(&changed(m(), at, 77)), "1 0 0 61");
     }
@@ -385,7 +382,8 @@ fn font_rules() {
     assert_eq!(given(many(64), back), format!("1 64 0 {}", 61 + 64 * 19));
     assert_eq!(given(many(65), many(65)), format!("refused 7 at {}", 15 + 64 * 19));
     // Between pages and inside a page, nop too.
-    let inside = Parts { pages: vec![[vec![138], n(1, 3), vec![174, 65]].concat(), vec![]], last: n(2, 3), ..parts() };
+    let inside =
+        Parts { pages: vec![[vec![138], n(1, 3), vec![174, 65]].concat(), vec![]], last: n(2, 3), ..parts() };
     assert_eq!(checked(&inside.build()), "2 1 0 129");
 }
 
@@ -408,17 +406,16 @@ fn selection_and_characters() {
         ..parts()
     };
     assert_eq!(checked(&late.build()), "refused 8 at 60");
-    let before = Parts {
-        pages: vec![vec![235, 200, 65], vec![65]],
-        ..Parts::with_font(definition.clone(), vec![])
-    };
+    let before =
+        Parts { pages: vec![vec![235, 200, 65], vec![65]], ..Parts::with_font(definition.clone(), vec![]) };
     assert_eq!(checked(&before.build()), "refused 8 at 125");
 }
 
 #[test]
 fn names() {
     let first = font(2, 5, 9, 100, 100, "area:", "name");
-    let file = Parts { last: font(1, 5, 9, 100, 100, "area:", "name"), ..Parts::with_font(first, vec![]) }.build();
+    let file =
+        Parts { last: font(1, 5, 9, 100, 100, "area:", "name"), ..Parts::with_font(first, vec![]) }.build();
     let part = name_of_font(&file, 5).unwrap();
     assert_eq!(part, 32..41);
     assert_eq!(&file[part], b"area:name");
@@ -493,10 +490,10 @@ fn page_of_font_3(page: Vec<u8>) -> Vec<u8> {
 fn characters_placed() {
     let page = vec![
         174, // font 3
-        65, // hh 0; then h 100, hh 31
-        65, // hh 31; then h 200, hh 62
+        65,  // hh 0; then h 100, hh 31
+        65,  // hh 31; then h 200, hh 62
         128, 200, // hh 62; then h 250, hh 102, held to 75 + 2
-        67, // missing
+        67,  // missing
         133, 66, // put at hh 77
         66, // hh 77; then h 150, hh 47 (45 + 2)
         239, 2, 1, 2, // special
@@ -556,7 +553,7 @@ fn registers_and_stack_placed() {
     assert_eq!(placed(&file, &[], 300, 1, 0), ["end 0 0 0"]);
 }
 
-// "*push* saves all eight numbers. [...] The font is not saved."
+// A pop gives the pixels back as they were, but leaves the font selected meanwhile.
 #[test]
 fn the_pixel_pair_is_saved() {
     let mut page = vec![174];
@@ -652,6 +649,16 @@ fn lines_answered() {
         ("name FONT.DVI -2147483648", "refused 8 at 0"),
         ("name FONT.DVI 2147483648", "no input"),
         ("name FONT.DVI -2147483649", "no input"),
+        ("spell FONT.DVI 3", "spelled -"),
+        ("spell FONT.DVI 4", "refused 8 at 0"),
+        ("spell FONT.DVI -2147483648", "refused 8 at 0"),
+        ("spell FONT.DVI 2147483648", "no input"),
+        ("spell FONT.DVI -2147483649", "no input"),
+        ("spell FONT.DVI", "no input"),
+        ("spell FONT.DVI 3 3", "no input"),
+        ("spell TABLE 3", "refused 4 at 0"),
+        ("spell nowhere 3", "no input"),
+        ("spelled FONT.DVI 3", "no input"),
         ("round 254 1 1000 500 -3", "rounded -2"),
         ("round 254 1 1000 500 3", "rounded 2"),
         ("round 254 1 1000 500 -0", "rounded 0"),
@@ -687,6 +694,44 @@ fn lines_answered() {
 }
 
 #[test]
+fn names_spelled() {
+    let long = "k".repeat(255);
+    let fonts = [
+        font(1, 5, 9, 100, 100, "\u{1}/", "Zoé"),
+        font(2, 6, 9, 100, 100, "", "cmr10"),
+        font(3, 7, 9, 100, 100, "tex:", ""),
+        font(4, 8, 9, 100, 100, &long, &long),
+        font(1, 9, 9, 100, 100, "", "-"),
+    ]
+    .concat();
+    let file = Parts::with_font(fonts, vec![]).build();
+    let path = written("names.dvi", &file);
+    let ask = |word: &str, number: i32| answer(format!("{word} {path} {number}").as_bytes(), DESK);
+    assert_eq!(ask("spell", 5), "spelled 012f5a6fc3a9");
+    assert_eq!(ask("spell", 6), "spelled 636d723130");
+    assert_eq!(ask("spell", 7), "spelled 7465783a");
+    assert_eq!(ask("spell", 8), format!("spelled {}", "6b".repeat(510)));
+    assert_eq!(ask("spell", 9), "spelled 2d");
+    // The bytes are those whose ends `name` tells; what `name` refuses, `spell` refuses too.
+    for number in 0..12 {
+        let (name, spelled) = (ask("name", number), ask("spell", number));
+        match name.strip_prefix("name ") {
+            Some(ends) => {
+                let (start, end) = ends.split_once(' ').unwrap();
+                let (start, end): (usize, usize) = (start.parse().unwrap(), end.parse().unwrap());
+                let digits = spelled.strip_prefix("spelled ").unwrap().as_bytes();
+                let pairs = digits.chunks(2).map(|pair| std::str::from_utf8(pair).unwrap());
+                let bytes: Vec<u8> = pairs.map(|pair| u8::from_str_radix(pair, 16).unwrap()).collect();
+                assert_eq!(bytes, file[start..end]);
+            }
+            None => assert_eq!(spelled, name),
+        }
+    }
+    let cut = written("names.cut", &file[..20]);
+    assert_eq!(answer(format!("spell {cut} 5").as_bytes(), DESK), "refused 2 at 15");
+}
+
+#[test]
 fn lengths_of_files() {
     let mut long = m();
     long.resize(262_144, 223);
@@ -697,6 +742,9 @@ fn lengths_of_files() {
     std::fs::write(&path, &long).unwrap();
     assert_eq!(answer(line.as_bytes(), DESK), "no input");
     assert_eq!(answer(line.as_bytes(), LONG), "accepted 1 0 0 61");
+    let spell = format!("spell {path} 0");
+    assert_eq!(answer(spell.as_bytes(), DESK), "no input");
+    assert_eq!(answer(spell.as_bytes(), LONG), "refused 8 at 0");
     long.resize(16_777_217, 223);
     std::fs::write(&path, &long).unwrap();
     assert_eq!(answer(line.as_bytes(), LONG), "refused 1 at 0");
@@ -713,8 +761,8 @@ fn lengths_of_files() {
 #[test]
 fn changed_by_chance() {
     let page = vec![
-        174, 65, 128, 200, 141, 143, 5, 66, 148, 10, 147, 162, 20, 161, 142, 239, 1, 0, 131, 0, 0, 0, 65, 170, 0,
-        0, 1, 0, 146, 0, 1, 0, 0,
+        174, 65, 128, 200, 141, 143, 5, 66, 148, 10, 147, 162, 20, 161, 142, 239, 1, 0, 131, 0, 0, 0, 65,
+        170, 0, 0, 1, 0, 146, 0, 1, 0, 0,
     ];
     let base = Parts { depth: 1, ..Parts::with_font(font(1, 3, 9, 100, 100, "a", "b"), page) }.build();
     assert_eq!(placed(&base, &character_table(), 300, 1, 60_000).last().unwrap(), "end 4 0 1");

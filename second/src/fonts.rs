@@ -5,13 +5,13 @@ use crate::numbers::{signed_if_four, unsigned};
 use crate::refusal::{refusal, Refusal};
 use std::ops::Range;
 
-/// "Fonts: number 0 to 255, at most 64 of them".
+/// A file may define no more fonts than this.
 pub const MOST_FONTS: usize = 64;
 
-/// "scale s and design size d each 1 to 134,217,727".
+/// 2^27 - 1: the bound of both the scale and the design size.
 pub const GREATEST_SCALE: u32 = 134_217_727;
 
-/// k, c[4] s[4] d[4] a[1] l[1] n[a+l].
+/// What a font definition says, its fields in the file's order.
 #[derive(Debug, Clone, PartialEq, Eq)]
 pub struct FontDefinition {
     pub number: i32,
@@ -39,15 +39,15 @@ impl FontDefinition {
         }
     }
 
-    /// "number 0 to 255 [...] scale s and design size d each 1 to 134,217,727."
+    /// Whether the number fits one byte and both sizes are above zero and within their bound.
     pub fn in_range(&self) -> bool {
         (0..=255).contains(&self.number)
             && (1..=GREATEST_SCALE).contains(&self.scale)
             && (1..=GREATEST_SCALE).contains(&self.design_size)
     }
 
-    /// "with equal check sum, s, d, a, l and name; the form (one to four bytes for the
-    /// number) may differ."
+    /// Whether two definitions agree in all they say; in how many bytes they write the number
+    /// is left open.
     pub fn same_font(&self, other: &FontDefinition, file: &[u8]) -> bool {
         self.number == other.number
             && self.check_sum == other.check_sum
@@ -64,9 +64,8 @@ pub fn find(fonts: &[FontDefinition], number: i32) -> Option<&FontDefinition> {
     fonts.iter().find(|font| font.number == number)
 }
 
-/// "The name is given back as the part of the caller's file that holds it, area first, not
-/// as a copy; of a font's two definitions the one before *post* is meant."
-/// "the name of an undefined font number is 8 with place 0, after 1 to 11".
+/// Where in the file a font's name stands, by its first definition. The whole file is checked
+/// before; a number that it does not define is refused (8) without a place.
 pub fn name_of_font(file: &[u8], number: i32) -> Result<Range<usize>, Refusal> {
     let survey = check(file)?;
     match find(&survey.fonts, number) {

@@ -45,8 +45,7 @@ fn asked(line: &[u8], limits: Limits) -> Result<Result<String, Refusal>, NoInput
         [b"read", file, at] => {
             let at = plain(at, u64::MAX)?;
             let file = dvi(file)?;
-            Ok(read_command(&file, at)
-                .map(|c| format!("command {} {} {}", c.opcode, c.before, c.after)))
+            Ok(read_command(&file, at).map(|c| format!("command {} {} {}", c.opcode, c.before, c.after)))
         }
         [b"check", file] => {
             let file = dvi(file)?;
@@ -59,6 +58,11 @@ fn asked(line: &[u8], limits: Limits) -> Result<Result<String, Refusal>, NoInput
             let font = signed_word(font)?;
             let file = dvi(file)?;
             Ok(name_of_font(&file, font).map(|part| format!("name {} {}", part.start, part.end)))
+        }
+        [b"spell", file, font] => {
+            let font = signed_word(font)?;
+            let file = dvi(file)?;
+            Ok(name_of_font(&file, font).map(|part| format!("spelled {}", hexadecimal(&file[part]))))
         }
         [b"round", num, den, mag, resolution, n] => {
             let (num, den, mag) = (signed_word(num)?, signed_word(den)?, signed_word(mag)?);
@@ -92,7 +96,7 @@ fn asked(line: &[u8], limits: Limits) -> Result<Result<String, Refusal>, NoInput
             let (file, widths) = (dvi(file)?, table(widths)?);
             Ok(place(&file, &widths, resolution, page, area).map(|placed| {
                 let mut lines: Vec<String> = placed.records.iter().map(record_line).collect();
-                // "then `end` with records, missing, specials"
+                // The counts come last.
                 let records = placed.records.len();
                 lines.push(format!("end {records} {} {}", placed.missing, placed.specials));
                 lines.join("\n")
@@ -100,6 +104,14 @@ fn asked(line: &[u8], limits: Limits) -> Result<Result<String, Refusal>, NoInput
         }
         _ => Err(NoInput),
     }
+}
+
+/// Two digits for each byte; a dash stands for none, so that an answer never lacks a word.
+fn hexadecimal(bytes: &[u8]) -> String {
+    if bytes.is_empty() {
+        return "-".to_string();
+    }
+    bytes.iter().map(|byte| format!("{byte:02x}")).collect()
 }
 
 /// The bytes of a file, if it can be read and is not longer than the limit.

@@ -1,13 +1,9 @@
-//! Numbers in bytes.
-//!
-//! "Numbers are big-endian; signed ones are two's complement."
+//! Numbers from bytes, the byte of most weight first.
 
 /// One to four bytes as a number that is never negative.
 pub fn unsigned(bytes: &[u8]) -> u32 {
     assert!((1..=4).contains(&bytes.len()));
-    bytes
-        .iter()
-        .fold(0u32, |number, byte| (number << 8) | u32::from(*byte))
+    bytes.iter().fold(0u32, |number, byte| (number << 8) | u32::from(*byte))
 }
 
 /// One to four bytes as a two's complement number.
@@ -18,9 +14,7 @@ pub fn signed(bytes: &[u8]) -> i32 {
     i32::try_from(value).expect("four bytes at most")
 }
 
-/// Appendix A: "Parameters are usually regarded as nonnegative integers; but
-/// four-byte-long parameters [...] can be either positive or negative."
-/// So character codes and font numbers: unsigned in one to three bytes, signed in four.
+/// A character's code or a font's number: only its form of four bytes has a sign.
 pub fn signed_if_four(bytes: &[u8]) -> i32 {
     if bytes.len() == 4 {
         signed(bytes)

@@ -8,19 +8,18 @@ use crate::refusal::{refusal, Refusal};
 use crate::units::{check_resolution, Unit};
 use crate::widths::{scale_width, Table};
 
-/// "Placement record, 20 bytes: kind 1 (1 character, 2 rule), font 1 (0 for a rule), page 2,
-/// hh 4, vv 4, then for a character the full code 4 and escapement 4, for a rule height 4 and
-/// width 4 in pixels."
+/// What was placed: its kind and font in a byte each, the page in two, then four numbers of four
+/// bytes: hh and vv, and after them a character's code (all of it) and escapement or a rule's
+/// height and width in pixels. The font of a rule is 0.
 pub type Record = [u8; 20];
 
 const CHARACTER: u8 = 1;
 const RULE: u8 = 2;
 
-/// "16: h or v would leave -2,147,483,647 to 2,147,483,647"
+/// So far from zero, on either side, h and v may be; a move beyond is refused (16).
 const FURTHEST: i64 = 2_147_483_647;
 
-/// "Placing gives the number of records written, of missing characters and of specials on
-/// that page." The number of records is the list's length.
+/// What a page came to. Characters without metrics and specials are only counted.
 #[derive(Debug)]
 pub struct Placed {
     pub records: Vec<Record>,
@@ -28,7 +27,8 @@ pub struct Placed {
     pub specials: usize,
 }
 
-/// "*push* saves all eight numbers."
+/// Where the page has got to, in units and in pixels, and its kept distances: all that *push*
+/// puts away.
 #[derive(Debug, Clone, Copy, PartialEq, Eq)]
 struct Registers {
     h: i64,
@@ -41,8 +41,7 @@ struct Registers {
     vv: i64,
 }
 
-/// "*bop* sets every register of a fresh page to zero: h, v, w, x, y, z and the pixel pair
-/// hh, vv".
+/// How every page begins.
 const FRESH: Registers = Registers { h: 0, v: 0, w: 0, x: 0, y: 0, z: 0, hh: 0, vv: 0 };
 
 /// What stays the same throughout a page.
@@ -58,7 +57,7 @@ struct Leaves;
 
 impl Measure {
     fn new(unit: Unit, resolution: u32) -> Measure {
-        // "D is 2 for R >= 200, 1 for 100 to 199, 0 below."
+        // The coarser the pixels, the fewer of them may be astray.
         let drift = match resolution {
             0..=99 => 0,
             100..=199 => 1,
@@ -67,8 +66,8 @@ impl Measure {
         Measure { unit, drift }
     }
 
-    /// "if hh is further than D from rounded h, it becomes rounded h plus D if it was above,
-    /// minus D if below. So with vv and v after each move down."
+    /// A pixel strays no more than D from its position's own pixel: one further off is pulled
+    /// back to D on the side where it was.
     fn held_to_drift(&self, pixel: i64, position: i64) -> i64 {
         let rounded = self.unit.rounded(position);
         if pixel > rounded + self.drift {
@@ -81,14 +80,11 @@ impl Measure {
     }
 
     /// One move, sideways or down: the new position and the new pixel.
-    /// "h grows by n. If [near], hh grows by rounded n; else hh is the rounded new h."
+    /// A near one moves the pixel by itself alone, so that equal distances look equal; a far one
+    /// takes the pixel of the position reached.
     fn moved(&self, position: i64, pixel: i64, n: i64, near: bool) -> Result<(i64, i64), Leaves> {
         let position = grown(position, n)?;
-        let pixel = if near {
-            pixel + self.unit.rounded(n)
-        } else {
-            self.unit.rounded(position)
-        };
+        let pixel = if near { pixel + self.unit.rounded(n) } else { self.unit.rounded(position) };
         Ok((position, self.held_to_drift(pixel, position)))
     }
 }
@@ -102,7 +98,7 @@ fn grown(position: i64, n: i64) -> Result<i64, Leaves> {
     }
 }
 
-/// "If n >= 0 and 5 x n < s, or n < 0 and 10 x |n| < 9 x s"
+/// Small against the font: under a fifth of its scale to the right, nine tenths to the left.
 fn near_sideways(n: i64, s: i64) -> bool {
     if n >= 0 {
         5 * n < s
@@ -111,7 +107,7 @@ fn near_sideways(n: i64, s: i64) -> bool {
     }
 }
 
-/// "near when 5 x |n| < 4 x s"
+/// Under four fifths of the font's scale, up as well as down.
 fn near_down(n: i64, s: i64) -> bool {
     5 * n.abs() < 4 * s
 }
@@ -127,8 +123,8 @@ impl Registers {
         Ok(Registers { v, vv, ..self })
     }
 
-    /// "the *set* forms then add the width to h and the table's escapement to hh", and
-    /// "After each sideways move, a *set* character's included", the drift.
+    /// Behind a character: its width in units and its escapement in pixels are independent, so
+    /// here too the pixel may have to be pulled back.
     fn past_character(self, width: i64, escapement: i64, measure: &Measure) -> Result<Registers, Leaves> {
         let h = grown(self.h, width)?;
         let hh = measure.held_to_drift(self.hh + escapement, h);
@@ -148,8 +144,8 @@ struct Page<'a> {
     placed: Placed,
 }
 
-/// "Placing judges 1 to 11 first, then 12 to 17 in order. The place is 0 for 12, 13, 15
-/// and 17."
+/// Places one page. Refusals are sought from the lowest to the highest number: first the file's
+/// (1 to 11), then the others, of which only the table's (14) and a move's (16) have a place.
 pub fn place(
     file: &[u8],
     table: &[u8],
@@ -165,7 +161,7 @@ pub fn place(
     let unit = Unit::new(survey.num, survey.den, survey.mag, resolution)?;
     // 14
     let table = Table::check(table)?;
-    // 15: "page number outside 1 to the page count"
+    // 15
     if page < 1 || page as usize > survey.pages.len() {
         return Err(refusal(15, 0));
     }
@@ -187,12 +183,10 @@ pub fn place(
         if says == Meaning::EndPage {
             break;
         }
-        // "16: [...] place of that command"
         walked.obey(says).map_err(|Leaves| refusal(16, at))?;
         at = command.after;
     }
-    // 17: "output area shorter than the bytes to be written (in placing, 20 times the
-    // records)"; judged when the whole page has been walked.
+    // 17, which only a page walked to its end can tell.
     if area_bytes < 20 * walked.placed.records.len() as u64 {
         return Err(refusal(17, 0));
     }
@@ -230,8 +224,8 @@ impl Page<'_> {
                 }
                 self.down(self.registers.z)?;
             }
-            // "The standard lists only six; the pair is saved too, as DVItype does. The font
-            // is not saved."
+            // The pixels go with the units, although appendix A names the units only. The font
+            // stays as it is.
             Meaning::Push => self.stack.push(self.registers),
             Meaning::Pop => {
                 self.registers = self.stack.pop().expect("the check refuses a pop too many");
@@ -241,7 +235,7 @@ impl Page<'_> {
                 self.font = Some(font.expect("the check refuses an undefined font"));
             }
             Meaning::Special => self.placed.specials += 1,
-            // "with an empty stack and no font"
+            // Nothing comes over from an earlier page.
             Meaning::BeginPage { .. } => {
                 self.registers = FRESH;
                 self.stack.clear();
@@ -257,7 +251,7 @@ impl Page<'_> {
         Ok(())
     }
 
-    /// "Let s be the current font's scale, 0 while none is selected."
+    /// What moves are measured against; before a font is selected, no move is near.
     fn scale(&self) -> i64 {
         self.font.map_or(0, |font| i64::from(font.scale))
     }
@@ -274,18 +268,15 @@ impl Page<'_> {
 
     fn character(&mut self, code: i32, moves: bool) -> Result<(), Leaves> {
         let font = self.font.expect("the check refuses a character before a selection");
-        // "A font finds its records by check sum and s."
+        // The font's number has no part in this: the table serves many files.
         let Some(found) = self.table.look_up(font.check_sum, font.scale, code) else {
-            // "A character absent from the table gives no record, moves nothing and is
-            // counted as missing, by code mod 256 (0 to 255)."
+            // Without metrics it can neither be placed nor passed.
             self.placed.missing += 1;
             return Ok(());
         };
-        // "Characters: record at (hh, vv)"
         let font_number = u8::try_from(font.number).expect("font numbers are 0 to 255");
         let record = self.record(CHARACTER, font_number, code.into(), found.escapement.into());
         self.placed.records.push(record);
-        // "*put* forms move nothing."
         if moves {
             let width = scale_width(font.scale, found.width).expect("font and table are right");
             let escapement = i64::from(found.escapement);
@@ -295,13 +286,12 @@ impl Page<'_> {
     }
 
     fn rule(&mut self, height: i32, width: i32, moves: bool) -> Result<(), Leaves> {
-        // "A rule with a side <= 0 gives no record, yet *set_rule* moves."
+        // Without an area there is nothing to see, but its width may still have to be passed.
         if height > 0 && width > 0 {
             let unit = self.measure.unit;
             let record = self.record(RULE, 0, unit.rounded_up(height), unit.rounded_up(width));
             self.placed.records.push(record);
         }
-        // "Sideways by n, for any other command, *set_rule* included"
         if moves {
             self.sideways(width.into())?;
         }
@@ -323,8 +313,7 @@ impl Page<'_> {
     }
 }
 
-/// "one line a record: c or r, then page, font, hh, vv, and the last two fields (four-byte
-/// fields as signed numbers)"
+/// A record in print: a letter for its kind, the page before the font, the rest as it stands.
 pub fn record_line(record: &Record) -> String {
     let kind = if record[0] == CHARACTER { 'c' } else { 'r' };
     format!(
@@ -346,7 +335,8 @@ mod tests {
         Measure::new(Unit::new(254, 1, 1000, 300).unwrap(), 300)
     }
 
-    // "K 3/10, D 2, s 100: *right 5 six times gives h 30, hh 11; -5 six times, hh -11."
+    // Each of six near moves of one pixel and a half counts as two; the sum, 12, is pulled back
+    // to two beyond 9.
     #[test]
     fn right_five_six_times() {
         let measure = measure_three_tenths();
@@ -366,7 +356,7 @@ mod tests {
         }
     }
 
-    // "19 right is near, 20 is not; 89 left is near, 90 is not; 79 down is near, 80 is not."
+    // The furthest near move and the nearest far one, in every direction.
     #[test]
     fn near_and_far() {
         assert!(near_sideways(19, 100) && !near_sideways(20, 100));

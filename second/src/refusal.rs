@@ -1,4 +1,4 @@
-//! "A refusal is a number and a place."
+//! Why an input is turned down: which of the numbered reasons, and at which byte.
 
 #[derive(Debug, Clone, Copy, PartialEq, Eq)]
 pub struct Refusal {
@@ -7,10 +7,7 @@ pub struct Refusal {
 }
 
 pub fn refusal(number: u8, place: usize) -> Refusal {
-    Refusal {
-        number,
-        place: place as u64,
-    }
+    Refusal { number, place: place as u64 }
 }
 
 impl std::fmt::Display for Refusal {

@@ -9,7 +9,7 @@ pub struct Unit {
     pub q: u128,
 }
 
-/// "of a and b, go on with b and a mod b until b is zero"
+/// The greatest common divisor, by Euclid's rule.
 fn common_divisor(a: u128, b: u128) -> u128 {
     if b == 0 {
         a
@@ -18,7 +18,7 @@ fn common_divisor(a: u128, b: u128) -> u128 {
     }
 }
 
-/// The resolution R, judged: "resolution outside 1 to 10,000" is 12, place 0.
+/// Refuses (12) a resolution of 0 or above 10,000.
 pub fn check_resolution(resolution: u32) -> Result<(), Refusal> {
     if (1..=10_000).contains(&resolution) {
         Ok(())
@@ -28,26 +28,22 @@ pub fn check_resolution(resolution: u32) -> Result<(), Refusal> {
 }
 
 impl Unit {
-    /// "K = num x mag x R / (den x 1000 x 254000), R in dots per inch. Let P/Q be K in lowest
-    /// terms; 13 is given exactly if P > 1,073,741,823 or 2 x P > Q."
-    /// The three units are positive and R was judged. "products of the raw numbers pass 64
-    /// bits": 31 + 31 + 14 bits above and 31 + 28 below; 128 hold them.
+    /// How many pixels one DVI unit measures, as a cancelled fraction. Refused (13) where P
+    /// takes more than 30 bits or K is above one half. The callers have judged the numbers
+    /// given: 31 + 31 + 14 bits stand above the line and 31 + 28 below, and 128 hold them.
     pub fn new(num: i32, den: i32, mag: i32, resolution: u32) -> Result<Unit, Refusal> {
         let positive = |number: i32| u128::try_from(number).expect("a positive number");
         let above = positive(num) * positive(mag) * u128::from(resolution);
         let below = positive(den) * 1000 * 254_000;
         let divisor = common_divisor(above, below);
-        let unit = Unit {
-            p: above / divisor,
-            q: below / divisor,
-        };
+        let unit = Unit { p: above / divisor, q: below / divisor };
         if unit.p > 1_073_741_823 || 2 * unit.p > unit.q {
             return Err(refusal(13, 0));
         }
         Ok(unit)
     }
 
-    /// "Rounding n: the sign of n times the whole part of |K x n| + 1/2."
+    /// The pixel nearest to n units; a half goes away from zero.
     pub fn rounded(&self, n: i64) -> i64 {
         let size = u128::from(n.unsigned_abs());
         // |K x n| + 1/2 is (2 x P x |n| + Q) / (2 x Q).
@@ -60,7 +56,7 @@ impl Unit {
         }
     }
 
-    /// "A rule's sides are K x n rounded up." Only for n above 0.
+    /// How many pixels it takes to cover a rule's side of n units, n above 0.
     pub fn rounded_up(&self, n: i32) -> i64 {
         let n = u128::try_from(n).expect("a side above 0");
         let whole = (self.p * n).div_ceil(self.q);
@@ -68,8 +64,8 @@ impl Unit {
     }
 }
 
-/// "rounding takes num, den, mag, R and any signed 32-bit distance and gives 4 (one of the
-/// three units not positive), 12, 13 in that order, place 0"
+/// Rounding for a caller without a file: its units are judged as those of *pre* would be (4),
+/// then the resolution (12) and K (13). There is no byte to point at, so the place is 0.
 pub fn round_distance(num: i32, den: i32, mag: i32, resolution: u32, n: i32) -> Result<i64, Refusal> {
     if num <= 0 || den <= 0 || mag <= 0 {
         return Err(refusal(4, 0));

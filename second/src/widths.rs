@@ -4,22 +4,22 @@ use crate::fonts::GREATEST_SCALE;
 use crate::numbers::{signed, unsigned};
 use crate::refusal::{refusal, Refusal};
 
-/// "Width record, 16 bytes".
+/// The bytes that one record of the table takes.
 const RECORD: usize = 16;
 
-/// "the width's first byte is 0 or 255"
+/// From -16 to just below 16, a fix word's first byte does no more than repeat the sign.
 fn right_first_byte(byte: u8) -> bool {
     byte == 0 || byte == 255
 }
 
-/// "scaling [...] give[s] 14 (scaling with place 0, if the scale is outside 1 to 134,217,727
-/// or the first width byte is not 0 or 255)"
+/// The fix word times the font's scale, in the very steps that TeX takes, so that no unit is
+/// lost against it. Refused (14) where the steps are not made for the scale or the fix word.
 pub fn scale_width(s: u32, width: [u8; 4]) -> Result<i64, Refusal> {
     if !(1..=GREATEST_SCALE).contains(&s) || !right_first_byte(width[0]) {
         return Err(refusal(14, 0));
     }
-    // "z is s and alpha is 16; while z >= 8,388,608 halve z downwards and double alpha;
-    // beta = 256 / alpha."
+    // A great scale is cut to 23 bits, so that its products fit 32; alpha and beta make up
+    // for the bits lost.
     let mut z = i64::from(s);
     let mut alpha: i64 = 16;
     while z >= 8_388_608 {
@@ -28,12 +28,11 @@ pub fn scale_width(s: u32, width: [u8; 4]) -> Result<i64, Refusal> {
     }
     let beta = 256 / alpha;
     let [b0, b1, b2, b3] = width.map(i64::from);
-    // "b3 x z / 256, plus b2 x z, / 256, plus b1 x z, / beta, each division downwards"
-    // None of the numbers divided is negative.
+    // From the last byte to the second. Nothing divided is negative, so `/` rounds down.
     let mut scaled = b3 * z / 256;
     scaled = (scaled + b2 * z) / 256;
     scaled = (scaled + b1 * z) / beta;
-    // "if b0 is 255 subtract alpha x z, with the last alpha and z."
+    // The three bytes of a negative fix word count upwards from -16.
     if b0 == 255 {
         scaled -= alpha * z;
     }
@@ -55,8 +54,8 @@ pub struct Table<'a> {
 }
 
 impl<'a> Table<'a> {
-    /// 14: "width table wrong; place of the first wrong record's first byte".
-    /// "An empty table is right."
+    /// Judges the records in turn and refuses (14) at the start of the first bad one. No bytes
+    /// at all are a table without records.
     pub fn check(bytes: &'a [u8]) -> Result<Table<'a>, Refusal> {
         let records: Vec<&[u8]> = bytes.chunks(RECORD).collect();
         for (index, record) in records.iter().enumerate() {
@@ -72,20 +71,16 @@ impl<'a> Table<'a> {
         self.records.len()
     }
 
-    /// "looking up a character (by check sum, scale, code mod 256: escapement, fix word)".
-    /// "Looking up an absent character is a result named absent."
+    /// The metrics of a font's character, or none where the table lacks it. Only the last byte
+    /// of the code counts.
     pub fn look_up(&self, check_sum: u32, scale: u32, code: i32) -> Option<Found> {
-        // "by code mod 256 (0 to 255)"
         let code = code.rem_euclid(256) as u8;
         let mut sought = [0; 9];
         sought[0..4].copy_from_slice(&check_sum.to_be_bytes());
         sought[4..8].copy_from_slice(&scale.to_be_bytes());
         sought[8] = code;
-        // The first nine bytes rise strictly, so they can be sought by halving.
-        let index = self
-            .records
-            .binary_search_by(|record| record[0..9].cmp(&sought[..]))
-            .ok()?;
+        // Keys are in order and none comes twice, so halving finds the one sought.
+        let index = self.records.binary_search_by(|record| record[0..9].cmp(&sought[..])).ok()?;
         let record = self.records[index];
         Some(Found {
             escapement: signed(&record[10..12]),
@@ -94,14 +89,14 @@ impl<'a> Table<'a> {
     }
 }
 
-/// "check sum 4, scale 4, code 1, zero 1, escapement in pixels 2 (signed), width 4"
+/// A record holds the check sum (bytes 0 to 3), the scale (4 to 7), the code (8), a zero (9),
+/// the escapement (10 and 11) and the fix word (12 to 15). Bytes 0 to 8 are its key, which
+/// must be greater than the key before.
 fn right_record(record: &[u8], before: Option<&[u8]>) -> bool {
-    // "Bytes left over after whole records are a wrong record."
+    // The table's end may cut its last record short.
     if record.len() != RECORD {
         return false;
     }
-    // "The first nine bytes rise strictly from record to record, as bytes; scale is 1 to
-    // 134,217,727; the zero byte is 0; the width's first byte is 0 or 255."
     let rises = before.is_none_or(|before| before[0..9] < record[0..9]);
     rises
         && (1..=GREATEST_SCALE).contains(&unsigned(&record[4..8]))
