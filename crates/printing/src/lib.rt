@@ -9,10 +9,6 @@ pub fn text(bytes: &[u8]) {
     io::write_all(STDOUT_FILENO, bytes);
 }
 
-pub fn count(n: u64) {
-    io::print_decimal(STDOUT_FILENO, n);
-}
-
 // |n|, of every i64
 fn size(n: i64) -> u64
     ensures { λ r. ⌜ r ≡ natAbs n ⌝ }
@@ -22,13 +18,6 @@ fn size(n: i64) -> u64
     } else {
         n as u64
     }
-}
-
-pub fn number(n: i64) {
-    if n < 0 {
-        text(b"-");
-    }
-    count(size(n));
 }
 
 pub fn refused(number: u8, place: usize) {
