@@ -58,7 +58,7 @@ pub record Reads (file : List ℕ) (at : ℕ) (r : Reading) : Type 0 where
   pub ahead : front (drop at file) ≡ whole (commandAt file r) (drop (r .next) file)
 
 -- what a refusal tells: the file ends where a command should be, or an opcode of no command stands there
-pub record Refuses (file : List ℕ) (at number place : ℕ) : Type 0 where
+pub record ReadRefuses (file : List ℕ) (at number place : ℕ) : Type 0 where
   pub place-is : place ≡ at
   pub reason : ((number ≡ fileEnds) × (front (drop at file) ≡ cut)) ⊎ ((number ≡ undefinedOpcode) × (front (drop at file) ≡ undefined))
 
@@ -91,10 +91,10 @@ module _ (file : List ℕ) (at : ℕ) where
           let reading-is : record { opcode = c .opcode; start = at + 1; next = at + 1 + length (c .params) } ≡ r = cc in
           rw (← reading-is) (whole-reads c rest f)
 
-  pub refused-reads : (number place : ℕ) → readAt file at ≡ refused number place → Refuses file at number place
+  pub refused-reads : (number place : ℕ) → readAt file at ≡ refused number place → ReadRefuses file at number place
   refused-reads number place e = go (front (drop at file)) refl e
     where
-      go : (x : Front) → front (drop at file) ≡ x → reading at x ≡ refused number place → Refuses file at number place
+      go : (x : Front) → front (drop at file) ≡ x → reading at x ≡ refused number place → ReadRefuses file at number place
       go cut f e = record { place-is = cc; reason = inl (cc, f) }
       go undefined f e = record { place-is = cc; reason = inr (cc, f) }
       go (whole c rest) f e = let z : _≡_ {A = ℕ} 0 1 = cc in absurd (omega arith)

@@ -19,7 +19,7 @@ use Rattle.widths.specs.Table.{checkedTable}
 use Rattle.commands.specs.Reading.{longestFile}
 use Rattle.volume.specs.declared.Volume.{Volume}
 use Rattle.volume.specs.Past.{num, den, mag}
-use Rattle.volume.specs.Steps.{bopOf, stateOf, summaryOf}
+use Rattle.volume.specs.Steps.{bopOf, volumeOf, summaryOf}
 use Rattle.volume.specs.Judged.{judged}
 use Rattle.volume.specs.History.{history}
 use Rattle.volume.proofs.Accepts.{accepts-lawful}
@@ -178,7 +178,7 @@ drift-bound resolution = by (leb 200 resolution) (leb 100 resolution)
     by false false = omega arith
 
 module _ {file : List ℕ} {page : ℕ} {fonts : List ℕ} {v : Volume} (held : Held file page fonts v) where
-  state-is : v ≡ stateOf page (history file)
+  state-is : v ≡ volumeOf page (history file)
   state-is = held .keeps .0
 
   -- the file's units

@@ -24,7 +24,7 @@ use Rattle.volume.specs.declared.Volume.{Volume}
 use Rattle.volume.specs.declared.Scanned.the-variants as Scanned
 use Rattle.volume.specs.Judged.{judged}
 use Rattle.volume.specs.History.{history}
-use Rattle.volume.specs.Steps.{Tells, AllStanding, Lawfully, summaryOf, Kept}
+use Rattle.volume.specs.Steps.{Tells, AllStanding, Lawfully, summaryOf, ScanKeeps}
 use Rattle.state.specs.declared.Level.{Level}
 use Rattle.state.specs.declared.Font.{Font}
 use Rattle.state.specs.declared.moving.Direction.the-variants as Direction
@@ -323,7 +323,7 @@ pub record Ready (file fonts table : List ℕ) (terms : Terms) (start : ℕ) : T
 -- what a scan holds of an accepted file
 pub record Held (file : List ℕ) (page : ℕ) (fonts : List ℕ) (v : Volume) : Type 0 where
   pub judgement : judged file ≡ given (summaryOf v)
-  pub keeps : Kept file page fonts (Scanned.Accepted v)
+  pub keeps : ScanKeeps file page fonts (Scanned.Accepted v)
 
 -- what the code's answer says
 abbrev pub placeAnswer : PagePlaced → Answer Counts

@@ -87,7 +87,7 @@ fault-low past c =
     by false false false false false false true = omega arith
     by false false false false false false false = omega arith
 
-refuses-low : {past : List Command} {bytes : List ℕ} {number at : ℕ} → check.Refuses past bytes number at → number ≤ 11
+refuses-low : {past : List Command} {bytes : List ℕ} {number at : ℕ} → check.RefusesAt past bytes number at → number ≤ 11
 refuses-low (ends-early none low) = omega arith
 refuses-low (strange opcode rest high) = omega arith
 refuses-low (breaks {past = past} c rest w broken positive) = omega (arith, broken, fault-low past c)

@@ -20,7 +20,7 @@ use Rattle.volume.specs.Rules.{lawfulFont, lawfulSize, says, Allowed}
 use Rattle.volume.specs.Lawful.{Keeps}
 use Rattle.volume.proofs.SameBytes.{same-true}
 use Rattle.volume.proofs.FontTables.{lawful-in, defines-kind}
-use Rattle.promises.proofs.Volumes.{Standing, Kept, no-more, and-one, kept-there, is-there, Right, right}
+use Rattle.promises.proofs.Volumes.{StandsAmong, PastKeeps, no-more, and-one, kept-there, is-there, Right, right}
 
 -- ---- how many numbers pass a test
 
@@ -92,7 +92,7 @@ tally-none zero = refl
 tally-none (suc n) = tally-none n
 
 -- the fonts are counted, each once
-counted : {past : List Command} (after : Bool) (bound : ℕ) → 256 ≤ bound → Kept past → fontCount after past ≡ tally (has after past) bound
+counted : {past : List Command} (after : Bool) (bound : ℕ) → 256 ≤ bound → PastKeeps past → fontCount after past ≡ tally (has after past) bound
 counted after bound enough no-more = sym (tally-none bound)
 counted after bound enough (and-one {past = past} {c = c} kept allowed) = by (defines after (stage past) (kindOfCommand c)) refl (counted after bound enough kept)
   where
@@ -120,7 +120,7 @@ counted after bound enough (and-one {past = past} {c = c} kept allowed) = by (de
 -- ---- before post and after it
 
 -- a definition after post says what the one before it says
-agreed : {past : List Command} → Kept past → (number : ℤ) {at : ℕ} {d : Command} → definitionOf true number past ≡ stands at d → says (definitionOf false number past) (body d) ≡ true
+agreed : {past : List Command} → PastKeeps past → (number : ℤ) {at : ℕ} {d : Command} → definitionOf true number past ≡ stands at d → says (definitionOf false number past) (body d) ≡ true
 agreed no-more number e = absurd (false≢true (ap isDefined e))
 agreed (and-one {past = past} {c = c} kept allowed) number {at} {d} e =
     by (defines true (stage past) (kindOfCommand c)) refl (defines false (stage past) (kindOfCommand c)) refl (sameNumber (fontNumber c) number) refl e (agreed kept number)
@@ -142,7 +142,7 @@ agreed (and-one {past = past} {c = c} kept allowed) number {at} {d} e =
     by false l false e same s q before = before q
 
 -- only fonts with a lawful number are defined
-lawfully : {past : List Command} → Kept past → (number : ℤ) → isDefined (definitionOf false number past) ≡ true → lawfulFont number ≡ true
+lawfully : {past : List Command} → PastKeeps past → (number : ℤ) → isDefined (definitionOf false number past) ≡ true → lawfulFont number ≡ true
 lawfully no-more number t = absurd (true≢false (sym t))
 lawfully (and-one {past = past} {c = c} kept allowed) number t =
     by (defines false (stage past) (kindOfCommand c)) refl (sameNumber (fontNumber c) number) refl t (lawfully kept number)
@@ -159,7 +159,7 @@ says-there none bytes e = e
 says-there (stands at d) bytes e = refl
 
 -- where as many fonts are defined after post as before it, they are the same
-none-left-out : {past : List Command} → Kept past → (bound : ℕ) → 256 ≤ bound → fontCount true past ≡ fontCount false past
+none-left-out : {past : List Command} → PastKeeps past → (bound : ℕ) → 256 ≤ bound → fontCount true past ≡ fontCount false past
     → (number : ℤ) → isDefined (definitionOf false number past) ≡ true → isDefined (definitionOf true number past) ≡ true
 none-left-out {past} kept bound enough as-many number t = by (isDefined (definitionOf true number past)) refl
   where
@@ -184,7 +184,7 @@ none-left-out {past} kept bound enough as-many number t = by (isDefined (definit
         absurd (omega (arith, one-more, no-more-than, counted true bound enough kept, counted false bound enough kept))
 
 -- at most 64 fonts, whatever commands keep the rules
-few-fonts : {past : List Command} → Kept past → fontCount false past ≤ 64
+few-fonts : {past : List Command} → PastKeeps past → fontCount false past ≤ 64
 few-fonts no-more = omega arith
 few-fonts (and-one {past = past} {c = c} kept allowed) = by (defines false (stage past) (kindOfCommand c)) refl (few-fonts kept)
   where
@@ -198,7 +198,7 @@ size-in-range size e = let both = and-eq-true-iff (leb 1 size) (leb size 1342177
 
 -- ---- the rules
 
-module _ {cs : List Command} (keeps : Keeps cs) {past : List Command} {c : Command} (there : Standing cs past c) where
+module _ {cs : List Command} (keeps : Keeps cs) {past : List Command} {c : Command} (there : StandsAmong cs past c) where
   -- "number 0 to 255"
   pub number-in-range : kindOfCommand c ≡ Define → (n : ℕ) × (n ≤ 255) × (fontNumber c ≡ pos n)
   number-in-range k = let (sign, small, named) = lawful-in (fontNumber c) (right (kept-there keeps there .1) k .number) in (natAbs (fontNumber c), omega (arith, small), sym named)

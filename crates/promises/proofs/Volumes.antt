@@ -85,16 +85,16 @@ pub data StandsAfter (past : List Command) (c : Command) : List Command → List
       → StandsAfter past c before (d ∷ cs)
 
 -- c stands in the list cs, up to and with its post_post, and past are the commands before it, the newest first
-abbrev pub Standing : List Command → List Command → Command → Type 0
-Standing cs past c = StandsAfter past c [] cs
+abbrev pub StandsAmong : List Command → List Command → Command → Type 0
+StandsAmong cs past c = StandsAfter past c [] cs
 
 -- the commands of past, the newest first, keep the rules
-pub data Kept : List Command → Type 0 where
-  no-more : Kept []
-  and-one : {past : List Command} {c : Command} → Kept past → Allowed past c → Kept (c ∷ past)
+pub data PastKeeps : List Command → Type 0 where
+  no-more : PastKeeps []
+  and-one : {past : List Command} {c : Command} → PastKeeps past → Allowed past c → PastKeeps (c ∷ past)
 
 -- what stands in a list that goes on by the rules keeps them
-standing-kept : {before cs past : List Command} {c : Command} → Kept before → Follows before cs → StandsAfter past c before cs → Kept past × Allowed past c
+standing-kept : {before cs past : List Command} {c : Command} → PastKeeps before → Follows before cs → StandsAfter past c before cs → PastKeeps past × Allowed past c
 standing-kept kept (ends n w allowed last enough) first = (kept, allowed)
 standing-kept kept (ends n w allowed last enough) (later not-last there) = absurd (true≢false (sym last ∙ not-last))
 standing-kept kept (goes w allowed not-last follows) first = (kept, allowed)
@@ -108,13 +108,13 @@ last-stands (goes w allowed not-last follows) = let (past, c, there, k, e) = las
 
 -- "then post_post": one stands in each list that keeps the rules, after all the others
 pub post-post-stands : {cs : List Command} → Keeps cs
-    → (past : List Command) × (c : Command) × Standing cs past c × (kindOfCommand c ≡ PostPost) × (upToLast [] cs ≡ c ∷ past)
+    → (past : List Command) × (c : Command) × StandsAmong cs past c × (kindOfCommand c ≡ PostPost) × (upToLast [] cs ≡ c ∷ past)
 post-post-stands keeps = last-stands keeps
 
 -- ---- the depth
 
 -- at most 100, whatever commands keep the rules
-deep : {past : List Command} → Kept past → depth past ≤ 100
+deep : {past : List Command} → PastKeeps past → depth past ≤ 100
 deep no-more = omega arith
 deep (and-one {past = past} {c = c} kept allowed) = by (isA Push c) refl (isA Pop c) (deep kept)
   where
@@ -162,7 +162,7 @@ does-lawfully {past} {c} allowed = rw (by (isAtStart (stage past)) refl) at (all
     by false e = not-false (mayStand (stage past) (kindOfCommand c)) (allowed .standing)
 
 -- a page has begun only where one is counted
-some-page : {past : List Command} → Kept past → begun (stage past) ≡ true → 1 ≤ pages past
+some-page : {past : List Command} → PastKeeps past → begun (stage past) ≡ true → 1 ≤ pages past
 some-page no-more e = absurd (true≢false (sym e))
 some-page (and-one {past = past} {c = c} kept allowed) e =
     by (isA Bop c) (sym (ap (λ (a : Bool × Bool × Bool). a .0) (does-lawfully allowed)) ∙ e) (some-page kept)
@@ -172,7 +172,7 @@ some-page (and-one {past = past} {c = c} kept allowed) e =
     by false e before = before e
 
 -- a whole list keeps the rules, to its end
-whole-kept : {before cs : List Command} → Kept before → Follows before cs → Kept (upToLast before cs) × (stage (upToLast before cs) ≡ AfterEnd)
+whole-kept : {before cs : List Command} → PastKeeps before → Follows before cs → PastKeeps (upToLast before cs) × (stage (upToLast before cs) ≡ AfterEnd)
 whole-kept kept (ends {c = c} n w allowed last enough) = rw last (and-one kept allowed, rw (is-kind (kindOfCommand c) PostPost last))
 whole-kept kept (goes w allowed not-last follows) = rw not-last (whole-kept (and-one kept allowed) follows)
 
@@ -181,7 +181,7 @@ pub one-page-at-least : {cs : List Command} → Keeps cs → 1 ≤ pages (upToLa
 one-page-at-least keeps = let (kept, end) = whole-kept no-more keeps in some-page kept (ap begun end)
 
 -- nothing stands before a pre
-only-pre : {past : List Command} {c : Command} → Kept past → Allowed past c → kindOfCommand c ≡ Pre → past ≡ []
+only-pre : {past : List Command} {c : Command} → PastKeeps past → Allowed past c → kindOfCommand c ≡ Pre → past ≡ []
 only-pre no-more allowed k = refl
 only-pre {past} (and-one kept earlier) allowed k =
     let begun-yet : isAtStart (stage past) ≡ false = ap (λ (a : Bool × Bool × Bool). a .1) (does-lawfully earlier) in
@@ -227,9 +227,9 @@ right {past} {c} allowed k =
       early = λ t. (not-there _ (before t .0), ltb-true (fontCount false past) 64 (before t .1));
     }
 
-module _ {cs : List Command} (keeps : Keeps cs) {past : List Command} {c : Command} (there : Standing cs past c) where
+module _ {cs : List Command} (keeps : Keeps cs) {past : List Command} {c : Command} (there : StandsAmong cs past c) where
   -- the commands before it and it itself keep the rules
-  pub kept-there : Kept past × Allowed past c
+  pub kept-there : PastKeeps past × Allowed past c
   kept-there = standing-kept no-more keeps there
 
   -- "pre once, at place 0"

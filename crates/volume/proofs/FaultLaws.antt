@@ -15,7 +15,7 @@ use Rattle.volume.specs.declared.Stage.the-variants.{AtStart, BeforePage
 use Rattle.volume.specs.declared.Volume.{Volume}
 use Rattle.volume.specs.Past.{isA, stage}
 use Rattle.volume.specs.Rules.{isAtStart, lawfulPreamble, preambleWrong, misplaced, depthWrong, definitionWrong, fontMissing, pointerWrong, postambleWrong, fault, Allowed}
-use Rattle.volume.specs.Steps.{command, stateOf, firstFault, standingOr, depthFault, definitionFault, selectionFault, characterFault, bopFault, postFault, endFault}
+use Rattle.volume.specs.Steps.{command, volumeOf, firstFault, standingOr, depthFault, definitionFault, selectionFault, characterFault, bopFault, postFault, endFault}
 use Rattle.volume.proofs.Arms.{is-kind}
 
 -- what the rules after 5 say of a command by its kind, of which the code holds v
@@ -78,7 +78,7 @@ module _ (past : List Command) (c : Command) where
     fault-at-start = fault-first (isA Pre c) refl
 
   module _ (begun : isAtStart (stage past) ≡ false) where
-    pub fault-later : (page : ℕ) (k : Kind) → kindOfCommand c ≡ k → fault past c ≡ standingOr (stage past) k (laterFault (stateOf page past) past c k)
+    pub fault-later : (page : ℕ) (k : Kind) → kindOfCommand c ≡ k → fault past c ≡ standingOr (stage past) k (laterFault (volumeOf page past) past c k)
     fault-later page SetCharacter e = rw (begun, e)
     fault-later page SetRule e = rw (begun, e)
     fault-later page PutCharacter e = rw (begun, e)
@@ -128,7 +128,7 @@ module _ (past : List Command) (c : Command) where
 
 -- ---- where the code holds v of the commands so far
 
-module _ (page : ℕ) (past : List Command) {v : Volume} (held : v ≡ stateOf page past) {kind : Kind} (opcode : ℕ) (kind-is : kind ≡ kindOf opcode) (params : List ℕ) where
+module _ (page : ℕ) (past : List Command) {v : Volume} (held : v ≡ volumeOf page past) {kind : Kind} (opcode : ℕ) (kind-is : kind ≡ kindOf opcode) (params : List ℕ) where
   module _ {starts : Bool} (starts-is : starts ≡ isAtStart (v .stage)) where
     start-of : isAtStart (stage past) ≡ starts
     start-of = sym (starts-is ∙ ap (λ (w : Volume). isAtStart (w .stage)) held)

@@ -19,7 +19,7 @@ use Rattle.state.specs.Limits.{mostFonts}
 use Rattle.volume.specs.declared.Stage.{Stage}
 use Rattle.volume.specs.Past.{place, stage, isAfterPost, defines, fontNumber, Definition, none, stands, definitionOf, isDefined, fontCount}
 use Rattle.volume.specs.Rules.{lawfulFont, lawfulSize, says, lawfulDefinition}
-use Rattle.volume.specs.Steps.{command, entryOf, Tells, Standing, SayingIs}
+use Rattle.volume.specs.Steps.{command, entryOf, Tells, StandsIn, SayingIs}
 use Rattle.volume.proofs.Arms.{is-kind}
 
 -- ---- the numbers of a table's entries
@@ -75,7 +75,7 @@ module _ {after : Bool} {table : List ℕ} {past : List Command} (tells : Tells 
         go (stands at c) e = absurd (omega (arith, told-entry ∙ ap entryOf e, entry-is))
 
     -- what is read where the entry points is the definition that stands there
-    pub told-says : (file : List ℕ) → ((n : ℕ) → Standing file (definitionOf after (pos n) past)) → (entry ≡ 0 → ⊥)
+    pub told-says : (file : List ℕ) → ((n : ℕ) → StandsIn file (definitionOf after (pos n) past)) → (entry ≡ 0 → ⊥)
         → (said : List ℕ) (r : Bool) → SayingIs file (entry - 1) said r → r ≡ says (definitionOf after number past) said
     told-says file standing some said r saying = go (definitionOf after number past) refl
       where
@@ -83,7 +83,7 @@ module _ {after : Bool} {table : List ℕ} {past : List Command} (tells : Tells 
         go none e = absurd (some (entry-is ∙ told-entry ∙ ap entryOf e))
         go (stands at c) e =
             let (sign, small, same) = lawful-in number lawful in
-            let (rest, ahead) = subst (λ (d : Definition). Standing file d) (ap (λ (n : ℤ). definitionOf after n past) same ∙ e) (standing (natAbs number)) in
+            let (rest, ahead) = subst (λ (d : Definition). StandsIn file d) (ap (λ (n : ℤ). definitionOf after n past) same ∙ e) (standing (natAbs number)) in
             let points : entry - 1 ≡ at = omega (arith, entry-is, told-entry ∙ ap entryOf e) in
             saying c rest (rw points ahead) (definition-kind after number past e)
 

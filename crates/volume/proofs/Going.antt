@@ -22,7 +22,7 @@ use Rattle.volume.specs.Past.{isA, place, stage, selected, fontNumber}
 use Rattle.volume.specs.Rules.{lawfulFont, lawfulDefinition, fontLeftOut, fault}
 use Rattle.volume.specs.Judged.{summary, tail, judgedFrom, judged}
 use Rattle.volume.specs.History.{historyFrom, history}
-use Rattle.volume.specs.Steps.{stateOf, afterOf, tableAfter, Tells, Agrees, Going, isPlain, Passes, none-more, one-more}
+use Rattle.volume.specs.Steps.{volumeOf, afterOf, tableAfter, Tells, Agrees, Going, isPlain, Passes, none-more, one-more}
 use Rattle.volume.proofs.FaultLaws.{all-kept}
 use Rattle.volume.proofs.Turns.{judged-cut, judged-undefined, judged-faulty, judged-last, judged-onward, history-last, history-onward}
 use Rattle.volume.proofs.Bounds.{depth-reached}
@@ -40,7 +40,7 @@ lawful-number past c clean t = first (isA Define c) t (lawfulDefinition past c) 
 
 -- ---- the start
 
-pub starting : (file : List ℕ) (page : ℕ) → length file ≤ longestFile → Going file page (stateOf page []) (replicate 256 0) (replicate 256 0)
+pub starting : (file : List ℕ) (page : ℕ) → length file ≤ longestFile → Going file page (volumeOf page []) (replicate 256 0) (replicate 256 0)
 unfolding judged history
 starting file page h =
     record {

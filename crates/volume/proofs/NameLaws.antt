@@ -14,7 +14,7 @@ use Rattle.volume.specs.declared.Part.{Part}
 use Rattle.volume.specs.Past.{Definition, none, stands, definitionOf}
 use Rattle.volume.specs.Rules.{lawfulFont}
 use Rattle.volume.specs.Names.{namePart, namedBy}
-use Rattle.volume.specs.Steps.{entryOf, Tells, Standing, AllStanding, Lawfully, sayingPart, SayingAt}
+use Rattle.volume.specs.Steps.{entryOf, Tells, StandsIn, AllStanding, Lawfully, sayingPart, SayingAt}
 use Rattle.volume.proofs.FontTables.{lawful-in, definition-kind, told-entry, told-none}
 use Rattle.volume.proofs.Sayings.{body-long, body-all}
 
@@ -36,9 +36,9 @@ module _ (file fonts : List ℕ) (number : ℤ) (past : List Command) (tells : T
     pub kind-is : kindOfCommand c ≡ Define
 
   pub leads : (getD fonts (natAbs number) 0 ≡ 0 → ⊥) → Leads (getD fonts (natAbs number) 0 - 1)
-  leads some = by (definitionOf false number past) refl (subst (λ (z : ℤ). Standing file (definitionOf false z past)) (lawful-in number lawful .2) (standing (natAbs number)))
+  leads some = by (definitionOf false number past) refl (subst (λ (z : ℤ). StandsIn file (definitionOf false z past)) (lawful-in number lawful .2) (standing (natAbs number)))
     where
-      by : (d : Definition) → definitionOf false number past ≡ d → Standing file d → Leads (getD fonts (natAbs number) 0 - 1)
+      by : (d : Definition) → definitionOf false number past ≡ d → StandsIn file d → Leads (getD fonts (natAbs number) 0 - 1)
       by none q s = absurd (some (told-entry tells number lawful ∙ ap entryOf q))
       by (stands at c) q s =
           let e : getD fonts (natAbs number) 0 ≡ at + 1 = told-entry tells number lawful ∙ ap entryOf q in

@@ -25,24 +25,24 @@ use Rattle.volume.proofs.FaultLaws.{none-broken, all-kept}
 use Rattle.volume.proofs.Accepts.{refused-given}
 
 -- after the commands before, the bytes cannot go on by the rules: the number and the place
-pub data Refuses : List Command → List ℕ → ℕ → ℕ → Type 0 where
+pub data RefusesAt : List Command → List ℕ → ℕ → ℕ → Type 0 where
   -- 2: no whole command stands there, and no opcode of 250 or more
   ends-early : {past : List Command} {bytes : List ℕ} → ((c : Command) (rest : List ℕ) → Whole c → bytes ≡ form c ++ rest → ⊥) → getD bytes 0 0 < 250
-      → Refuses past bytes fileEnds (place past)
+      → RefusesAt past bytes fileEnds (place past)
   -- 3: an opcode of 250 or more
-  strange : {past : List Command} (opcode : ℕ) (rest : List ℕ) → 250 ≤ opcode → Refuses past (opcode ∷ rest) undefinedOpcode (place past)
+  strange : {past : List Command} (opcode : ℕ) (rest : List ℕ) → 250 ≤ opcode → RefusesAt past (opcode ∷ rest) undefinedOpcode (place past)
   -- 4 to 10: a whole command, and the lowest number that applies to it
   breaks : {past : List Command} {number : ℕ} (c : Command) (rest : List ℕ) → Whole c → fault past c ≡ number → 0 < number
-      → Refuses past (form c ++ rest) number (place past)
+      → RefusesAt past (form c ++ rest) number (place past)
   -- 11: after post_post, a byte other than 223; its place
   other-byte : {past : List Command} (c : Command) (n byte : ℕ) (rest : List ℕ) → Whole c → Allowed past c → isA PostPost c ≡ true → (byte ≡ 223 → ⊥)
-      → Refuses past (form c ++ (written (fillers n) ++ (byte ∷ rest))) wrongTail (place (c ∷ past) + n)
+      → RefusesAt past (form c ++ (written (fillers n) ++ (byte ∷ rest))) wrongTail (place (c ∷ past) + n)
   -- 11: or else fewer than four 223s; the place after them
   too-few : {past : List Command} (c : Command) (n : ℕ) → Whole c → Allowed past c → isA PostPost c ≡ true → n < 4
-      → Refuses past (form c ++ written (fillers n)) wrongTail (place (c ∷ past) + n)
+      → RefusesAt past (form c ++ written (fillers n)) wrongTail (place (c ∷ past) + n)
   -- a whole command that keeps the rules, and the rest refuses
   later : {past : List Command} {number at : ℕ} (c : Command) (rest : List ℕ) → Whole c → Allowed past c → isA PostPost c ≡ false
-      → Refuses (c ∷ past) rest number at → Refuses past (form c ++ rest) number at
+      → RefusesAt (c ∷ past) rest number at → RefusesAt past (form c ++ rest) number at
 
 -- ---- what cannot go on is refused
 
@@ -54,7 +54,7 @@ no-front bytes none-whole low = go (front bytes) refl
     go undefined e = absurd (omega (arith, undefined-first bytes e .1))
     go (whole c rest) e = let (w, forms) = front-sound bytes c rest e in absurd (none-whole c rest w forms)
 
-pub refused-is : {past : List Command} {bytes : List ℕ} {number at : ℕ} → Refuses past bytes number at → (left : ℕ) → length bytes < left
+pub refused-is : {past : List Command} {bytes : List ℕ} {number at : ℕ} → RefusesAt past bytes number at → (left : ℕ) → length bytes < left
     → judgedFrom left past bytes ≡ refused number at
 refused-is r zero h = absurd (omega arith)
 refused-is (ends-early {past = past} {bytes = bytes} none-whole low) (suc left) h = judged-cut left past bytes (no-front bytes none-whole low)
@@ -84,7 +84,7 @@ cut-low (opcode ∷ rest) e = ⊎-elim (λ low. low) high (below-or-not opcode 2
 
 -- one answer has one number and one place
 same-refusal : {past : List Command} {bytes : List ℕ} {number at number′ at′ : ℕ} {x : Answer Summary}
-    → x ≡ refused number at → x ≡ refused number′ at′ → Refuses past bytes number at → Refuses past bytes number′ at′
+    → x ≡ refused number at → x ≡ refused number′ at′ → RefusesAt past bytes number at → RefusesAt past bytes number′ at′
 same-refusal {number = number} {at = at} {number′ = number′} {at′ = at′} e q r =
     let numbers : number ≡ number′ = cc in
     let places : at ≡ at′ = cc in
@@ -98,33 +98,33 @@ module _ {past : List Command} (number at : ℕ) (c : Command) (rest : List ℕ)
   abbrev after : ℕ
   after = place (c ∷ past)
 
-  by-ending : Ending rest → Refuses past (form c ++ rest) number at
+  by-ending : Ending rest → RefusesAt past (form c ++ rest) number at
   by-ending (ended n q) = ⊎-elim few enough (below-or-not n 4)
     where
-      few : n < 4 → Refuses past (form c ++ rest) number at
+      few : n < 4 → RefusesAt past (form c ++ rest) number at
       few h = same-refusal (fillers-few found after n q h) e (rw q (too-few c n w allowed last h))
 
-      enough : 4 ≤ n → Refuses past (form c ++ rest) number at
+      enough : 4 ≤ n → RefusesAt past (form c ++ rest) number at
       enough h = absurd (refused-given e (fillers-enough found after n q h))
   by-ending (other n byte bytes q h) = same-refusal (fillers-wrong found after n byte bytes q h) e (rw q (other-byte c n byte bytes w allowed last h))
 
-  tail-refuses : Refuses past (form c ++ rest) number at
+  tail-refuses : RefusesAt past (form c ++ rest) number at
   tail-refuses = by-ending (ending rest)
 
 pub is-refused : (left : ℕ) (past : List Command) (bytes : List ℕ) (number at : ℕ) → length bytes < left → judgedFrom left past bytes ≡ refused number at
-    → Refuses past bytes number at
+    → RefusesAt past bytes number at
 is-refused zero past bytes number at h e = absurd (omega arith)
 is-refused (suc left) past bytes number at h e = go (turn past bytes) (λ c rest. is-refused left (c ∷ past) rest number at)
   where
     none-whole : front bytes ≡ cut → (c : Command) (rest : List ℕ) → Whole c → bytes ≡ form c ++ rest → ⊥
     none-whole f c rest w forms = let z : _≡_ {A = ℕ} 0 1 = cc (ap front forms ∙ front-written c rest w) in omega arith
 
-    undefined-stands : (bytes : List ℕ) → front bytes ≡ undefined → Refuses past bytes undefinedOpcode (place past)
+    undefined-stands : (bytes : List ℕ) → front bytes ≡ undefined → RefusesAt past bytes undefinedOpcode (place past)
     undefined-stands [] f = let z : _≡_ {A = ℕ} 0 1 = cc in absurd (omega arith)
     undefined-stands (opcode ∷ rest) f = strange opcode rest (undefined-first (opcode ∷ rest) f .1)
 
-    go : Turn past bytes → ((c : Command) (rest : List ℕ) → length rest < left → judgedFrom left (c ∷ past) rest ≡ refused number at → Refuses (c ∷ past) rest number at)
-        → Refuses past bytes number at
+    go : Turn past bytes → ((c : Command) (rest : List ℕ) → length rest < left → judgedFrom left (c ∷ past) rest ≡ refused number at → RefusesAt (c ∷ past) rest number at)
+        → RefusesAt past bytes number at
     go (at-cut f) onwards = same-refusal (judged-cut left past bytes f) e (ends-early (none-whole f) (cut-low bytes f))
     go (at-undefined f) onwards = same-refusal (judged-undefined left past bytes f) e (undefined-stands bytes f)
     go (at-fault c rest n f broken) onwards =
@@ -144,7 +144,7 @@ is-refused (suc left) past bytes number at h e = go (turn past bytes) (λ c rest
 -- a file that is refused: 1 with place 0 where it is too long, else what the list of its commands meets first
 abbrev pub FileRefuses : List ℕ → ℕ → ℕ → Type 0
 FileRefuses file number at =
-    ((longestFile < length file) × (number ≡ fileTooLong) × (at ≡ 0)) ⊎ ((length file ≤ longestFile) × Refuses [] file number at)
+    ((longestFile < length file) × (number ≡ fileTooLong) × (at ≡ 0)) ⊎ ((length file ≤ longestFile) × RefusesAt [] file number at)
 
 module _ (file : List ℕ) (number at : ℕ) where
   pub refuses-file : FileRefuses file number at → judged file ≡ refused number at

@@ -21,7 +21,7 @@ use Rattle.volume.specs.Past.{isA, place}
 use Rattle.volume.specs.Rules.{fault}
 use Rattle.volume.specs.Judged.{tail, judged}
 use Rattle.volume.specs.History.{history}
-use Rattle.volume.specs.Steps.{stateOf, afterOf, tableAfter, Tells, AllStanding, Lawfully, Agrees, Going, WithRoom, LawfullyNumbered, FaultIs, summaryOf, Kept, Same}
+use Rattle.volume.specs.Steps.{volumeOf, afterOf, tableAfter, Tells, AllStanding, Lawfully, Agrees, Going, WithRoom, LawfullyNumbered, FaultIs, summaryOf, ScanKeeps, Same}
 use Rattle.volume.proofs.Bounds.{depth-small, pages-small, fonts-small, post-small}
 use Rattle.volume.proofs.Going.{lawful-number, at-is, turn-faulty, turn-last, told-last, agrees-after, turn-onward}
 
@@ -30,7 +30,7 @@ pub record Turned (file : List ℕ) (page : ℕ) (kind : Kind) (next : ℕ) (w :
   pub place-held : w .at ≡ next
   pub onward : is kind PostPost ≡ false → Going file page w fonts again
   pub judgement : is kind PostPost ≡ true → tail (summaryOf w) next 0 (drop next file) ≡ judged file
-  pub keeping : is kind PostPost ≡ true → (s : Scanned) → Same w s → Kept file page fonts s
+  pub keeping : is kind PostPost ≡ true → (s : Scanned) → Same w s → ScanKeeps file page fonts s
 
 -- the counts are at most the place
 pub record Small (v : Volume) : Type 0 where
@@ -118,16 +118,16 @@ module _ {file : List ℕ} {page : ℕ} {v : Volume} {fonts again : List ℕ} (g
             scan-ends : tail (summaryOf w) (r .next) 0 (drop (r .next) file) ≡ judged file
             scan-ends =
                 sym (turn-last g c (drop (r .next) file) (read .ahead) clean last
-                ∙ ap (λ (n : ℕ). tail (summaryOf (stateOf page (c ∷ g .past))) n 0 (drop (r .next) file)) place-is
+                ∙ ap (λ (n : ℕ). tail (summaryOf (volumeOf page (c ∷ g .past))) n 0 (drop (r .next) file)) place-is
                 ∙ ap (λ (x : Volume). tail (summaryOf x) (r .next) 0 (drop (r .next) file)) (sym (agrees .state)))
 
             history-is : history file ≡ c ∷ g .past
             history-is = told-last g c (drop (r .next) file) (read .ahead) clean last
 
-            scan-keeps : (s : Scanned) → Same w s → Kept file page fonts′ s
+            scan-keeps : (s : Scanned) → Same w s → ScanKeeps file page fonts′ s
             scan-keeps (Scanned.Accepted x) same =
                 let back = sym history-is in (
-                  sym same ∙ agrees .state ∙ ap (stateOf page) back,
+                  sym same ∙ agrees .state ∙ ap (volumeOf page) back,
                   subst (Tells false fonts′) back (agrees .early),
                   subst (AllStanding file) back (agrees .standing),
                   subst Lawfully back (agrees .lawfully),

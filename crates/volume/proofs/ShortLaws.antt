@@ -25,7 +25,7 @@ use Rattle.volume.specs.declared.Stage.the-variants.{OnPage}
 use Rattle.volume.specs.declared.Volume.{Volume}
 use Rattle.volume.specs.Past.{isA, stage, depth, depthAfter, selected, isDefined, definitionOf}
 use Rattle.volume.specs.Rules.{fault, lawfulFont}
-use Rattle.volume.specs.Steps.{command, stateOf, afterOf, tableAfter, mayPushOrPop, mayPass, changed, Passes, Tells, Going, Onward}
+use Rattle.volume.specs.Steps.{command, volumeOf, afterOf, tableAfter, mayPushOrPop, mayPass, changed, Passes, Tells, Going, Onward}
 use Rattle.volume.proofs.FontTables.{told-defined}
 use Rattle.volume.proofs.Going.{turn-to, passing}
 

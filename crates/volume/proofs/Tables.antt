@@ -16,7 +16,7 @@ use Rattle.commands.specs.Kinds.{is}
 use Rattle.commands.specs.Commands.{Command, kindOfCommand, whole, front}
 use Rattle.volume.specs.Past.{place, stage, isAfterPost, fontNumber, defines, Definition, none, stands, definitionOf}
 use Rattle.volume.specs.Rules.{lawfulFont}
-use Rattle.volume.specs.Steps.{entryOf, tableAfter, Tells, Standing, AllStanding, Lawfully}
+use Rattle.volume.specs.Steps.{entryOf, tableAfter, Tells, StandsIn, AllStanding, Lawfully}
 use Rattle.volume.proofs.FontTables.{lawful-in}
 
 -- two natural numbers that differ are not the same number
@@ -80,7 +80,7 @@ module _ (past : List Command) (c : Command) (lawful : is (kindOfCommand c) Defi
   pub standing-after : (file rest : List ℕ) → front (drop (place past) file) ≡ whole c rest → AllStanding file past → AllStanding file (c ∷ past)
   standing-after file rest e all n = by (defines false (stage past) (kindOfCommand c) && sameNumber (fontNumber c) (pos n))
     where
-      by : (t : Bool) → Standing file (cond t (stands (place past) c) (definitionOf false (pos n) past))
+      by : (t : Bool) → StandsIn file (cond t (stands (place past) c) (definitionOf false (pos n) past))
       by true = (rest, e)
       by false = all n
 

@@ -45,8 +45,8 @@ bopOf page [] = 0
 bopOf page (c ∷ past) = cond (isA Bop c && eqb (pages past + 1) page) (place past) (bopOf page past)
 
 -- all that the code holds of them
-abbrev pub stateOf : ℕ → List Command → Volume
-stateOf page past =
+abbrev pub volumeOf : ℕ → List Command → Volume
+volumeOf page past =
     record {
       stage = stage past;
       at = place past;
@@ -169,9 +169,9 @@ pub record Tells (after : Bool) (table : List ℕ) (past : List Command) : Type 
   pub entry : (n : ℕ) → n < 256 → getD table n 0 ≡ entryOf (definitionOf after (pos n) past)
 
 -- what is defined stands in the file
-abbrev pub Standing : List ℕ → Definition → Type 0
-Standing file none = Unit {0}
-Standing file (stands at c) = (rest : List ℕ) × (front (drop at file) ≡ whole c rest)
+abbrev pub StandsIn : List ℕ → Definition → Type 0
+StandsIn file none = Unit {0}
+StandsIn file (stands at c) = (rest : List ℕ) × (front (drop at file) ≡ whole c rest)
 
 -- only the fonts 0 to 255 are defined
 abbrev pub Lawfully : List Command → Type 0
@@ -179,11 +179,11 @@ Lawfully past = (number : ℤ) → lawfulFont number ≡ false → definitionOf 
 
 -- the definitions before post stand in the file
 abbrev pub AllStanding : List ℕ → List Command → Type 0
-AllStanding file past = (n : ℕ) → Standing file (definitionOf false (pos n) past)
+AllStanding file past = (n : ℕ) → StandsIn file (definitionOf false (pos n) past)
 
 -- what the code holds stands for the commands so far
 pub record Agrees (file : List ℕ) (page : ℕ) (v : Volume) (fonts again : List ℕ) (past : List Command) : Type 0 where
-  pub state : v ≡ stateOf page past
+  pub state : v ≡ volumeOf page past
   pub early : Tells false fonts past
   pub late : Tells true again past
   pub standing : AllStanding file past
@@ -292,9 +292,9 @@ checkAnswer (Checked.Accepted s) = given s
 checkAnswer (Checked.Refused r) = refusal r
 
 -- what a scan leaves of an accepted file: the state and the font table of its whole history
-abbrev pub Kept : List ℕ → ℕ → List ℕ → Scanned → Type 0
-Kept file page fonts (Scanned.Accepted v) = (v ≡ stateOf page (history file)) × Tells false fonts (history file) × AllStanding file (history file) × Lawfully (history file)
-Kept file page fonts (Scanned.Refused r) = Unit {0}
+abbrev pub ScanKeeps : List ℕ → ℕ → List ℕ → Scanned → Type 0
+ScanKeeps file page fonts (Scanned.Accepted v) = (v ≡ volumeOf page (history file)) × Tells false fonts (history file) × AllStanding file (history file) × Lawfully (history file)
+ScanKeeps file page fonts (Scanned.Refused r) = Unit {0}
 
 -- what is accepted is what was held
 abbrev pub Same : Volume → Scanned → Type 0

@@ -9,7 +9,7 @@ ghost use Prim.Native.Nat.{ℕ, _+_, _≤_, _<_, _^_, max};
 ghost use lib.ListN.{length};
 ghost use Rattle.commands.specs.declared.Kind.the-variants.{Push};
 ghost use Rattle.volume.specs.Past.{stageAfter, depthAfter};
-ghost use Rattle.volume.specs.Steps.{stateOf, movedOn, afterOf, WithRoom};
+ghost use Rattle.volume.specs.Steps.{volumeOf, movedOn, afterOf, WithRoom};
 
 fn next_stage(kind: Kind, stage: Stage) -> Stage
     ensures { λ r. ⌜ r ≡ stageAfter kind stage ⌝ }
@@ -48,7 +48,7 @@ pub fn greater(a: usize, b: usize) -> usize
 
 // What the empty list of commands amounts to.
 pub fn fresh() -> Volume
-    ensures { λ r. ⌜ ((page : ℕ) → r ≡ stateOf page []) ⌝ }
+    ensures { λ r. ⌜ ((page : ℕ) → r ≡ volumeOf page []) ⌝ }
 {
     Volume {
         stage: Stage::AtStart,

@@ -14,7 +14,7 @@ ghost use mathlib.Core.Path.{_≡_};
 ghost use Prim.Native.Nat.{_≤_};
 ghost use lib.ListN.{length, drop, replicate};
 ghost use Rattle.volume.specs.Judged.{tail, judged};
-ghost use Rattle.volume.specs.Steps.{summaryOf, Same, scanAnswer, checkAnswer, Kept};
+ghost use Rattle.volume.specs.Steps.{summaryOf, Same, scanAnswer, checkAnswer, ScanKeeps};
 
 // 11: the bytes after post_post are 223s, and at least four.
 fn ended(file: &[u8], at: usize, v: Volume) -> Scanned
@@ -45,7 +45,7 @@ fn ended(file: &[u8], at: usize, v: Volume) -> Scanned
 pub fn scan(file: &[u8], page: usize, fonts: &mut [u32; 256]) -> Scanned
     requires { ⌜ now fonts ≡ replicate 256 0 ⌝ }
     ensures { λ r. ⌜ scanAnswer r ≡ judged (now (file .entry)) ⌝ }
-    ensures { λ r. ⌜ Kept (now (file .entry)) page (now (fonts .exit)) r ⌝ }
+    ensures { λ r. ⌜ ScanKeeps (now (file .entry)) page (now (fonts .exit)) r ⌝ }
 {
     if commands::LONGEST_FILE < file.len() {
         return Scanned::Refused(Refusal {

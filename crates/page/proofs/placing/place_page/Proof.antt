@@ -7,7 +7,7 @@ use lib.ListN.{length}
 use denote.Ref.{now}
 use Rattle.refusals.specs.Answer.{Answer, andThen}
 use Rattle.volume.specs.declared.Summary.{Summary}
-use Rattle.volume.specs.Steps.{scanAnswer, Kept}
+use Rattle.volume.specs.Steps.{scanAnswer, ScanKeeps}
 use Rattle.page.specs.Placing.{Placed}
 use Rattle.page.specs.Answers.{placedAccepted, placedCounts, areaAfter}
 use Rattle.page.proofs.PlaceLaws.{refused-to}
@@ -28,7 +28,7 @@ place-accepted-requires c κs =
     let s = c .before .before .before .before .before .before .before .before .before .before in
     let scanned = c .before .before .before .before .before .scan in
     let v = c .before .before .before .volume .given in
-    record { judgement = sym (scanned .ensures .0) ∙ ap scanAnswer (v .1); keeps = subst (Kept (now (s .args .file)) (s .args .page) (scanned .last .1 .1 .0)) (v .1) (scanned .ensures .1) }
+    record { judgement = sym (scanned .ensures .0) ∙ ap scanAnswer (v .1); keeps = subst (ScanKeeps (now (s .args .file)) (s .args .page) (scanned .last .1 .1 .0)) (v .1) (scanned .ensures .1) }
 
 -- what follows the judgement of a file
 next : List ℕ → List ℕ → ℕ → ℕ → ℕ → Summary → Answer Placed

@@ -13,7 +13,7 @@ use Rattle.volume.specs.declared.Summary.{Summary}
 use Rattle.volume.specs.Past.{definitionOf}
 use Rattle.volume.specs.Names.{namedBy}
 use Rattle.volume.specs.History.{history}
-use Rattle.volume.specs.Steps.{scanAnswer, Kept}
+use Rattle.volume.specs.Steps.{scanAnswer, ScanKeeps}
 use Rattle.volume.proofs.names.name_place.Statement.{statement}
 use Rattle.volume.proofs.names.name_place.Tie as tie
 
@@ -46,7 +46,7 @@ returns-2 c =
     let file = now (s .args .file) in
     let scanned = c .before .before .before .before .scan in
     let accepted = c .before .before .enum-told .given in
-    let kept = subst (Kept file 0 (scanned .last .1 .1 .0)) (accepted .1) (scanned .ensures .1) in
+    let kept = subst (ScanKeeps file 0 (scanned .last .1 .1 .0)) (accepted .1) (scanned .ensures .1) in
     let named = c .named-by .ensures (history file) (kept .1) (kept .2) (kept .3) in
     let judgement = sym (scanned .ensures .0) ∙ ap scanAnswer (accepted .1) in (
       named .0

@@ -15,7 +15,7 @@ use Rattle.commands.specs.Steps.{readAnswer}
 use Rattle.commands.proofs.Readings.{Reads, given-reads}
 use Rattle.volume.specs.declared.Volume.{Volume}
 use Rattle.volume.specs.Judged.{judged}
-use Rattle.volume.specs.Steps.{stateOf, Going}
+use Rattle.volume.specs.Steps.{volumeOf, Going}
 use Rattle.volume.proofs.Arms.{kind-others}
 use Rattle.volume.proofs.Going.{starting, turn-unread}
 use Rattle.volume.proofs.ScanTurns.{small, next-is, next-small, fixed-fits, opcode-defined, with-room, scan-stops, lawfully-numbered, Turned, turned}
@@ -43,7 +43,7 @@ loop-holds c =
     let f = c .before in
     let s = f .before .before .before in
     subst (λ (v : Volume). Going (now (s .args .file)) (s .args .page) v (now (s .args .fonts)) (replicate 256 0)) (sym (f .fresh .ensures (s .args .page)))
-    (subst (λ (table : List ℕ). Going (now (s .args .file)) (s .args .page) (stateOf (s .args .page) []) table (replicate 256 0)) (sym (s .pre))
+    (subst (λ (table : List ℕ). Going (now (s .args .file)) (s .args .page) (volumeOf (s .args .page) []) table (replicate 256 0)) (sym (s .pre))
     (starting (now (s .args .file)) (s .args .page) (f .before .if1 .left)))
 
 passed-requires : tie.Need-passed-requires Inv-loop μ-loop
