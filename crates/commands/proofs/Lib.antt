@@ -3,3 +3,4 @@ pub mod Opcodes
 pub mod Lengths
 pub mod Fronts
 pub mod Readings
+pub mod RefusedWith

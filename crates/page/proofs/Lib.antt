@@ -10,3 +10,4 @@ pub mod Traces
 pub mod TurnLaws
 pub mod WalkLaws
 pub mod Words
+pub mod RefusedWith

@@ -1,31 +1,30 @@
 -- What an answer of place_page says of the page and of the output area. Stated of the contract itself. Assumes nothing.
-use Prim.Native.Nat.{ℕ, zero, suc, _+_, _*_, _≤_}
+use Prim.Native.Nat.{ℕ, _+_, _*_, _≤_}
 use mathlib.Core.Path.{_≡_, refl, sym, ap, ap₂, _∙_, subst}
-use mathlib.Core.Bool.{Bool, true, false, cond, not}
+use mathlib.Core.Bool.{Bool, true, false}
 use mathlib.Core.List.{List, [], _∷_, _++_, map}
-use mathlib.Core.Logic.{⊎-elim}
 use native.Mathlib.Omega.{arith}
-use lib.Dec.{ltb, leb}
+use lib.Dec.{ltb}
 use lib.ListN.{length, take, drop, length-append, length-drop}
 use lib.Seq.{take-at, drop-at}
 use borrow.Author.Tests.{ltb-false}
 use contract.Lifetimes.{Lfts}
 use denote.Ref.{RefT, now}
-use Rattle.refusals.specs.Numbers.{wrongPreamble, misplacedCommand, wrongDepth, wrongFontDefinition, noFont, wrongPointer, wrongPostamble, wrongResolution, unitOutOfRange, wrongWidthTable, noSuchPage, positionOutOfRange, areaTooShort}
+use Rattle.refusals.specs.Numbers.{noSuchPage, positionOutOfRange, areaTooShort}
 use Rattle.refusals.specs.Answer.{Answer, refused, given, refuseIf, andThen}
+use Rattle.refusals.specs.RefusedOnly.{FileRefusal, UnitRefusal, TableRefusal}
 use Rattle.refusals.proofs.Answer.{given-not-refused, given-next, given-same}
+use Rattle.refusals.proofs.RefusedOnly.{only-refused, file-numbers, unit-numbers}
 use Rattle.units.specs.declared.Ratio.{Ratio}
-use Rattle.units.specs.Unit.{ratioOf, outOfRange, resolutionOutside, unitOf}
-use Rattle.widths.specs.Table.{rightRecord, checkedFrom, checkedTable}
-use Rattle.widths.specs.Table as table-of
-use Rattle.commands.specs.Commands.{Command}
+use Rattle.units.specs.Unit.{unitOf}
+use Rattle.units.proofs.RefusedWith.{unit-refused-with}
+use Rattle.widths.specs.Table.{widthRecordSize, checkedTable}
+use Rattle.widths.proofs.RefusedWith.{table-refused-with}
 use Rattle.volume.specs.declared.Summary.{Summary}
 use Rattle.volume.specs.Past.{num, den, mag}
-use Rattle.volume.specs.Rules.{preambleWrong, misplaced, depthWrong, definitionWrong, fontMissing, pointerWrong, postambleWrong, fault}
 use Rattle.volume.specs.Judged.{judged}
 use Rattle.volume.specs.History.{history}
-use Rattle.volume.proofs.Refused.{ends-early, strange, breaks, other-byte, too-few, later, file-refuses}
-use Rattle.volume.proofs.Refused as check
+use Rattle.volume.proofs.RefusedWith.{file-refused-with}
 use Rattle.state.specs.Registers.{unselected, freshState}
 use Rattle.page.specs.declared.Record.{Record}
 use Rattle.page.specs.declared.Counts.{Counts}
@@ -67,60 +66,6 @@ refused-next false number there n place next other e = (refl, e)
 all-length : (records : List Record) → length (allBytes records) ≡ placementRecordSize * length records
 all-length [] = refl
 all-length (r ∷ records) = omega (arith, length-append (recordBytes r) (allBytes records), record-length r, all-length records)
-
--- ---- the numbers of the judgements before 16
-
--- 4 to 10
-fault-low : (past : List Command) (c : Command) → fault past c ≤ 10
-fault-low past c =
-    by (preambleWrong past c) (misplaced past c) (depthWrong past c) (definitionWrong past c) (fontMissing past c) (pointerWrong past c) (postambleWrong past c)
-  where
-    by : (a b c d e f g : Bool)
-        → cond a wrongPreamble (cond b misplacedCommand (cond c wrongDepth (cond d wrongFontDefinition (cond e noFont (cond f wrongPointer (cond g wrongPostamble 0))))))
-        ≤ 10
-    by true b c d e f g = omega arith
-    by false true c d e f g = omega arith
-    by false false true d e f g = omega arith
-    by false false false true e f g = omega arith
-    by false false false false true f g = omega arith
-    by false false false false false true g = omega arith
-    by false false false false false false true = omega arith
-    by false false false false false false false = omega arith
-
-refuses-low : {past : List Command} {bytes : List ℕ} {number at : ℕ} → check.RefusesAt past bytes number at → number ≤ 11
-refuses-low (ends-early none low) = omega arith
-refuses-low (strange opcode rest high) = omega arith
-refuses-low (breaks {past = past} c rest w broken positive) = omega (arith, broken, fault-low past c)
-refuses-low (other-byte c n byte rest w allowed last h) = omega arith
-refuses-low (too-few c n w allowed last few) = omega arith
-refuses-low (later c rest w allowed not-last r) = refuses-low r
-
--- 1 to 11
-file-low : (file : List ℕ) (n place : ℕ) → judged file ≡ refused n place → n ≤ 11
-file-low file n place e = ⊎-elim (λ long. omega (arith, long .1)) (λ short. refuses-low (short .1)) (file-refuses file n place e)
-
--- 12 and 13
-unit-low : (num den mag resolution n place : ℕ) → unitOf num den mag resolution ≡ refused n place → n ≤ 13
-unit-low num den mag resolution n place e = by (ratioOf num den mag resolution) (resolutionOutside resolution) (outOfRange (ratioOf num den mag resolution)) e
-  where
-    by : (k : Ratio) (outside out : Bool) → refuseIf outside wrongResolution 0 (refuseIf out unitOutOfRange 0 (given k)) ≡ refused n place → n ≤ 13
-    by k true out e = let same : wrongResolution ≡ n = cc in omega (arith, same)
-    by k false true e = let same : unitOutOfRange ≡ n = cc in omega (arith, same)
-    by k false false e = absurd (given-not-refused k n place e)
-
--- 14
-table-low : (left : ℕ) (table : List ℕ) (index n place : ℕ) → checkedFrom left table index ≡ refused n place → n ≡ wrongWidthTable
-unfolding checkedFrom
-table-low zero table index n place e = absurd (given-not-refused index n place e)
-table-low (suc left) table index n place e =
-    by (leb (length table) (index * table-of.widthRecordSize)) (not (rightRecord table index)) e (table-low left table (suc index) n place)
-  where
-    by : (end wrong : Bool)
-        → cond end (given index) (refuseIf wrong wrongWidthTable (index * table-of.widthRecordSize) (checkedFrom left table (suc index))) ≡ refused n place
-        → (checkedFrom left table (suc index) ≡ refused n place → n ≡ wrongWidthTable) → n ≡ wrongWidthTable
-    by true wrong e onward = absurd (given-not-refused index n place e)
-    by false true e onward = cc
-    by false false e onward = onward e
 
 -- ---- a call
 
@@ -173,7 +118,7 @@ module _ (a : Arguments) where
   abbrev pub settingBy : Grounds → Setting
   settingBy g = settingOf file table (g .unit) resolution (g .width-records) page
 
-  -- the page's own commands, each with the font that is current at it, from "no font" on
+  -- the page's own commands, each with the font that is current at it; at first there is none
   abbrev pub seenBy : Grounds → List Seen
   seenBy g = withFonts (settingBy g) unselected own
 
@@ -195,9 +140,9 @@ module _ (a : Arguments) where
   left-by : (place : ℕ) → meant ≡ refused positionOutOfRange place
       → (g : Grounds) × (placing (settingBy g) freshState own ≡ refused positionOutOfRange place)
   left-by place e =
-      let (found, accepted, e1) = then-refused (judged file) _ positionOutOfRange place (λ early. omega (arith, file-low file _ place early)) e in
-      let (k, unit-is, e2) = then-refused unitHere _ positionOutOfRange place (λ early. omega (arith, unit-low _ _ _ resolution _ place early)) e1 in
-      let (n, table-is, e3) = then-refused (checkedTable table) _ positionOutOfRange place (λ early. omega (arith, table-low _ table 0 _ place early)) e2 in
+      let (found, accepted, e1) = then-refused (judged file) _ positionOutOfRange place (λ early. omega (arith, file-numbers file (only-refused (FileRefusal file) (judged file) early (file-refused-with file)))) e in
+      let (k, unit-is, e2) = then-refused unitHere _ positionOutOfRange place (λ early. omega (arith, unit-numbers (only-refused UnitRefusal unitHere early (unit-refused-with _ _ _ resolution)))) e1 in
+      let (n, table-is, e3) = then-refused (checkedTable table) _ positionOutOfRange place (λ early. omega (arith, only-refused (TableRefusal widthRecordSize table) (checkedTable table) early (table-refused-with table) .0)) e2 in
       let (there, e4) = refused-next (pageOutside page (found .pages)) noSuchPage 0 positionOutOfRange place _ (λ z. omega arith) e3 in
       let g : Grounds = record { found = found; unit = k; width-records = n; accepted = accepted; unit-is = unit-is; table-is = table-is; there = there } in
       (g, before (placing (settingBy g) freshState own) e4)
@@ -211,11 +156,11 @@ module _ (a : Arguments) where
 -- ---- what the contract of a call says
 
 module _ (κs : Lfts 3) (a x : Arguments) where
-  -- "A refusal leaves every byte of the output area unchanged"
+  -- where placing is refused, the area is as it was (rule 9.1)
   pub refused-leaves-area : (r : Placed) → place-page.Post κs a r x → Refuses r → area x ≡ area a
   refused-leaves-area r post refuses = post .1 .1 refuses
 
-  -- "h or v would leave …; place of that command": 16 is given only where all before it passed, and its place is that of the first of the page's own
+  -- 16 is given only where all that is judged before it passed, and its place is that of the first of the page's own
   -- commands at which h or v would leave its range
   pub sixteen-is-the-pages : (place : ℕ) → place-page.Post κs a (Placed.Refused positionOutOfRange place) x
       → (g : Grounds a) × LeavesAt (settingBy a g) place freshState (own a)
@@ -234,7 +179,7 @@ module _ (κs : Lfts 3) (a x : Arguments) where
         let (p, is, e) = then-given (meant a) (λ p. given (countsOf p)) _ (sym (post .0)) in
         (p, is, given-same (countsOf p) _ e)
 
-    -- "20 bytes" a record: the area's first bytes are those of the page's records, as many as the answer says, and all bytes after them are as they were
+    -- the area's first bytes are those of the page's records, as many as the answer says, and all bytes after them are as they were (rules 8.1, 9.1)
     pub accepted-writes-only-records :
         (p : meaning.Placed)
         × (meant a ≡ given p)
@@ -257,7 +202,7 @@ module _ (κs : Lfts 3) (a x : Arguments) where
           ap length area-is ∙ omega (arith, length-append written rest, length-drop (placementRecordSize * records) (area a), size, placed-by a p is .2, many),
         )
 
-    -- "invented counts": they are the numbers of the page's own commands that make a record, are missing characters, are specials
+    -- the counts are those of the page's own commands that make a record, are missing characters, are specials: none is invented (rule 8.3)
     pub counts-are-the-pages-own :
         (g : Grounds a)
         × (records ≡ countOf ruleVisible (seenBy a g) + countOf (characterFound (settingBy a g)) (seenBy a g))
@@ -272,7 +217,7 @@ module _ (κs : Lfts 3) (a x : Arguments) where
           sym (ap (λ (c : Counts). c .specials) counts) ∙ specials-counted (settingBy a g) freshState (own a) p placing-is,
         )
 
-    -- "placing the first command and only skipping through the others": the area's records say, in order, what the page's commands that make one say
+    -- no command is passed over: the area's records say, in order, what the page's commands that make one say (rule 8.3)
     pub records-in-order :
         (g : Grounds a)
         × (written : List Record)
@@ -284,7 +229,7 @@ module _ (κs : Lfts 3) (a x : Arguments) where
         let (g, placing-is, fits) = placed-by a p is in
         (g, p .records, many, bytes, counting.records-in-order (settingBy a g) freshState (own a) p placing-is)
 
--- "Carrying a font, or a width, from one page or file into the next": answer and area are settled by the arguments' bytes and numbers, wherever they stand
+-- nothing of an earlier call comes into this one: answer and area are settled by the arguments' bytes and numbers, wherever they stand
 -- in memory, and by nothing else
 pub depends-on-arguments : (κs κs′ : Lfts 3) (a b x y : Arguments) (r s : Placed) → file a ≡ file b → table a ≡ table b → resolution a ≡ resolution b
     → page a ≡ page b

@@ -31,7 +31,7 @@ roundings = map of-rounding roundingExamples ++ moves
 abbrev units : List Example
 units = map of-unit unitExamples ++ roundings
 
--- "The starred examples are one proved statement over one list of the definitions"
+-- the whole list of examples, as one statement
 pub all-hold : AllHold starred
 all-hold =
     both (map of-file fileExamples) units (each of-file fileFound (λ e. e .printed) (λ e h. h) fileExamples files-hold)

@@ -199,27 +199,27 @@ size-in-range size e = let both = and-eq-true-iff (leb 1 size) (leb size 1342177
 -- ---- the rules
 
 module _ {cs : List Command} (keeps : Keeps cs) {past : List Command} {c : Command} (there : StandsAmong cs past c) where
-  -- "number 0 to 255"
+  -- a font number has one byte at most and no sign (rule 3.5)
   pub number-in-range : kindOfCommand c ≡ Define → (n : ℕ) × (n ≤ 255) × (fontNumber c ≡ pos n)
   number-in-range k = let (sign, small, named) = lawful-in (fontNumber c) (right (kept-there keeps there .1) k .number) in (natAbs (fontNumber c), omega (arith, small), sym named)
 
-  -- "at most 64 of them"
+  -- there are no more than 64 fonts (rule 3.5)
   pub fonts-at-most-64 : fontCount false (c ∷ past) ≤ 64
   fonts-at-most-64 = few-fonts (and-one (kept-there keeps there .0) (kept-there keeps there .1))
 
-  -- "scale s … 1 to 134,217,727"
+  -- a font's scale is in range (rules 1.5, 3.5)
   pub scale-in-range : kindOfCommand c ≡ Define → (1 ≤ fontScale (body c)) × (fontScale (body c) ≤ 134217727)
   scale-in-range k = size-in-range (fontScale (body c)) (right (kept-there keeps there .1) k .scale)
 
-  -- "and design size d"
+  -- so is its design size (rules 1.5, 3.5)
   pub design-size-in-range : kindOfCommand c ≡ Define → (1 ≤ fontDesignSize (body c)) × (fontDesignSize (body c) ≤ 134217727)
   design-size-in-range k = size-in-range (fontDesignSize (body c)) (right (kept-there keeps there .1) k .size)
 
-  -- after post, "each once"
+  -- after post too a number is defined once (rule 3.5)
   pub defined-once-after-post : kindOfCommand c ≡ Define → isAfterPost (stage past) ≡ true → definitionOf true (fontNumber c) past ≡ none
   defined-once-after-post k late = right (kept-there keeps there .1) k .late late .0
 
-  -- "After it the same numbers are defined … with equal check sum, s, d, a, l and name": those defined after it are so before it
+  -- what is defined after post was defined before it, and says the same (rule 3.5)
   pub defined-before-post : (number : ℤ) (at : ℕ) (d : Command) → definitionOf true number past ≡ stands at d
       → (at-first : ℕ) × (first : Command) × (definitionOf false number past ≡ stands at-first first) × (body first ≡ body d)
   defined-before-post number at d e =
@@ -227,7 +227,7 @@ module _ {cs : List Command} (keeps : Keeps cs) {past : List Command} {c : Comma
       let (at-first, first, q) = is-there _ (says-there (definitionOf false number past) (body d) says-so) in
       (at-first, first, q, same-true (body first) (body d) (rw q at says-so))
 
-  -- and the other way: "A font left out after post is 7 at post_post"
+  -- and the other way: up to post_post no font is left out (rule 3.5)
   pub defined-after-post : kindOfCommand c ≡ PostPost → (number : ℤ) (at : ℕ) (d : Command) → definitionOf false number past ≡ stands at d
       → (at-again : ℕ) × (again : Command) × (definitionOf true number past ≡ stands at-again again) × (body again ≡ body d)
   defined-after-post k number at d e =

@@ -1,4 +1,4 @@
--- What a file that is accepted looks like, rule by rule: each theorem says one rule of document 01 in plain terms. Assumes nothing.
+-- What a file that is accepted looks like, rule by rule: each theorem says in plain terms what a rule comes to. Assumes nothing.
 use Prim.Native.Nat.{ℕ, zero, suc, _+_, _-_, _<_, _≤_}
 use mathlib.Core.Path.{_≡_, refl, sym, ap, _∙_, subst}
 use mathlib.Core.Bool.{Bool, true, false, cond, not, _&&_, _||_, and-eq-true-iff, or-false, true≢false}
@@ -41,7 +41,7 @@ opens-list : {cs : List Command} → Keeps cs → getD (written cs) 0 0 ≡ 247
 opens-list (ends n w allowed last enough) = opens w allowed
 opens-list (goes w allowed not-last follows) = opens w allowed
 
--- "pre once, at place 0"
+-- a lawful file starts with pre (rule 3.2)
 pub starts-with-247 : (file : List ℕ) → Lawful file → getD file 0 0 ≡ 247
 starts-with-247 file (short, (cs, keeps, forms)) = ap (λ (bytes : List ℕ). getD bytes 0 0) (sym forms) ∙ opens-list keeps
 
@@ -69,7 +69,7 @@ list-ends (ends {c = c} n w allowed last enough) =
     ends-so (c .opcode) (after-all (c .params) (subst (λ (m : ℕ). EndsSo (written (fillers m))) more (fillers-end (n - 4))))
 list-ends (goes {c = c} w allowed not-last follows) = ends-so (c .opcode) (after-all (c .params) (list-ends follows))
 
--- "then four or more 223s and nothing else"
+-- the last four bytes of a lawful file (rule 3.10)
 pub ends-with-four-223 : (file : List ℕ) → Lawful file → drop (length file - 4) file ≡ 223 ∷ 223 ∷ 223 ∷ 223 ∷ []
 ends-with-four-223 file (short, (cs, keeps, forms)) =
     let (front, e) = list-ends keeps in
@@ -106,7 +106,7 @@ last-stands : {before cs : List Command} → Follows before cs
 last-stands (ends {past = past} {c = c} n w allowed last enough) = (past, c, first, is-kind (kindOfCommand c) PostPost last, rw last)
 last-stands (goes w allowed not-last follows) = let (past, c, there, k, e) = last-stands follows in (past, c, later not-last there, k, rw not-last e)
 
--- "then post_post": one stands in each list that keeps the rules, after all the others
+-- a post_post stands in each list that keeps the rules, after all the others (rule 3.2)
 pub post-post-stands : {cs : List Command} → Keeps cs
     → (past : List Command) × (c : Command) × StandsAmong cs past c × (kindOfCommand c ≡ PostPost) × (upToLast [] cs ≡ c ∷ past)
 post-post-stands keeps = last-stands keeps
@@ -176,7 +176,7 @@ whole-kept : {before cs : List Command} → PastKeeps before → Follows before 
 whole-kept kept (ends {c = c} n w allowed last enough) = rw last (and-one kept allowed, rw (is-kind (kindOfCommand c) PostPost last))
 whole-kept kept (goes w allowed not-last follows) = rw not-last (whole-kept (and-one kept allowed) follows)
 
--- "One page at least"
+-- a list that keeps the rules has a page (rule 3.2)
 pub one-page-at-least : {cs : List Command} → Keeps cs → 1 ≤ pages (upToLast [] cs)
 one-page-at-least keeps = let (kept, end) = whole-kept no-more keeps in some-page kept (ap begun end)
 
@@ -232,39 +232,39 @@ module _ {cs : List Command} (keeps : Keeps cs) {past : List Command} {c : Comma
   pub kept-there : PastKeeps past × Allowed past c
   kept-there = standing-kept no-more keeps there
 
-  -- "pre once, at place 0"
+  -- nothing stands before pre, so there is one only (rule 3.2)
   pub pre-once : kindOfCommand c ≡ Pre → past ≡ []
   pre-once k = only-pre (kept-there .0) (kept-there .1) k
 
-  -- "bop points to the previous bop, the first holds −1"
+  -- p of bop is the place of the bop before, or −1 (rule 3.7)
   pub bop-points-back : kindOfCommand c ≡ Bop → signedAt (c .params) 40 4 ≡ lastBop past
   bop-points-back k = same-number-true _ _ (holds _ (rw k at (kept-there .1 .pointer)))
 
-  -- "post points to the last bop"
+  -- p of post is the place of the last bop (rule 3.7)
   pub post-points : kindOfCommand c ≡ Post → signedAt (c .params) 0 4 ≡ lastBop past
   post-points k = same-number-true _ _ (holds _ (rw k at (kept-there .1 .pointer)))
 
-  -- "post_post to post"
+  -- q of post_post is the place of post (rule 3.7)
   pub post-post-points : kindOfCommand c ≡ PostPost → signedAt (c .params) 0 4 ≡ pos (postPlace past)
   post-post-points k = same-number-true _ _ (not-false _ (rw k at (kept-there .1 .pointer)))
 
-  -- no "selection of a font not yet defined"
+  -- what is selected has a definition before it (rule 3.6)
   pub selected-is-defined : kindOfCommand c ≡ Select → (at : ℕ) × (d : Command) × (definitionOf false (selectedFont (c .opcode) (c .params)) past ≡ stands at d)
   selected-is-defined k = is-there _ (holds _ (rw k at (kept-there .1 .font)))
 
-  -- "Before post a number is defined at most once"
+  -- a number that is defined before post was not defined until then (rule 3.5)
   pub defined-once : kindOfCommand c ≡ Define → isAfterPost (stage past) ≡ false → definitionOf false (fontNumber c) past ≡ none
   defined-once k early = right (kept-there .1) k .early early .0
 
-  -- no "eop at depth above 0"
+  -- at eop all levels are popped (rule 3.4)
   pub depth-0-at-eop : kindOfCommand c ≡ Eop → depth past ≡ 0
   depth-0-at-eop k = let right : wrongAtDepth Eop (depth past) ≡ false = rw k at (kept-there .1 .depth-right) in omega (arith, ltb-false 0 (depth past) right)
 
-  -- no "push at depth 100": before and after each command
+  -- the depth, before and after each command (rule 3.4)
   pub depth-at-most-100 : (depth past ≤ 100) × (depth (c ∷ past) ≤ 100)
   depth-at-most-100 = let (kept, allowed) = kept-there in (deep kept, deep (and-one kept allowed))
 
-  -- "post repeats num, den, mag; its s equals the greatest depth reached; its t is the number of pages"
+  -- what post says of the list before it (rule 3.8)
   pub post-repeats : kindOfCommand c ≡ Post
       → (unsignedAt (c .params) 26 2 ≡ pages past)
       × (unsignedAt (c .params) 24 2 ≡ greatest past)
@@ -287,7 +287,7 @@ module _ {cs : List Command} (keeps : Keeps cs) {past : List Command} {c : Comma
 
 -- ---- the printed example
 
--- "M is: pre with num 254, den 1, mag 1000, no comment, bop, eop, post, post_post, four 223s"
+-- the list of the smallest file: one page without commands
 abbrev pub listOfM : List Command
 listOfM =
     record { opcode = 247; params = 2 ∷ 0 ∷ 0 ∷ 0 ∷ 254 ∷ 0 ∷ 0 ∷ 0 ∷ 1 ∷ 0 ∷ 0 ∷ 3 ∷ 232 ∷ 0 ∷ [] }
@@ -309,6 +309,6 @@ M-list = (
   refl,
 )
 
--- so M is, in the words of demand 3, "the written forms, end to end, of some list of commands that keeps the rules"
+-- so the smallest file is lawful (rule 3.12)
 pub M-is-lawful : Lawful M
 M-is-lawful = (omega arith, (listOfM, M-list .0, M-list .1))

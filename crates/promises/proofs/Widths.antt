@@ -15,7 +15,7 @@ use Rattle.widths.specs.Scaling.{halving, halved, share, signedShare, scaledBy}
 abbrev pub fraction : FixWord → ℕ
 fraction w = w .b1 * 65536 + w .b2 * 256 + w .b3
 
--- "b3 × z / 256, plus b2 × z, / 256, plus b1 × z, / β, each division downwards" is one division by 65536 × β
+-- the three divisions of rule 6.6 come to one, by 65536 × (256/α)
 pub chain-is-one-division : (k : Halved) (w : FixWord) → share k w ≡ fraction w * k .z / (65536 * (256 / k .alpha))
 chain-is-one-division k w =
     let two : (w .b3 * k .z / 256 + w .b2 * k .z) / 256 + w .b1 * k .z ≡ fraction w * k .z / 65536 = omega arith in
@@ -26,7 +26,7 @@ not-halved : (scale : ℕ) → scale < 8388608 → halved scale ≡ record { z =
 unfolding halving
 not-halved scale small = rw (lt-leb 8388608 scale small)
 
--- so there a width is the "one division s × width / 2^20" that goes wrong above; "if b0 is 255 subtract α × z"
+-- so there a width is the scale times the fix word over 2^20, cut downwards; from 2^23 on that would not be so (rule 6.6)
 pub widths-are-tex : (scale : ℕ) (w : FixWord) → scale < 8388608
     → scaledBy scale w ≡ cond (eqb (w .b0) 255) (pos (fraction w * scale / 1048576) -ℤ pos (16 * scale)) (pos (fraction w * scale / 1048576))
 widths-are-tex scale w small =

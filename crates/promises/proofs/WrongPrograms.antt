@@ -29,7 +29,7 @@ use Rattle.promises.proofs.Placing.{Arguments, file, table, resolution,
 
 -- ---- the check of a file
 
--- what document 01 prints of two of its starred files
+-- what is printed of two starred files
 M-accepted : judged M ≡ given onePage
 M-accepted = ap (λ (l : List (Answer Summary)). getD l 0 (refused 0 0)) files-hold
 
@@ -53,7 +53,7 @@ not-constant κs κs′ file empty r x y m e p q = given-not-refused onePage fil
 
 -- ---- the placing of a page
 
--- the printed example of document 01, into an area that just holds its records
+-- a call for the printed example, with an area that just holds its records
 pub record IsPrinted (a : Arguments) : Type 0 where
   pub file-is : file a ≡ example
   pub table-is : table a ≡ []
@@ -103,7 +103,7 @@ module _ (κs : Lfts 3) (a x : Arguments) (is : IsPrinted a) where
         let first : _≡_ {A = ℕ} 2 0 = ap (λ (l : List ℕ). getD l 0 0) (ap (drop 20) (sym area-as-printed) ∙ stays ∙ ap (drop 20) zeros) in
         omega (arith, first)
 
-  -- placing the first command and only skipping through the others: the example's first command makes no record, its first rule one, and both are too few
+  -- stopping after a first command: the example's first command makes no record, its first rule one, and both are too few
   pub not-only-the-first-command : (records missing specials : ℕ) → records ≤ 1 → place-page.Post κs a (Placed.Records records missing specials) x → ⊥
   not-only-the-first-command records missing specials few post =
       let many : records ≡ 2 = cc (not-invented-counts (Placed.Records records missing specials) post) in omega (arith, many, few)

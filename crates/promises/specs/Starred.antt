@@ -14,7 +14,7 @@ pub data Example : Type 0 where
   of-moves : MoveExample → Example
   of-width : WidthExample → Example
 
--- "Marked * are proved", in document 01's order
+-- all of them, in the order in which they are printed
 abbrev pub starred : List Example
 starred =
     map of-file fileExamples

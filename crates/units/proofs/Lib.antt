@@ -2,3 +2,4 @@ pub mod Divisor
 pub mod Cancelling
 pub mod Unit
 pub mod Rounding
+pub mod RefusedWith

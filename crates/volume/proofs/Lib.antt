@@ -17,3 +17,4 @@ pub mod Going
 pub mod ShortLaws
 pub mod ScanTurns
 pub mod NameLaws
+pub mod RefusedWith

@@ -4,3 +4,4 @@ pub mod TableLaws
 pub mod Search
 pub mod Hint
 pub mod AsBytes
+pub mod RefusedWith

@@ -1,0 +1,83 @@
+-- Every refusal of every entry has a number of the entry's printed list, and a place where that number may be. Stated of the contracts themselves. Assumes
+-- nothing.
+use Prim.Native.Nat.{ℕ}
+use mathlib.Core.Path.{_≡_, sym, subst}
+use lib.IntN.{ℤ}
+use lib.ListN.{length}
+use contract.Lifetimes.{Lfts}
+use denote.Ref.{now}
+use Rattle.refusals.specs.Answer.{Answer}
+use Rattle.refusals.specs.RefusedOnly.{RefusedOnly, FileRefusal, CommandRefusal, NameRefusal, DistanceRefusal, WidthRefusal, TableRefusal, PageRefusal}
+use Rattle.units.proofs.RefusedWith.{distance-refused-with}
+use Rattle.widths.specs.Scaling.{fixWord}
+use Rattle.widths.specs.Table.{widthRecordSize}
+use Rattle.widths.proofs.RefusedWith.{width-refused-with, table-refused-with, look-up-refused-with}
+use Rattle.commands.proofs.RefusedWith.{command-refused-with}
+use Rattle.volume.proofs.RefusedWith.{file-refused-with, name-refused-with}
+use Rattle.page.proofs.RefusedWith.{page-refused-with}
+use Rattle.reader.specs.declared.CommandRead.{CommandRead}
+use Rattle.reader.specs.declared.FileChecked.{FileChecked}
+use Rattle.reader.specs.declared.NamePlace.{NamePlace}
+use Rattle.reader.specs.declared.Rounded.{Rounded}
+use Rattle.reader.specs.declared.Scaled.{Scaled}
+use Rattle.reader.specs.declared.TableChecked.{TableChecked}
+use Rattle.reader.specs.declared.LookedUp.{LookedUp}
+use Rattle.reader.specs.declared.Placed.{Placed}
+use Rattle.reader.specs.Answers.{commandAnswer, fileAnswer, nameAnswer, roundedAnswer, scaledAnswer, tableAnswer, lookedAnswer, placedAnswer}
+use Rattle.reader.proofs.read_command.Reads as read-command
+use Rattle.reader.proofs.check_file.Reads as check-file
+use Rattle.reader.proofs.font_name_place.Reads as font-name-place
+use Rattle.reader.proofs.round_distance.Reads as round-distance
+use Rattle.reader.proofs.scale_width.Reads as scale-width
+use Rattle.reader.proofs.check_table.Reads as check-table
+use Rattle.reader.proofs.look_up.Reads as look-up
+use Rattle.reader.proofs.place_page.Reads as place-page
+
+-- what holds of the meaning holds of an answer that says it
+said : {A : Type 0} (May : ℕ → ℕ → Type 0) {answer meant : Answer A} → answer ≡ meant → RefusedOnly May meant → RefusedOnly May answer
+said May e only = subst (RefusedOnly May) (sym e) only
+
+-- 1 at 0; 2 or 3 at the place asked
+pub read-command-refusals : (κs : Lfts 1) → (file : _) → (at : ℕ) → (r : CommandRead) → (x : _) → read-command.Post κs (file, (at, tt)) r x
+    → RefusedOnly (CommandRefusal at) (commandAnswer r)
+read-command-refusals κs file at r x post = said (CommandRefusal at) post (command-refused-with (now file) at)
+
+-- 1 at 0; 2 to 11 in the file or at its end
+pub check-file-refusals : (κs : Lfts 1) → (file : _) → (r : FileChecked) → (x : _) → check-file.Post κs (file, tt) r x
+    → RefusedOnly (FileRefusal (now file)) (fileAnswer r)
+check-file-refusals κs file r x post = said (FileRefusal (now file)) (post .0) (file-refused-with (now file))
+
+-- as check_file; 8 at 0
+pub font-name-refusals : (κs : Lfts 1) → (file : _) → (font : ℤ) → (r : NamePlace) → (x : _) → font-name-place.Post κs (file, (font, tt)) r x
+    → RefusedOnly (NameRefusal (now file)) (nameAnswer r)
+font-name-refusals κs file font r x post = said (NameRefusal (now file)) post (name-refused-with (now file) font)
+
+-- 4, 12 or 13 at 0
+pub round-distance-refusals : (κs : Lfts 0) → (num den mag : ℤ) → (resolution : ℕ) → (n : ℤ) → (r : Rounded) → (x : _)
+    → round-distance.Post κs (num, (den, (mag, (resolution, (n, tt))))) r x
+    → RefusedOnly DistanceRefusal (roundedAnswer r)
+round-distance-refusals κs num den mag resolution n r x post = said DistanceRefusal post (distance-refused-with num den mag resolution n)
+
+-- 14 at 0
+pub scale-width-refusals : (κs : Lfts 0) → (scale b0 b1 b2 b3 : ℕ) → (r : Scaled) → (x : _) → scale-width.Post κs (scale, (b0, (b1, (b2, (b3, tt))))) r x
+    → RefusedOnly WidthRefusal (scaledAnswer r)
+scale-width-refusals κs scale b0 b1 b2 b3 r x post = said WidthRefusal post (width-refused-with scale (fixWord b0 b1 b2 b3))
+
+-- 14 at the first byte of a record that begins in the table
+pub check-table-refusals : (κs : Lfts 1) → (table : _) → (r : TableChecked) → (x : _) → check-table.Post κs (table, tt) r x
+    → RefusedOnly (TableRefusal widthRecordSize (now table)) (tableAnswer r)
+check-table-refusals κs table r x post = said (TableRefusal widthRecordSize (now table)) post (table-refused-with (now table))
+
+-- as check_table
+pub look-up-refusals : (κs : Lfts 1) → (table : _) → (checksum scale : ℕ) → (code : ℤ) → (r : LookedUp) → (x : _)
+    → look-up.Post κs (table, (checksum, (scale, (code, tt)))) r x
+    → RefusedOnly (TableRefusal widthRecordSize (now table)) (lookedAnswer r)
+look-up-refusals κs table checksum scale code r x post =
+    said (TableRefusal widthRecordSize (now table)) post (look-up-refused-with (now table) checksum scale code)
+
+-- as check_file; 12, 13, 15 or 17 at 0; as check_table; 16 in the file
+pub place-page-refusals : (κs : Lfts 3) → (file table : _) → (resolution page : ℕ) → (area : _) → (r : Placed) → (x : _)
+    → place-page.Post κs (file, (table, (resolution, (page, (area, tt))))) r x
+    → RefusedOnly (PageRefusal (now file) widthRecordSize (now table)) (placedAnswer r)
+place-page-refusals κs file table resolution page area r x post =
+    said (PageRefusal (now file) widthRecordSize (now table)) (post .0) (page-refused-with (now file) (now table) resolution page (length (now area)))

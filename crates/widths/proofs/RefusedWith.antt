@@ -1,0 +1,47 @@
+-- The refusals of scaling a width, of a width table and of looking a character up. Assumes nothing.
+use Prim.Native.Nat.{ℕ, zero, suc, _*_}
+use mathlib.Core.Path.{_≡_, refl}
+use mathlib.Core.Bool.{Bool, true, false, cond, not, _&&_}
+use mathlib.Core.List.{List}
+use lib.Dec.{leb}
+use lib.IntN.{ℤ}
+use lib.ListN.{length}
+use borrow.Author.Tests.{leb-false}
+use Rattle.refusals.specs.Numbers.{wrongWidthTable}
+use Rattle.refusals.specs.Answer.{given, refuseIf}
+use Rattle.refusals.specs.RefusedOnly.{RefusedOnly, WidthRefusal, TableRefusal}
+use Rattle.refusals.proofs.RefusedOnly.{if-only, then-only}
+use Rattle.widths.specs.declared.FixWord.{FixWord}
+use Rattle.widths.specs.Scaling.{lawfulScale, lawfulFirst, scaledBy, scaledWidth}
+use Rattle.widths.specs.Table.{widthRecordSize, rightRecord, checkedFrom, checkedTable}
+use Rattle.widths.specs.LookUp.{lookedUp}
+
+-- 14, without a place
+pub width-refused-with : (scale : ℕ) (w : FixWord) → RefusedOnly WidthRefusal (scaledWidth scale w)
+width-refused-with scale w =
+    if-only WidthRefusal (not (lawfulScale scale && lawfulFirst (w .b0))) wrongWidthTable 0 (given (scaledBy scale w)) (refl, refl) tt
+
+module _ (table : List ℕ) where
+  -- what may be of a table
+  abbrev pub May : ℕ → ℕ → Type 0
+  May = TableRefusal widthRecordSize table
+
+  from-refused-with : (left index : ℕ) → RefusedOnly May (checkedFrom left table index)
+  unfolding checkedFrom
+  from-refused-with zero index = tt
+  from-refused-with (suc left) index = by (leb (length table) (index * widthRecordSize)) refl (from-refused-with left (suc index))
+    where
+      by : (over : Bool) → leb (length table) (index * widthRecordSize) ≡ over → RefusedOnly May (checkedFrom left table (suc index))
+          → RefusedOnly May (cond over (given index) (refuseIf (not (rightRecord table index)) wrongWidthTable (index * widthRecordSize) (checkedFrom left table (suc index))))
+      by true e rest = tt
+      by false e rest =
+          if-only May (not (rightRecord table index)) wrongWidthTable (index * widthRecordSize) (checkedFrom left table (suc index))
+          (refl, (index, refl), leb-false (length table) (index * widthRecordSize) e) rest
+
+  -- 14 at the first byte of a record that begins in the table
+  pub table-refused-with : RefusedOnly (TableRefusal widthRecordSize table) (checkedTable table)
+  table-refused-with = from-refused-with (suc (length table)) 0
+
+  -- as the table's check
+  pub look-up-refused-with : (checksum scale : ℕ) (code : ℤ) → RefusedOnly (TableRefusal widthRecordSize table) (lookedUp table checksum scale code)
+  look-up-refused-with checksum scale code = then-only May (checkedTable table) _ table-refused-with (λ records. tt)
