@@ -8,7 +8,7 @@ use Rattle.refusals.specs.Answer.{Answer, refused, given}
 use Rattle.page.specs.declared.Counts.{Counts}
 use Rattle.page.specs.declared.Record.{Record}
 use Rattle.page.specs.Records.{recordBytes, allBytes}
-use Rattle.page.specs.Placing.{Placed}
+use Rattle.page.specs.Placing.{Contents}
 use Rattle.page.specs.Answers.{countsOf, placedCounts, areaAfter}
 use Rattle.page.proofs.Areas.{record-length}
 
@@ -17,7 +17,7 @@ bytes-length [] = omega arith
 bytes-length (r ∷ records) = omega (arith, length-append (recordBytes r) (allBytes records), record-length r, bytes-length records)
 
 pub within :
-    (answer : Answer Placed) (counts : Counts) (entry exit : List ℕ)
+    (answer : Answer Contents) (counts : Counts) (entry exit : List ℕ)
     → given counts ≡ placedCounts answer
     → exit ≡ areaAfter entry answer
     → length exit ≡ length entry
@@ -26,4 +26,4 @@ within (refused number place) counts entry exit said area same = let z : _≡_ {
 within (given p) counts entry exit said area same =
     let is : counts ≡ countsOf p = cc in
     let whole = simp (length-append, length-drop) at (ap length area) in
-    rw is (omega (arith, bytes-length (p .records), whole))
+    rw is (omega (arith, bytes-length (p .placements), whole))

@@ -63,7 +63,7 @@ fn lay(block: &mut [u8], at: usize, line: Line) -> usize
     at + bytes::copy(&bytes[..length], &mut block[at..])
 }
 
-// c or r, page, font, hh, vv and the last two fields
+// One record as the program prints it: c or r, then its numbers, the page before the font
 fn record_line(placed: &[u8]) -> Line
     requires { ⌜ length (now placed) ≡ 20 ⌝ }
     ensures { λ r. ⌜ r .length ≤ 160 ⌝ }

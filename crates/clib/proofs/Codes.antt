@@ -22,7 +22,7 @@ use Rattle.volume.specs.Rules.{preambleWrong, misplaced, depthWrong, definition
 use Rattle.volume.specs.Judged.{summary, tail, onFront, onFault, onEnd, judgedFrom, judged}
 use Rattle.volume.specs.Names.{namedBy, namePlace}
 use Rattle.volume.specs.History.{history}
-use Rattle.page.specs.Placing.{Setting, Outcome, leavesRange, goes, Placed, after, onOutcome, placing}
+use Rattle.page.specs.Placing.{Setting, Outcome, leavesRange, continues, Contents, after, onOutcome, placing}
 use Rattle.page.specs.Answers.{withRoom, pageOutside, settingOf, placedAccepted, placedPage, placedCounts}
 use Rattle.page.specs.Records.{placementRecordSize as size}
 use Rattle.page.specs.PageList.{Located, pageOf}
@@ -117,7 +117,7 @@ pub check-table-listed : (table : List ℕ) → Listed (checkedTable table)
 check-table-listed table = table-from-listed (suc (length table)) table 0
 
 pub look-up-listed : (table : List ℕ) (checksum scale : ℕ) (character : ℤ) → Listed (lookedUp table checksum scale character)
-look-up-listed table checksum scale character = then-listed (checkedTable table) _ (check-table-listed table) (λ records. tt)
+look-up-listed table checksum scale character = then-listed (checkedTable table) _ (check-table-listed table) (λ rows. tt)
 
 -- ---- placing
 
@@ -128,7 +128,7 @@ placing-listed setting s (c ∷ rest) = by (after setting s (c .command)) (λ ne
   where
     by : (o : Outcome) → ((next : State) → Listed (placing setting next rest)) → Listed (onOutcome (c .at) o (λ next. placing setting next rest))
     by leavesRange l = (omega arith, omega arith)
-    by (goes next added) l = then-listed (placing setting next rest) _ (l next) (λ p. tt)
+    by (continues next added) l = then-listed (placing setting next rest) _ (l next) (λ p. tt)
 
 unit-listed : (num den mag resolution : ℕ) → Listed (unitOf num den mag resolution)
 unit-listed num den mag resolution =
@@ -136,15 +136,15 @@ unit-listed num den mag resolution =
     if-listed (resolutionOutside resolution) wrongResolution 0 (refuseIf (outOfRange k) unitOutOfRange 0 (given k)) (omega arith, omega arith)
     (if-listed (outOfRange k) unitOutOfRange 0 (given k) (omega arith, omega arith) tt)
 
-room-listed : (room : ℕ) (p : Placed) → Listed (withRoom room p)
-room-listed room p = if-listed (ltb room (size * length (p .records))) areaTooShort 0 (given p) (omega arith, omega arith) tt
+room-listed : (room : ℕ) (p : Contents) → Listed (withRoom room p)
+room-listed room p = if-listed (ltb room (size * length (p .placements))) areaTooShort 0 (given p) (omega arith, omega arith) tt
 
 accepted-listed : (file table : List ℕ) (resolution page room pages : ℕ) → Listed (placedAccepted file table resolution page room pages)
 accepted-listed file table resolution page room pages =
     then-listed (unitOf (num (history file)) (den (history file)) (mag (history file)) resolution) _ (unit-listed _ _ _ resolution) (λ k.
-    then-listed (checkedTable table) _ (check-table-listed table) (λ records.
+    then-listed (checkedTable table) _ (check-table-listed table) (λ rows.
     if-listed (pageOutside page pages) noSuchPage 0 _ (omega arith, omega arith)
-    (then-listed (placing (settingOf file table k resolution records page) freshState (pageOf page (history file))) _ (placing-listed _ _ _) (room-listed room))))
+    (then-listed (placing (settingOf file table k resolution rows page) freshState (pageOf page (history file))) _ (placing-listed _ _ _) (room-listed room))))
 
 pub place-page-listed : (file table : List ℕ) (resolution page room : ℕ) → Listed (placedCounts (placedPage file table resolution page room))
 place-page-listed file table resolution page room =

@@ -14,7 +14,7 @@ use Rattle.commands.proofs.Ranges.{below-or-not}
 use Rattle.page.specs.declared.Record.{Record}
 use Rattle.page.specs.declared.Counts.{Counts}
 use Rattle.page.specs.Records.{placementRecordSize, recordBytes, allBytes}
-use Rattle.page.specs.Placing.{Added, nothing, placed, missing, special, Placed, adding}
+use Rattle.page.specs.Placing.{Added, nothing, placed, missing, special, Contents, adding}
 use Rattle.page.specs.Steps.{putRecord, areaNoted, countNoted, stored, Ending, through, finish}
 
 -- a record has 20 bytes
@@ -54,16 +54,16 @@ ended area r m s = through area (record { records = r; missing = m; specials = s
 
 module _ (out : List ℕ) (counts : Counts) where
   -- what a command adds is noted, then what follows is finished: the same as to finish both
-  pub finish-adding : (added : Added) (answer : Answer Placed)
+  pub finish-adding : (added : Added) (answer : Answer Contents)
       → finish out counts (andThen answer (λ p. given (adding added p))) ≡ finish (areaNoted out (counts .records) added) (countNoted counts added) answer
   finish-adding added (refused number place) = refl
   finish-adding nothing (given p) = refl
   finish-adding (placed r) (given p) =
-      ap (λ (n : ℕ). ended (stored out (counts .records) (r ∷ p .records)) n (counts .missing + p .missing-characters) (counts .specials + p .specials)) (omega arith)
+      ap (λ (n : ℕ). ended (stored out (counts .records) (r ∷ p .placements)) n (counts .missing + p .missing-characters) (counts .specials + p .specials)) (omega arith)
   finish-adding missing (given p) =
-      ap (λ (n : ℕ). ended (stored out (counts .records) (p .records)) (counts .records + length (p .records)) n (counts .specials + p .specials)) (omega arith)
+      ap (λ (n : ℕ). ended (stored out (counts .records) (p .placements)) (counts .records + length (p .placements)) n (counts .specials + p .specials)) (omega arith)
   finish-adding special (given p) =
-      ap (λ (n : ℕ). ended (stored out (counts .records) (p .records)) (counts .records + length (p .records)) (counts .missing + p .missing-characters) n) (omega arith)
+      ap (λ (n : ℕ). ended (stored out (counts .records) (p .placements)) (counts .records + length (p .placements)) (counts .missing + p .missing-characters) n) (omega arith)
 
 -- with no room nothing is written
 pub stored-none : (index : ℕ) (records : List Record) → stored [] index records ≡ []

@@ -30,7 +30,7 @@ abbrev Asks : Terms → List ℕ → Level → Font → Bool → ℤ → Turn �
 Asks terms table level font sets code turn adds = CharacterAsks terms table level font sets code (record { turn = turn; adds = adds; hint = 0 })
 
 abbrev looked : Terms → List ℕ → Font → ℤ → LookUp
-looked terms table font code = walk (terms .records) table (font .checksum) (font .scale) (codeByte code)
+looked terms table font code = walk (terms .rows) table (font .checksum) (font .scale) (codeByte code)
 
 -- a missing character asks the same, set or put
 pub absent-asks : (terms : Terms) (table : List ℕ) (level : Level) (font : Font) (sets : Bool) (code : ℤ) → looked terms table font code ≡ absent

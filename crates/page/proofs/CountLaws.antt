@@ -26,7 +26,7 @@ use Rattle.state.specs.Registers.{State, poppedTo, spotOf}
 use Rattle.page.specs.declared.Record.{Record}
 use Rattle.page.specs.Records.{characterRecord, ruleRecord}
 use Rattle.page.specs.PageList.{Located}
-use Rattle.page.specs.Placing.{Setting, fontOf, lookedFor, Added, nothing, placed, missing, special, Outcome, goes, leavesRange, withNumbers, setCharacter, putCharacter, isVisible, move, distanceOr, withW, withX, withY, withZ, afterKind, after, Placed, adding, onOutcome, placing}
+use Rattle.page.specs.Placing.{Setting, fontOf, lookedFor, Added, nothing, placed, missing, special, Outcome, continues, leavesRange, withNumbers, setCharacter, putCharacter, isVisible, move, distanceOr, withW, withX, withY, withZ, afterKind, after, Contents, adding, onOutcome, placing}
 use Rattle.page.specs.Counting.{Seen, withFonts, isCharacter, isRule, codeOf, characterFound, characterMissing, ruleVisible, isSpecial, makesRecord, countOf, those, saidBy, saidOf}
 
 -- what is given in the end was made from a result that was given
@@ -68,7 +68,7 @@ module _ (setting : Setting) where
   -- an outcome is the one that the counts and the fonts say
   abbrev pub AsCounted : Seen → Outcome → Type 0
   AsCounted c leavesRange = Unit {0}
-  AsCounted c (goes next added) = (next .font ≡ fontAfter c) × Adding c added
+  AsCounted c (continues next added) = (next .font ≡ fontAfter c) × Adding c added
 
   -- where h or v would leave its range nothing is said
   unless : (c : Seen) (o : Outcome) (t : Bool) → AsCounted c o → AsCounted c (cond t leavesRange o)
@@ -85,7 +85,7 @@ module _ (setting : Setting) where
     Is rule character other select = (isRule c ≡ rule) × (isCharacter c ≡ character) × (isA Kind.Special c ≡ other) × (isA Kind.Select c ≡ select)
 
     -- one that is none of these is in no count, adds nothing and keeps the font
-    quiet : Is false false false false → AsCounted this (goes s nothing)
+    quiet : Is false false false false → AsCounted this (continues s nothing)
     quiet (rule, character, other, select) = (rw select, no-more (rw (rule, character, other) none))
 
     -- so does a move
@@ -104,7 +104,7 @@ module _ (setting : Setting) where
 
     -- a rule adds its record where it is visible
     rules : Is true false false false → (visible : Bool) → isVisible height width ≡ visible
-        → AsCounted this (goes s (cond visible (placed ruleHere) nothing))
+        → AsCounted this (continues s (cond visible (placed ruleHere) nothing))
     rules (rule, character, other, select) true e = (rw select, a-rule ruleHere (rw (rule, character, other, e) (refl, refl, refl, refl)) (rw rule))
     rules (rule, character, other, select) false e = (rw select, no-more (rw (rule, character, other, e) none))
 
@@ -158,14 +158,14 @@ module _ (setting : Setting) where
   -- ---- a page
 
   -- what a page comes to is tied to its commands
-  pub record Tied (cs : List Seen) (p : Placed) : Type 0 where
-    pub record-count : length (p .records) ≡ countOf ruleVisible cs + countOf (characterFound setting) cs
+  pub record Tied (cs : List Seen) (p : Contents) : Type 0 where
+    pub record-count : length (p .placements) ≡ countOf ruleVisible cs + countOf (characterFound setting) cs
     pub missing-count : p .missing-characters ≡ countOf (characterMissing setting) cs
     pub special-count : p .specials ≡ countOf isSpecial cs
-    pub record-order : map saidBy (p .records) ≡ map (saidOf setting) (those (makesRecord setting) cs)
+    pub record-order : map saidBy (p .placements) ≡ map (saidOf setting) (those (makesRecord setting) cs)
 
   -- it stays tied with what a command before them adds
-  tied-adding : (c : Seen) (added : Added) (cs : List Seen) (p : Placed) → Adding c added → Tied cs p → Tied (c ∷ cs) (adding added p)
+  tied-adding : (c : Seen) (added : Added) (cs : List Seen) (p : Contents) → Adding c added → Tied cs p → Tied (c ∷ cs) (adding added p)
   tied-adding c added cs p (a-rule r (rule, character, lacking, other) said) t =
       record {
         record-count = rw (rule, character) (omega (arith, t .record-count));
@@ -203,16 +203,16 @@ module _ (setting : Setting) where
       }
 
   -- the page's counts and records are tied to its commands
-  pub tied : (s : State) (cs : List Located) (p : Placed) → placing setting s cs ≡ given p → Tied (withFonts setting (s .font) cs) p
+  pub tied : (s : State) (cs : List Located) (p : Contents) → placing setting s cs ≡ given p → Tied (withFonts setting (s .font) cs) p
   unfolding placing
   tied s [] p e = subst (Tied []) (given-same _ p e) (record { record-count = refl; missing-count = refl; special-count = refl; record-order = refl })
   tied s (c ∷ rest) p e = by (after setting s (c .command)) (as-counted s (c .command)) e (λ next. tied next rest)
     where
       by : (o : Outcome) → AsCounted (this s (c .command)) o → onOutcome (c .at) o (λ next. placing setting next rest) ≡ given p
-          → ((next : State) (q : Placed) → placing setting next rest ≡ given q → Tied (withFonts setting (next .font) rest) q)
+          → ((next : State) (q : Contents) → placing setting next rest ≡ given q → Tied (withFonts setting (next .font) rest) q)
           → Tied (withFonts setting (s .font) (c ∷ rest)) p
       by leavesRange counted e later = absurd (given-not-refused p positionOutOfRange (c .at) (sym e))
-      by (goes next added) (font, adds) e later =
+      by (continues next added) (font, adds) e later =
           let (q, placed-rest, same) = and-given (adding added) (placing setting next rest) p e in
           let tied-rest = subst (λ (f : Font). Tied (withFonts setting f rest) q) font (later next q placed-rest) in
           subst (Tied _) same (tied-adding (this s (c .command)) added _ q adds tied-rest)
@@ -222,9 +222,9 @@ module _ (setting : Setting) where
     abbrev pub seen : List Seen
     seen = withFonts setting (s .font) cs
 
-    module _ (p : Placed) (e : placing setting s cs ≡ given p) where
+    module _ (p : Contents) (e : placing setting s cs ≡ given p) where
       -- there are as many records as visible rules and characters found
-      pub records-counted : length (p .records) ≡ countOf ruleVisible seen + countOf (characterFound setting) seen
+      pub records-counted : length (p .placements) ≡ countOf ruleVisible seen + countOf (characterFound setting) seen
       records-counted = tied s cs p e .record-count
 
       -- as many missing characters as characters that the table has not
@@ -236,20 +236,20 @@ module _ (setting : Setting) where
       specials-counted = tied s cs p e .special-count
 
       -- the records say, in order, what the commands that make one say; each names this page
-      pub records-in-order : map saidBy (p .records) ≡ map (saidOf setting) (those (makesRecord setting) seen)
+      pub records-in-order : map saidBy (p .placements) ≡ map (saidOf setting) (those (makesRecord setting) seen)
       records-in-order = tied s cs p e .record-order
 
   -- a page without commands has no records
-  pub empty-page : (s : State) (p : Placed) → placing setting s [] ≡ given p → p .records ≡ []
+  pub empty-page : (s : State) (p : Contents) → placing setting s [] ≡ given p → p .placements ≡ []
   unfolding placing
-  empty-page s p e = sym (ap (λ (q : Placed). q .records) (given-same _ p e))
+  empty-page s p e = sym (ap (λ (q : Contents). q .placements) (given-same _ p e))
 
   -- ---- a refusal
 
   -- the commands go on up to one, at this place, at which h or v would leave its range
   pub data LeavesAt (place : ℕ) : State → List Located → Type 0 where
     now : (s : State) (c : Located) (rest : List Located) → after setting s (c .command) ≡ leavesRange → place ≡ c .at → LeavesAt place s (c ∷ rest)
-    later : (s : State) (c : Located) (rest : List Located) (next : State) (added : Added) → after setting s (c .command) ≡ goes next added
+    later : (s : State) (c : Located) (rest : List Located) (next : State) (added : Added) → after setting s (c .command) ≡ continues next added
         → LeavesAt place next rest
         → LeavesAt place s (c ∷ rest)
 
@@ -263,6 +263,6 @@ module _ (setting : Setting) where
           → ((next : State) → placing setting next rest ≡ refused n place → (n ≡ positionOutOfRange) × LeavesAt place next rest)
           → (n ≡ positionOutOfRange) × LeavesAt place s (c ∷ rest)
       by leavesRange comes e onward = (cc, now s c rest comes (cc))
-      by (goes next added) comes e onward =
+      by (continues next added) comes e onward =
           let (number, leaving) = onward next (and-refused (adding added) (placing setting next rest) n place e) in
           (number, later s c rest next added comes leaving)

@@ -30,7 +30,7 @@ use Rattle.page.specs.declared.Walked.{Walked}
 use Rattle.page.specs.declared.Walked.the-variants as Walked
 use Rattle.page.specs.Records.{placementRecordSize, allBytes}
 use Rattle.page.specs.PageList.{pageOf}
-use Rattle.page.specs.Placing.{Placed, placing}
+use Rattle.page.specs.Placing.{Contents, placing}
 use Rattle.page.specs.Answers.{pageOutside, settingOf, withRoom, placedAccepted, countsOf, placedCounts, areaAfter}
 use Rattle.page.specs.Steps.{stored, stopped, through, zeroCounts, finish, endingOf, Runs, Told, Ready, Held}
 use Rattle.page.proofs.Areas.{stored-whole}
@@ -40,17 +40,17 @@ use Rattle.page.proofs.PageRuns.{page-runs, bop-inside}
 -- ---- the answer and the area
 
 -- what an answer comes to: the counts or the refusal, and the area
-abbrev pub Comes-to : Answer Placed → List ℕ → Answer Counts → List ℕ → Type 0
+abbrev pub Comes-to : Answer Contents → List ℕ → Answer Counts → List ℕ → Type 0
 Comes-to answer entry said area = (said ≡ placedCounts answer) × (area ≡ areaAfter entry answer)
 
-pub refused-to : {answer : Answer Placed} {number place : ℕ} → answer ≡ refused number place → (entry : List ℕ) → Comes-to answer entry (refused number place) entry
+pub refused-to : {answer : Answer Contents} {number place : ℕ} → answer ≡ refused number place → (entry : List ℕ) → Comes-to answer entry (refused number place) entry
 refused-to e entry = (sym (ap placedCounts e), sym (ap (areaAfter entry) e))
 
-pub placed-to : {answer : Answer Placed} {p : Placed} → answer ≡ given p → (entry area : List ℕ) → area ≡ areaAfter entry (given p) → Comes-to answer entry (given (countsOf p)) area
+pub placed-to : {answer : Answer Contents} {p : Contents} → answer ≡ given p → (entry area : List ℕ) → area ≡ areaAfter entry (given p) → Comes-to answer entry (given (countsOf p)) area
 placed-to e entry area area-is = (sym (ap placedCounts e), area-is ∙ sym (ap (areaAfter entry) e))
 
 -- a refusal leaves every byte
-pub refused-kept : (answer : Answer Placed) (entry : List ℕ) (number place : ℕ) → placedCounts answer ≡ refused number place → areaAfter entry answer ≡ entry
+pub refused-kept : (answer : Answer Contents) (entry : List ℕ) (number place : ℕ) → placedCounts answer ≡ refused number place → areaAfter entry answer ≡ entry
 refused-kept (refused n p) entry number place e = refl
 refused-kept (given p) entry number place e = absurd (given-not-refused (countsOf p) number place e)
 
@@ -58,18 +58,18 @@ refused-kept (given p) entry number place e = absurd (given-not-refused (countsO
 
 module _ (out : List ℕ) where
   -- a walk that left the range
-  pub walk-left : (answer : Answer Placed) (number place : ℕ) → stopped number place ≡ finish out zeroCounts answer → answer ≡ refused number place
+  pub walk-left : (answer : Answer Contents) (number place : ℕ) → stopped number place ≡ finish out zeroCounts answer → answer ≡ refused number place
   walk-left (refused n p) number place e = let n-is : n ≡ number = cc in let p-is : p ≡ place = cc in ap₂ refused n-is p-is
   walk-left (given p) number place e = let z : _≡_ {A = ℕ} 0 1 = cc in absurd (omega arith)
 
   -- one that went through
-  pub record Through (answer : Answer Placed) (area : List ℕ) (counts : Counts) : Type 0 where
-    pub p : Placed
+  pub record Through (answer : Answer Contents) (area : List ℕ) (counts : Counts) : Type 0 where
+    pub p : Contents
     pub answer-is : answer ≡ given p
-    pub area-is : area ≡ stored out 0 (p .records)
+    pub area-is : area ≡ stored out 0 (p .placements)
     pub counts-are : counts ≡ countsOf p
 
-  pub walk-through : (answer : Answer Placed) (area : List ℕ) (counts : Counts) → through area counts ≡ finish out zeroCounts answer → Through answer area counts
+  pub walk-through : (answer : Answer Contents) (area : List ℕ) (counts : Counts) → through area counts ≡ finish out zeroCounts answer → Through answer area counts
   walk-through (refused n p) area counts e = let z : _≡_ {A = ℕ} 0 1 = cc in absurd (omega arith)
   walk-through (given p) area counts e =
       record {
@@ -77,48 +77,48 @@ module _ (out : List ℕ) where
         answer-is = refl;
         area-is = cc;
         counts-are =
-            (let same : counts ≡ record { records = 0 + length (p .records); missing = 0 + p .missing-characters; specials = 0 + p .specials } = cc in same)
-            ∙ ap₂ (λ (r m : ℕ). record { records = r; missing = m; specials = 0 + p .specials }) (zero-add (length (p .records))) (zero-add (p .missing-characters))
-            ∙ ap (λ (s : ℕ). record { records = length (p .records); missing = p .missing-characters; specials = s }) (zero-add (p .specials));
+            (let same : counts ≡ record { records = 0 + length (p .placements); missing = 0 + p .missing-characters; specials = 0 + p .specials } = cc in same)
+            ∙ ap₂ (λ (r m : ℕ). record { records = r; missing = m; specials = 0 + p .specials }) (zero-add (length (p .placements))) (zero-add (p .missing-characters))
+            ∙ ap (λ (s : ℕ). record { records = length (p .placements); missing = p .missing-characters; specials = s }) (zero-add (p .specials));
       }
 
   -- where one walk goes through, so does each other
-  pub walk-again : (r : Walked) (answer : Answer Placed) (area : List ℕ) {p : Placed} → answer ≡ given p → endingOf area r ≡ finish out zeroCounts answer
+  pub walk-again : (r : Walked) (answer : Answer Contents) (area : List ℕ) {p : Contents} → answer ≡ given p → endingOf area r ≡ finish out zeroCounts answer
       → (counts : Counts) × Through answer area counts
   walk-again (Walked.Through counts) answer area a e = (counts, walk-through answer area counts e)
   walk-again (Walked.Left place) answer area {p} a e = absurd (given-not-refused p positionOutOfRange place (sym a ∙ walk-left answer positionOutOfRange place e))
 
 -- ---- 16 and 17, as the walks show
 
-module _ (answer : Answer Placed) (entry : List ℕ) where
-  abbrev judgedRoom : Answer Placed
+module _ (answer : Answer Contents) (entry : List ℕ) where
+  abbrev judgedRoom : Answer Contents
   judgedRoom = andThen answer (withRoom (length entry))
 
   -- 16
   pub left-to : (place : ℕ) → stopped positionOutOfRange place ≡ finish [] zeroCounts answer → Comes-to judgedRoom entry (refused positionOutOfRange place) entry
-  left-to place e = refused-to (ap (λ (a : Answer Placed). andThen a (withRoom (length entry))) (walk-left [] answer positionOutOfRange place e)) entry
+  left-to place e = refused-to (ap (λ (a : Answer Contents). andThen a (withRoom (length entry))) (walk-left [] answer positionOutOfRange place e)) entry
 
   module _ {area : List ℕ} {counts : Counts} (first : Through [] answer area counts) where
-    records-are : length (first .p .records) ≡ counts .records
+    records-are : length (first .p .placements) ≡ counts .records
     records-are = sym (ap (λ (c : Counts). c .records) (first .counts-are))
 
     -- 17
     pub short-to : length entry < placementRecordSize * counts .records → Comes-to judgedRoom entry (refused areaTooShort 0) entry
     short-to few =
-        let test : ltb (length entry) (placementRecordSize * length (first .p .records)) ≡ true = lt-ltb (length entry) (placementRecordSize * length (first .p .records)) (omega (arith, few, records-are)) in
-        refused-to (ap (λ (a : Answer Placed). andThen a (withRoom (length entry))) (first .answer-is) ∙ ap (λ (t : Bool). refuseIf t areaTooShort 0 (given (first .p))) test) entry
+        let test : ltb (length entry) (placementRecordSize * length (first .p .placements)) ≡ true = lt-ltb (length entry) (placementRecordSize * length (first .p .placements)) (omega (arith, few, records-are)) in
+        refused-to (ap (λ (a : Answer Contents). andThen a (withRoom (length entry))) (first .answer-is) ∙ ap (λ (t : Bool). refuseIf t areaTooShort 0 (given (first .p))) test) entry
 
     -- all placed
     pub all-to : placementRecordSize * counts .records ≤ length entry → (area′ : List ℕ) (counts′ : Counts) → Through entry answer area′ counts′
         → Comes-to judgedRoom entry (given counts) area′
     all-to room area′ counts′ second =
         let p = first .p in
-        let fits : placementRecordSize * length (p .records) ≤ length entry = omega (arith, room, records-are) in
-        let test : ltb (length entry) (placementRecordSize * length (p .records)) ≡ false = le-ltb (length entry) (placementRecordSize * length (p .records)) fits in
+        let fits : placementRecordSize * length (p .placements) ≤ length entry = omega (arith, room, records-are) in
+        let test : ltb (length entry) (placementRecordSize * length (p .placements)) ≡ false = le-ltb (length entry) (placementRecordSize * length (p .placements)) fits in
         let same : given (second .p) ≡ given p = sym (second .answer-is) ∙ first .answer-is in
         let same-p : second .p ≡ p = cc in
-        let both = placed-to (ap (λ (a : Answer Placed). andThen a (withRoom (length entry))) (first .answer-is) ∙ ap (λ (t : Bool). refuseIf t areaTooShort 0 (given p)) test) entry area′
-        (second .area-is ∙ ap (λ (x : Placed). stored entry 0 (x .records)) same-p ∙ stored-whole (p .records) entry fits) in
+        let both = placed-to (ap (λ (a : Answer Contents). andThen a (withRoom (length entry))) (first .answer-is) ∙ ap (λ (t : Bool). refuseIf t areaTooShort 0 (given p)) test) entry area′
+        (second .area-is ∙ ap (λ (x : Contents). stored entry 0 (x .placements)) same-p ∙ stored-whole (p .placements) entry fits) in
         (ap given (first .counts-are) ∙ both .0, both .1)
 
 -- ---- 12 to 15
@@ -127,13 +127,13 @@ module _ (file table : List ℕ) (resolution page room pages : ℕ) where
   abbrev unit : Answer Ratio
   unit = unitOf (num (history file)) (den (history file)) (mag (history file)) resolution
 
-  abbrev walked : Ratio → ℕ → Answer Placed
-  walked k records = andThen (placing (settingOf file table k resolution records page) freshState (pageOf page (history file))) (withRoom room)
+  abbrev walked : Ratio → ℕ → Answer Contents
+  walked k rows = andThen (placing (settingOf file table k resolution rows page) freshState (pageOf page (history file))) (withRoom room)
 
-  abbrev withPage : Ratio → ℕ → Answer Placed
-  withPage k records = refuseIf (pageOutside page pages) noSuchPage 0 (walked k records)
+  abbrev withPage : Ratio → ℕ → Answer Contents
+  withPage k rows = refuseIf (pageOutside page pages) noSuchPage 0 (walked k rows)
 
-  abbrev withTable : Ratio → Answer Placed
+  abbrev withTable : Ratio → Answer Contents
   withTable k = andThen (checkedTable table) (withPage k)
 
   pub unit-refused : {number place : ℕ} → unit ≡ refused number place → placedAccepted file table resolution page room pages ≡ refused number place
@@ -146,12 +146,12 @@ module _ (file table : List ℕ) (resolution page room pages : ℕ) where
     pub table-refused : {number place : ℕ} → checkedTable table ≡ refused number place → placedAccepted file table resolution page room pages ≡ refused number place
     table-refused e = with-unit ∙ ap (λ (t : Answer ℕ). andThen t (withPage k)) e
 
-    module _ {records : ℕ} (table-is : checkedTable table ≡ given records) where
-      with-table : placedAccepted file table resolution page room pages ≡ withPage k records
+    module _ {rows : ℕ} (table-is : checkedTable table ≡ given rows) where
+      with-table : placedAccepted file table resolution page room pages ≡ withPage k rows
       with-table = with-unit ∙ ap (λ (t : Answer ℕ). andThen t (withPage k)) table-is
 
-      with-page : {t : Bool} → pageOutside page pages ≡ t → placedAccepted file table resolution page room pages ≡ refuseIf t noSuchPage 0 (walked k records)
-      with-page e = with-table ∙ ap (λ (t : Bool). refuseIf t noSuchPage 0 (walked k records)) e
+      with-page : {t : Bool} → pageOutside page pages ≡ t → placedAccepted file table resolution page room pages ≡ refuseIf t noSuchPage 0 (walked k rows)
+      with-page e = with-table ∙ ap (λ (t : Bool). refuseIf t noSuchPage 0 (walked k rows)) e
 
       -- page 0
       pub page-zero : page < 1 → placedAccepted file table resolution page room pages ≡ refused noSuchPage 0
@@ -163,7 +163,7 @@ module _ (file table : List ℕ) (resolution page room pages : ℕ) where
         page-beyond h = with-page (ap₂ (λ (a b : Bool). not (a && b)) (le-leb 1 page some) (lt-leb page pages h))
 
         -- a page of the file
-        pub page-there : page ≤ pages → placedAccepted file table resolution page room pages ≡ walked k records
+        pub page-there : page ≤ pages → placedAccepted file table resolution page room pages ≡ walked k rows
         page-there h = with-page (ap₂ (λ (a b : Bool). not (a && b)) (le-leb 1 page some) (le-leb page pages h))
 
 -- ---- what a scan holds makes a walk ready
@@ -200,7 +200,7 @@ module _ {file : List ℕ} {page : ℕ} {fonts : List ℕ} {v : Volume} (held : 
     held-short = accepts-lawful file (summaryOf v) (held .judgement) .0
 
     -- all that a walk over the page starts from
-    pub held-ready : (table : List ℕ) (terms : Terms) → terms .page ≡ page → checkedTable table ≡ given (terms .records)
+    pub held-ready : (table : List ℕ) (terms : Terms) → terms .page ≡ page → checkedTable table ≡ given (terms .rows)
         → (resolution : ℕ) → terms .ruler .drift ≡ drift resolution → ((i : ℕ) → getD file i 0 < 256)
         → unitOf (v .num) (v .den) (v .mag) resolution ≡ given (terms .ruler .k) → Ready file fonts table terms (v .wanted + 45)
     held-ready table terms page-is table-is resolution drift-is bytes unit-is =

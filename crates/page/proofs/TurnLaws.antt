@@ -31,8 +31,8 @@ use Rattle.page.specs.declared.Adds.the-variants as Adds
 use Rattle.page.specs.declared.Turn.{Turn}
 use Rattle.page.specs.declared.Turn.the-variants as Turn
 use Rattle.page.specs.declared.Asked.{Asked}
-use Rattle.page.specs.Placing.{Setting, Added, Outcome, goes, leavesRange, withNumbers, ruleAdded, setRule, distanceOr, withW, withX, withY, withZ, afterKind, after}
-use Rattle.page.specs.Steps.{addedOf, AddsInWords, stateWith, did, Safe, Plain, keepsDepth, Suits, settingBy, Comes, ruleBy, sidewaysTurn, downTurn, ruleTurn, turnOf, isMove, MoveFits, RuleAsks, CommandAsks}
+use Rattle.page.specs.Placing.{Setting, Added, Outcome, continues, leavesRange, withNumbers, ruleAdded, setRule, distanceOr, withW, withX, withY, withZ, afterKind, after}
+use Rattle.page.specs.Steps.{addedOf, AddsInWords, stateWith, did, Safe, Plain, keepsDepth, Suits, termsSetting, Comes, ruleBy, sidewaysTurn, downTurn, ruleTurn, turnOf, isMove, MoveFits, RuleAsks, CommandAsks}
 
 -- ---- a turn, unless h or v would leave its range
 
@@ -251,16 +251,16 @@ module _ (terms : Terms) (table : List ℕ) (volume : List Command) (level : Lev
   -- what a rule comes to, set or put
   rule-does : (saved : List Level) (turn : Turn) (adds : Adds) → addedOf adds ≡ ruleBy terms level (ruleHeight params) (ruleWidth params)
       → did (terms .ruler) (stateWith level saved font) (ruleTurn level (ruleWidth params)) adds
-      ≡ setRule (settingBy terms table volume) (stateWith level saved font) (ruleHeight params) (ruleWidth params)
+      ≡ setRule (termsSetting terms table volume) (stateWith level saved font) (ruleHeight params) (ruleWidth params)
   rule-does saved turn adds e =
       did-unless (terms .ruler) (stateWith level saved font) (Turn.PastRule (ruleWidth params)) adds (leaves (level .h +ℤ ruleWidth params))
-      ∙ ap (λ (added : Added). cond (leaves (level .h +ℤ ruleWidth params)) leavesRange (goes (withNumbers (stateWith level saved font) (ruleMoved (terms .ruler) (font .scale) (ruleWidth params) level)) added)) e
+      ∙ ap (λ (added : Added). cond (leaves (level .h +ℤ ruleWidth params)) leavesRange (continues (withNumbers (stateWith level saved font) (ruleMoved (terms .ruler) (font .scale) (ruleWidth params) level)) added)) e
 
   width-small : natAbs (ruleWidth params) ≤ 2 ^ 31
   width-small = omega (arith, from-small (256 ^ 4) (unsignedAt params 4 4) (unsigned-below params 4 4 (λ i h. bytes (4 + i))))
 
   pub rule-sets : (r : Asked) → RuleAsks terms level true params r
-      → Comes (terms .ruler) level font (λ s. setRule (settingBy terms table volume) s (ruleHeight params) (ruleWidth params)) (r .turn) (r .adds) × Plain (r .turn)
+      → Comes (terms .ruler) level font (λ s. setRule (termsSetting terms table volume) s (ruleHeight params) (ruleWidth params)) (r .turn) (r .adds) × Plain (r .turn)
   rule-sets r asks = (
     record {
       does = λ saved. ap (λ (turn : Turn). did (terms .ruler) (stateWith level saved font) turn (r .adds)) (asks .turn-is) ∙ rule-does saved (r .turn) (r .adds) (asks .adds-are);
@@ -271,10 +271,10 @@ module _ (terms : Terms) (table : List ℕ) (volume : List Command) (level : Lev
   )
 
   pub rule-puts : (r : Asked) → RuleAsks terms level false params r
-      → Comes (terms .ruler) level font (λ s. goes s (ruleAdded (settingBy terms table volume) s (ruleHeight params) (ruleWidth params))) (r .turn) (r .adds) × Plain (r .turn)
+      → Comes (terms .ruler) level font (λ s. continues s (ruleAdded (termsSetting terms table volume) s (ruleHeight params) (ruleWidth params))) (r .turn) (r .adds) × Plain (r .turn)
   rule-puts r asks = (
     record {
-      does = λ saved. ap (λ (turn : Turn). did (terms .ruler) (stateWith level saved font) turn (r .adds)) (asks .turn-is) ∙ ap (goes (stateWith level saved font)) (asks .adds-are);
+      does = λ saved. ap (λ (turn : Turn). did (terms .ruler) (stateWith level saved font) turn (r .adds)) (asks .turn-is) ∙ ap (continues (stateWith level saved font)) (asks .adds-are);
       safe = subst (Safe level) (sym (asks .turn-is)) tt;
       words = asks .words;
     },

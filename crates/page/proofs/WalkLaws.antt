@@ -22,7 +22,7 @@ use Rattle.volume.proofs.Going.{after-command}
 use Rattle.state.specs.declared.Level.{Level}
 use Rattle.state.specs.declared.Page.{Page}
 use Rattle.state.specs.Registers.{State, freshState, poppedTo}
-use Rattle.state.specs.Steps.{stateOf, savedOf, withLevel, Bounded, AllBounded}
+use Rattle.state.specs.Steps.{pageState, savedOf, withLevel, Bounded, AllBounded}
 use Rattle.state.proofs.Levels.{bounded-zero}
 use Rattle.page.specs.declared.Counts.{Counts}
 use Rattle.page.specs.declared.Terms.{Terms}
@@ -30,8 +30,8 @@ use Rattle.page.specs.declared.Turn.{Turn}
 use Rattle.page.specs.declared.Turn.the-variants as Turn
 use Rattle.page.specs.declared.Step.{Step}
 use Rattle.page.specs.PageList.{Located, pageOf}
-use Rattle.page.specs.Placing.{Setting, Added, nothing, placed, missing, special, Outcome, goes, leavesRange, withNumbers, adding, onOutcome, after, placing}
-use Rattle.page.specs.Steps.{addedOf, AddsInWords, areaNoted, countNoted, finish, stopped, through, zeroCounts, did, Safe, keepsDepth, Suits, settingBy, StepAsks, Known, Runs, ends, onward, Ready}
+use Rattle.page.specs.Placing.{Setting, Added, nothing, placed, missing, special, Outcome, continues, leavesRange, withNumbers, adding, onOutcome, after, placing}
+use Rattle.page.specs.Steps.{addedOf, AddsInWords, areaNoted, countNoted, finish, stopped, through, zeroCounts, did, Safe, keepsDepth, Suits, termsSetting, StepAsks, Known, Runs, ends, onward, Ready}
 use Rattle.page.proofs.Areas.{noted-length, finish-adding}
 use Rattle.page.proofs.FontLaws.{unselected-known}
 use Rattle.page.proofs.TurnLaws.{after-kind}
@@ -47,7 +47,7 @@ pub record Sound (page : Page) : Type 0 where
   pub full : length (page .stack) ≡ 100
 
 -- so it is where the state that it stands for has its numbers in their ranges
-pub state-sound : (page : Page) (s : State) → stateOf page ≡ s → Bounded (s .level) → AllBounded (s .saved) → Known (s .font) → page .depth ≤ 100
+pub state-sound : (page : Page) (s : State) → pageState page ≡ s → Bounded (s .level) → AllBounded (s .saved) → Known (s .font) → page .depth ≤ 100
     → length (page .stack) ≡ 100 → Sound page
 state-sound page s is-s bounded kept known shallow full =
     record {
@@ -76,8 +76,8 @@ pub record Walking (file fonts table : List ℕ) (terms : Terms) (start : ℕ) (
   pub ready : Ready file fonts table terms start
   pub rest : List Located
   pub runs : Runs file at (page .depth) rest
-  pub same : finish out counts (placing (settingBy terms table (history file)) (stateOf page) rest)
-      ≡ finish out₀ zeroCounts (placing (settingBy terms table (history file)) freshState (pageOf (terms .page) (history file)))
+  pub same : finish out counts (placing (termsSetting terms table (history file)) (pageState page) rest)
+      ≡ finish out₀ zeroCounts (placing (termsSetting terms table (history file)) freshState (pageOf (terms .page) (history file)))
   pub sound : Sound page
   pub few-records : counts .records ≤ at
   pub few-missing : counts .missing ≤ at
@@ -86,13 +86,13 @@ pub record Walking (file fonts table : List ℕ) (terms : Terms) (start : ℕ) (
 
 -- at the start all of the page is to come
 pub starting : {file fonts table : List ℕ} {terms : Terms} {start : ℕ} (ready : Ready file fonts table terms start) (out : List ℕ) (page : Page)
-    → stateOf page ≡ freshState → page .depth ≡ 0 → length (page .stack) ≡ 100 → Walking file fonts table terms start out out page zeroCounts start
+    → pageState page ≡ freshState → page .depth ≡ 0 → length (page .stack) ≡ 100 → Walking file fonts table terms start out out page zeroCounts start
 starting {file} {fonts} {table} {terms} {start} ready out page fresh flat full =
     record {
       ready = ready;
       rest = pageOf (terms .page) (history file);
       runs = subst (λ (depth : ℕ). Runs file start depth (pageOf (terms .page) (history file))) (sym flat) (ready .runs);
-      same = ap (λ (s : State). finish out zeroCounts (placing (settingBy terms table (history file)) s (pageOf (terms .page) (history file)))) fresh;
+      same = ap (λ (s : State). finish out zeroCounts (placing (termsSetting terms table (history file)) s (pageOf (terms .page) (history file)))) fresh;
       sound = state-sound page freshState fresh bounded-zero tt unselected-known (omega arith) full;
       few-records = omega arith;
       few-missing = omega arith;
@@ -182,7 +182,7 @@ module _ (counts : Counts) (at next : ℕ) (forward : at < next) where
   few-noted special r m s = (omega arith, omega arith, omega arith)
 
 -- with nothing to come, the area and the counts stay
-finish-none : (out : List ℕ) (counts : Counts) → through out counts ≡ finish out counts (given (record { records = []; missing-characters = 0; specials = 0 }))
+finish-none : (out : List ℕ) (counts : Counts) → through out counts ≡ finish out counts (given (record { placements = []; missing-characters = 0; specials = 0 }))
 finish-none out counts =
     sym (ap₂ (λ (r m : ℕ). through out (record { records = r; missing = m; specials = counts .specials + 0 })) (add-zero (counts .records)) (add-zero (counts .missing))
     ∙ ap (λ (n : ℕ). through out (record { records = counts .records; missing = counts .missing; specials = n })) (add-zero (counts .specials)))
@@ -196,12 +196,12 @@ neither false b e = refl
 
 module _ {file fonts table : List ℕ} {terms : Terms} {start : ℕ} {out₀ out : List ℕ} {page : Page} {counts : Counts} {at : ℕ}
     (w : Walking file fonts table terms start out₀ out page counts at) (r : Step)
-    (asks : StepAsks file at (settingBy terms table (history file)) (page .now) (page .font) r) where
+    (asks : StepAsks file at (termsSetting terms table (history file)) (page .now) (page .font) r) where
   abbrev setting : Setting
-  setting = settingBy terms table (history file)
+  setting = termsSetting terms table (history file)
 
   abbrev s : State
-  s = stateOf page
+  s = pageState page
 
   -- the command that stands here: the page's eop, or the next of its commands
   data Here : Type 0 where
@@ -256,8 +256,8 @@ module _ {file fonts table : List ℕ} {terms : Terms} {start : ℕ} {out₀ out
 
   module _ (turn : Turn) (turn-is : r .asked .turn ≡ turn) where
     -- a command that leads to a next state
-    pub onwards : GoesOn turn → (s′ : State) → did (terms .ruler) s turn (r .asked .adds) ≡ goes s′ (addedOf (r .asked .adds))
-        → (page′ : Page) → stateOf page′ ≡ s′ → page′ .depth ≡ turnedDepth turn (page .depth) → Sound page′
+    pub onwards : GoesOn turn → (s′ : State) → did (terms .ruler) s turn (r .asked .adds) ≡ continues s′ (addedOf (r .asked .adds))
+        → (page′ : Page) → pageState page′ ≡ s′ → page′ .depth ≡ turnedDepth turn (page .depth) → Sound page′
         → (out′ : List ℕ) → out′ ≡ areaNoted out (counts .records) (addedOf (r .asked .adds))
         → (counts′ : Counts) → counts′ ≡ countNoted counts (addedOf (r .asked .adds))
         → Walking file fonts table terms start out₀ out′ page′ counts′ (r .next)
@@ -270,7 +270,7 @@ module _ {file fonts table : List ℕ} {terms : Terms} {start : ℕ} {out₀ out
         by : Here → Walking file fonts table terms start out₀ out′ page′ counts′ (r .next)
         by (last c rest stands eop e) = absurd (true≢false (sym eop ∙ suits-open (kindOfCommand c) (page .depth) turn on (suits stands turn turn-is)))
         by (next c rest later stands goes-on right e runs) =
-            let outcome : after setting s c ≡ goes s′ added = sym (does stands turn turn-is) ∙ led in
+            let outcome : after setting s c ≡ continues s′ added = sym (does stands turn turn-is) ∙ led in
             let step : placing setting s (w .rest) ≡ andThen (placing setting s′ later) (λ p. given (adding added p)) =
             ap (placing setting s) e ∙ ap (λ (o : Outcome). onOutcome at o (λ n. placing setting n later)) outcome in
             let noted = few-noted counts at (r .next) (advances .0) added (w .few-records) (w .few-missing) (w .few-specials) in
@@ -294,14 +294,14 @@ module _ {file fonts table : List ℕ} {terms : Terms} {start : ℕ} {out₀ out
             }
 
     -- one that leads to another level only
-    pub leveled : GoesOn turn → (l : Level) → did (terms .ruler) s turn (r .asked .adds) ≡ goes (withNumbers s l) (addedOf (r .asked .adds)) → turnedDepth turn (page .depth) ≡ page .depth
+    pub leveled : GoesOn turn → (l : Level) → did (terms .ruler) s turn (r .asked .adds) ≡ continues (withNumbers s l) (addedOf (r .asked .adds)) → turnedDepth turn (page .depth) ≡ page .depth
         → (page′ : Page) → page′ ≡ withLevel page l → Bounded l
         → (out′ : List ℕ) → out′ ≡ areaNoted out (counts .records) (addedOf (r .asked .adds))
         → (counts′ : Counts) → counts′ ≡ countNoted counts (addedOf (r .asked .adds))
         → Walking file fonts table terms start out₀ out′ page′ counts′ (r .next)
     leveled on l led flat page′ page-is bounded out′ out-is counts′ counts-are =
         let sound = w .sound in
-        onwards on (withNumbers s l) led page′ (ap stateOf page-is) (ap (λ (p : Page). p .depth) page-is ∙ sym flat)
+        onwards on (withNumbers s l) led page′ (ap pageState page-is) (ap (λ (p : Page). p .depth) page-is ∙ sym flat)
         (subst Sound (sym page-is) (record { bounded = bounded; kept = sound .kept; known = sound .known; shallow = sound .shallow; full = sound .full }))
         out′ out-is counts′ counts-are
 
@@ -333,7 +333,7 @@ module _ {file fonts table : List ℕ} {terms : Terms} {start : ℕ} {out₀ out
     where
       by : Here → through out′ counts′ ≡ finish out₀ zeroCounts (placing setting freshState (pageOf (terms .page) (history file)))
       by (last c rest stands eop e) =
-          let same-outcome : goes s (addedOf (r .asked .adds)) ≡ goes s nothing =
+          let same-outcome : continues s (addedOf (r .asked .adds)) ≡ continues s nothing =
           does stands Turn.End turn-is ∙ sym (after-kind setting (page .now) (savedOf (page .depth) (page .stack)) (page .font) c Eop (is-kind (kindOfCommand c) Eop eop)) in
           let none : addedOf (r .asked .adds) ≡ nothing = cc in
           ap₂ through (out-is ∙ ap (areaNoted out (counts .records)) none) (counts-are ∙ ap (countNoted counts) none)

@@ -16,7 +16,7 @@ use Rattle.state.specs.Registers.{freshState}
 use Rattle.page.specs.declared.Counts.{Counts}
 use Rattle.page.specs.Records.{placementRecordSize, allBytes}
 use Rattle.page.specs.PageList.{pageOf}
-use Rattle.page.specs.Placing.{Setting, Placed, placing}
+use Rattle.page.specs.Placing.{Setting, Contents, placing}
 
 -- 15: "page number outside 1 to the page count"
 abbrev pub pageOutside : ℕ → ℕ → Bool
@@ -24,34 +24,34 @@ pageOutside page pages = not (leb 1 page && leb page pages)
 
 -- what the pages of a file are placed by, at a resolution
 abbrev pub settingOf : List ℕ → List ℕ → Ratio → ℕ → ℕ → ℕ → Setting
-settingOf file table k resolution records page =
-    record { ruler = record { k = k; drift = drift resolution }; table = table; records = records; volume = history file; page = page }
+settingOf file table k resolution rows page =
+    record { ruler = record { k = k; drift = drift resolution }; table = table; rows = rows; volume = history file; page = page }
 
 -- 17: "output area shorter than the bytes to be written (in placing, 20 times the records)"; the whole page is walked for 16 before it is judged
-abbrev pub withRoom : ℕ → Placed → Answer Placed
-withRoom room p = refuseIf (ltb room (placementRecordSize * length (p .records))) areaTooShort 0 (given p)
+abbrev pub withRoom : ℕ → Contents → Answer Contents
+withRoom room p = refuseIf (ltb room (placementRecordSize * length (p .placements))) areaTooShort 0 (given p)
 
 -- "then 12 to 17 in order": one page of an accepted file of so many pages, by a width table, at a resolution, into an area of so many bytes
-abbrev pub placedAccepted : List ℕ → List ℕ → ℕ → ℕ → ℕ → ℕ → Answer Placed
+abbrev pub placedAccepted : List ℕ → List ℕ → ℕ → ℕ → ℕ → ℕ → Answer Contents
 placedAccepted file table resolution page room pages =
     andThen (unitOf (num (history file)) (den (history file)) (mag (history file)) resolution) (λ k.
-    andThen (checkedTable table) (λ records.
+    andThen (checkedTable table) (λ rows.
     refuseIf (pageOutside page pages) noSuchPage 0
-    (andThen (placing (settingOf file table k resolution records page) freshState (pageOf page (history file))) (withRoom room))))
+    (andThen (placing (settingOf file table k resolution rows page) freshState (pageOf page (history file))) (withRoom room))))
 
 -- "Placing judges 1 to 11 first"
-abbrev pub placedPage : List ℕ → List ℕ → ℕ → ℕ → ℕ → Answer Placed
+abbrev pub placedPage : List ℕ → List ℕ → ℕ → ℕ → ℕ → Answer Contents
 placedPage file table resolution page room = andThen (judged file) (λ found. placedAccepted file table resolution page room (found .pages))
 
 -- "Placing gives the number of records written, of missing characters and of specials on that page"
-abbrev pub countsOf : Placed → Counts
-countsOf p = record { records = length (p .records); missing = p .missing-characters; specials = p .specials }
+abbrev pub countsOf : Contents → Counts
+countsOf p = record { records = length (p .placements); missing = p .missing-characters; specials = p .specials }
 
 -- of an answer
-abbrev pub placedCounts : Answer Placed → Answer Counts
+abbrev pub placedCounts : Answer Contents → Answer Counts
 placedCounts answer = andThen answer (λ p. given (countsOf p))
 
 -- the area: the records' bytes, then its old bytes; "A refusal leaves every byte of the output area unchanged"
-abbrev pub areaAfter : List ℕ → Answer Placed → List ℕ
+abbrev pub areaAfter : List ℕ → Answer Contents → List ℕ
 areaAfter entry (refused number place) = entry
-areaAfter entry (given p) = allBytes (p .records) ++ drop (placementRecordSize * length (p .records)) entry
+areaAfter entry (given p) = allBytes (p .placements) ++ drop (placementRecordSize * length (p .placements)) entry

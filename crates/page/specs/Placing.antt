@@ -27,11 +27,11 @@ use Rattle.page.specs.declared.Record.{Record}
 use Rattle.page.specs.Records.{characterRecord, ruleRecord}
 use Rattle.page.specs.PageList.{Located}
 
--- what a page is placed by: K and D, the width table and how many records it has, the volume's commands, and the page's number
+-- what a page is placed by: K and D, the width table and how many rows it has, the volume's commands, and the page's number
 pub record Setting : Type 0 where
   pub ruler : Ruler
   pub table : List ℕ
-  pub records : ℕ
+  pub rows : ℕ
   pub volume : List Command
   pub page : ℕ
 
@@ -48,7 +48,7 @@ fontOf setting number = fontBy number (definitionOf false number (setting .volum
 
 -- "A font finds its records by check sum and s", "by code mod 256 (0 to 255)"
 abbrev pub lookedFor : Setting → Font → ℤ → LookUp
-lookedFor setting font code = walk (setting .records) (setting .table) (font .checksum) (font .scale) (codeByte code)
+lookedFor setting font code = walk (setting .rows) (setting .table) (font .checksum) (font .scale) (codeByte code)
 
 -- ---- what a command comes to
 
@@ -61,7 +61,7 @@ pub data Added : Type 0 where
 
 -- the next state and what is added, or that h or v would leave its range
 pub data Outcome : Type 0 where
-  goes : State → Added → Outcome
+  continues : State → Added → Outcome
   leavesRange : Outcome
 
 -- the state with other numbers
@@ -70,16 +70,16 @@ withNumbers s level = record { level = level; saved = s .saved; font = s .font }
 
 -- "A character absent from the table gives no record, moves nothing and is counted as missing"
 abbrev pub setCharacter : Setting → State → ℤ → LookUp → Outcome
-setCharacter setting s code absent = goes s missing
+setCharacter setting s code absent = continues s missing
 setCharacter setting s code (found m) =
     cond (leaves (s .level .h +ℤ scaledBy (s .font .scale) (m .width))) leavesRange
-    (goes (withNumbers s (characterMoved (setting .ruler) (scaledBy (s .font .scale) (m .width)) (m .escapement) (s .level)))
+    (continues (withNumbers s (characterMoved (setting .ruler) (scaledBy (s .font .scale) (m .width)) (m .escapement) (s .level)))
     (placed (characterRecord (setting .page) (s .level) (s .font) code (m .escapement))))
 
 -- "put forms move nothing"
 abbrev pub putCharacter : Setting → State → ℤ → LookUp → Outcome
-putCharacter setting s code absent = goes s missing
-putCharacter setting s code (found m) = goes s (placed (characterRecord (setting .page) (s .level) (s .font) code (m .escapement)))
+putCharacter setting s code absent = continues s missing
+putCharacter setting s code (found m) = continues s (placed (characterRecord (setting .page) (s .level) (s .font) code (m .escapement)))
 
 -- "A rule with a side ≤ 0 gives no record"
 abbrev pub isVisible : ℤ → ℤ → Bool
@@ -96,13 +96,13 @@ ruleAdded setting s height width =
 abbrev pub setRule : Setting → State → ℤ → ℤ → Outcome
 setRule setting s height width =
     cond (leaves (s .level .h +ℤ width)) leavesRange
-    (goes (withNumbers s (ruleMoved (setting .ruler) (s .font .scale) width (s .level))) (ruleAdded setting s height width))
+    (continues (withNumbers s (ruleMoved (setting .ruler) (s .font .scale) width (s .level))) (ruleAdded setting s height width))
 
 -- a move sideways or down
 abbrev pub move : Direction → Setting → State → ℤ → Outcome
 move direction setting s n =
     cond (leaves (spotOf direction (s .level) .position +ℤ n)) leavesRange
-    (goes (withNumbers s (movedBy direction (setting .ruler) (s .font .scale) n (s .level))) nothing)
+    (continues (withNumbers s (movedBy direction (setting .ruler) (s .font .scale) n (s .level))) nothing)
 
 -- w0, x0, y0, z0 move by the register, the others set it first
 abbrev pub distanceOr : ℤ → List ℕ → ℤ
@@ -131,12 +131,12 @@ afterKind SetCharacter setting s c =
 afterKind SetRule setting s c = setRule setting s (ruleHeight (c .params)) (ruleWidth (c .params))
 afterKind PutCharacter setting s c =
     putCharacter setting s (characterCode (c .opcode) (c .params)) (lookedFor setting (s .font) (characterCode (c .opcode) (c .params)))
-afterKind PutRule setting s c = goes s (ruleAdded setting s (ruleHeight (c .params)) (ruleWidth (c .params)))
-afterKind Nop setting s c = goes s nothing
-afterKind Bop setting s c = goes s nothing
-afterKind Eop setting s c = goes s nothing
-afterKind Push setting s c = goes (pushed s) nothing
-afterKind Pop setting s c = goes (popped s) nothing
+afterKind PutRule setting s c = continues s (ruleAdded setting s (ruleHeight (c .params)) (ruleWidth (c .params)))
+afterKind Nop setting s c = continues s nothing
+afterKind Bop setting s c = continues s nothing
+afterKind Eop setting s c = continues s nothing
+afterKind Push setting s c = continues (pushed s) nothing
+afterKind Pop setting s c = continues (popped s) nothing
 afterKind Right setting s c = move Direction.Sideways setting s (distance (c .params))
 afterKind W setting s c =
     let n = distanceOr (s .level .w) (c .params) in move Direction.Sideways setting (withNumbers s (withW n (s .level))) n
@@ -148,13 +148,13 @@ afterKind Y setting s c =
 afterKind Z setting s c =
     let n = distanceOr (s .level .z) (c .params) in move Direction.Down setting (withNumbers s (withZ n (s .level))) n
 afterKind Select setting s c =
-    goes (record { level = s .level; saved = s .saved; font = fontOf setting (selectedFont (c .opcode) (c .params)) }) nothing
-afterKind Special setting s c = goes s special
-afterKind Define setting s c = goes s nothing
-afterKind Pre setting s c = goes s nothing
-afterKind Post setting s c = goes s nothing
-afterKind PostPost setting s c = goes s nothing
-afterKind Undefined setting s c = goes s nothing
+    continues (record { level = s .level; saved = s .saved; font = fontOf setting (selectedFont (c .opcode) (c .params)) }) nothing
+afterKind Special setting s c = continues s special
+afterKind Define setting s c = continues s nothing
+afterKind Pre setting s c = continues s nothing
+afterKind Post setting s c = continues s nothing
+afterKind PostPost setting s c = continues s nothing
+afterKind Undefined setting s c = continues s nothing
 
 -- "Each command takes the page's state and hands back the next"
 unfoldable pub after : Setting → State → Command → Outcome
@@ -162,25 +162,25 @@ after setting s c = afterKind (kindOfCommand c) setting s c
 
 -- ---- what the page's list comes to
 
--- its records, in the order of their commands, and how many missing characters and specials
-pub record Placed : Type 0 where
-  pub records : List Record
+-- its placements, in the order of their commands, and how many missing characters and specials
+pub record Contents : Type 0 where
+  pub placements : List Record
   pub missing-characters : ℕ
   pub specials : ℕ
 
 -- with what a command before them adds
-abbrev pub adding : Added → Placed → Placed
+abbrev pub adding : Added → Contents → Contents
 adding nothing p = p
-adding (placed r) p = record { records = r ∷ p .records; missing-characters = p .missing-characters; specials = p .specials }
-adding missing p = record { records = p .records; missing-characters = p .missing-characters + 1; specials = p .specials }
-adding special p = record { records = p .records; missing-characters = p .missing-characters; specials = p .specials + 1 }
+adding (placed r) p = record { placements = r ∷ p .placements; missing-characters = p .missing-characters; specials = p .specials }
+adding missing p = record { placements = p .placements; missing-characters = p .missing-characters + 1; specials = p .specials }
+adding special p = record { placements = p .placements; missing-characters = p .missing-characters; specials = p .specials + 1 }
 
 -- 16: "h or v would leave −2,147,483,647 to 2,147,483,647; place of that command"
-abbrev pub onOutcome : ℕ → Outcome → (State → Answer Placed) → Answer Placed
+abbrev pub onOutcome : ℕ → Outcome → (State → Answer Contents) → Answer Contents
 onOutcome place leavesRange next = refused positionOutOfRange place
-onOutcome place (goes s added) next = andThen (next s) (λ p. given (adding added p))
+onOutcome place (continues s added) next = andThen (next s) (λ p. given (adding added p))
 
 -- the commands one after the other, from a state on
-unfoldable pub placing : Setting → State → List Located → Answer Placed
-placing setting s [] = given (record { records = []; missing-characters = 0; specials = 0 })
+unfoldable pub placing : Setting → State → List Located → Answer Contents
+placing setting s [] = given (record { placements = []; missing-characters = 0; specials = 0 })
 placing setting s (c ∷ rest) = onOutcome (c .at) (after setting s (c .command)) (λ next. placing setting next rest)

@@ -17,7 +17,7 @@ use Rattle.volume.specs.Judged.{tail, judgedFrom, judged}
 use Rattle.volume.specs.History.{history, historyFrom}
 use Rattle.page.specs.declared.Record.{Record}
 use Rattle.page.specs.Records.{recordBytes, allBytes}
-use Rattle.page.specs.Placing.{Placed, after, placing}
+use Rattle.page.specs.Placing.{Contents, after, placing}
 use Rattle.page.specs.Answers.{placedPage}
 
 -- "M with six right1 5, set_rule 4 7, put_rule 1 1 put before eop (pointers mended)"
@@ -38,8 +38,8 @@ abbrev pub rule : ℤ → ℤ → ℤ → Record
 rule hh height width = record { kind = 2; font = 0; page = 1; hh = hh; vv = pos 0; content = height; extent = width }
 
 -- "r 1 0 9 0 2 3", "r 1 0 11 0 1 1", "end 2 0 0"
-abbrev pub printed : Placed
-printed = record { records = rule (pos 9) (pos 2) (pos 3) ∷ rule (pos 11) (pos 1) (pos 1) ∷ []; missing-characters = 0; specials = 0 }
+abbrev pub printed : Contents
+printed = record { placements = rule (pos 9) (pos 2) (pos 3) ∷ rule (pos 11) (pos 1) (pos 1) ∷ []; missing-characters = 0; specials = 0 }
 
 -- "empty table, R 300, page 1, prints in whole": into an area that just holds it
 pub printed-placed : placedPage example [] 300 1 40 ≡ given printed
@@ -53,6 +53,6 @@ printedBytes =
     ++ (2 ∷ 0 ∷ 0 ∷ 1 ∷ 0 ∷ 0 ∷ 0 ∷ 11 ∷ 0 ∷ 0 ∷ 0 ∷ 0 ∷ 0 ∷ 0 ∷ 0 ∷ 1 ∷ 0 ∷ 0 ∷ 0 ∷ 1 ∷ [])
 
 -- the records' bytes are these
-pub printed-bytes : allBytes (printed .records) ≡ printedBytes
+pub printed-bytes : allBytes (printed .placements) ≡ printedBytes
 unfolding recordBytes bytesOf
 printed-bytes = refl

@@ -47,7 +47,7 @@ use Rattle.page.specs.declared.PagePlaced.{PagePlaced}
 use Rattle.page.specs.declared.PagePlaced.the-variants as PagePlaced
 use Rattle.page.specs.Records.{placementRecordSize, recordBytes, ruleRecord}
 use Rattle.page.specs.PageList.{Located, pageOf}
-use Rattle.page.specs.Placing.{Setting, Added, nothing, placed, missing, special, Outcome, goes, leavesRange, withNumbers, fontBy, lookedFor, setCharacter, putCharacter, isVisible, distanceOr, withW, withX, withY, withZ, after, Placed, placing}
+use Rattle.page.specs.Placing.{Setting, Added, nothing, placed, missing, special, Outcome, continues, leavesRange, withNumbers, fontBy, lookedFor, setCharacter, putCharacter, isVisible, distanceOr, withW, withX, withY, withZ, after, Contents, placing}
 
 -- ---- records
 
@@ -104,11 +104,11 @@ pub data Ending : Type 0 where
   through : List ℕ → Counts → Ending
 
 -- the ending of what is still to come, from an area and counts on
-abbrev pub finish : List ℕ → Counts → Answer Placed → Ending
+abbrev pub finish : List ℕ → Counts → Answer Contents → Ending
 finish out counts (refused number place) = stopped number place
 finish out counts (given p) =
-    through (stored out (counts .records) (p .records))
-    (record { records = counts .records + length (p .records); missing = counts .missing + p .missing-characters; specials = counts .specials + p .specials })
+    through (stored out (counts .records) (p .placements))
+    (record { records = counts .records + length (p .placements); missing = counts .missing + p .missing-characters; specials = counts .specials + p .specials })
 
 -- nothing counted yet
 abbrev pub zeroCounts : Counts
@@ -137,15 +137,15 @@ stateWith level saved font = record { level = level; saved = saved; font = font 
 
 -- the outcome of what the code says that a command does and adds
 abbrev pub did : Ruler → State → Turn → Adds → Outcome
-did ruler s Turn.Stay adds = goes s (addedOf adds)
-did ruler s (Turn.Sideways level n) adds = goes (withNumbers s (movedBy Direction.Sideways ruler (s .font .scale) n level)) (addedOf adds)
-did ruler s (Turn.Down level n) adds = goes (withNumbers s (movedBy Direction.Down ruler (s .font .scale) n level)) (addedOf adds)
-did ruler s (Turn.PastCharacter width escapement) adds = goes (withNumbers s (characterMoved ruler width escapement (s .level))) (addedOf adds)
-did ruler s (Turn.PastRule width) adds = goes (withNumbers s (ruleMoved ruler (s .font .scale) width (s .level))) (addedOf adds)
-did ruler s Turn.Push adds = goes (pushed s) (addedOf adds)
-did ruler s Turn.Pop adds = goes (popped s) (addedOf adds)
-did ruler s (Turn.Select font) adds = goes (record { level = s .level; saved = s .saved; font = font }) (addedOf adds)
-did ruler s Turn.End adds = goes s (addedOf adds)
+did ruler s Turn.Stay adds = continues s (addedOf adds)
+did ruler s (Turn.Sideways level n) adds = continues (withNumbers s (movedBy Direction.Sideways ruler (s .font .scale) n level)) (addedOf adds)
+did ruler s (Turn.Down level n) adds = continues (withNumbers s (movedBy Direction.Down ruler (s .font .scale) n level)) (addedOf adds)
+did ruler s (Turn.PastCharacter width escapement) adds = continues (withNumbers s (characterMoved ruler width escapement (s .level))) (addedOf adds)
+did ruler s (Turn.PastRule width) adds = continues (withNumbers s (ruleMoved ruler (s .font .scale) width (s .level))) (addedOf adds)
+did ruler s Turn.Push adds = continues (pushed s) (addedOf adds)
+did ruler s Turn.Pop adds = continues (popped s) (addedOf adds)
+did ruler s (Turn.Select font) adds = continues (record { level = s .level; saved = s .saved; font = font }) (addedOf adds)
+did ruler s Turn.End adds = continues s (addedOf adds)
 did ruler s Turn.Leave adds = leavesRange
 
 -- what the page's methods need of a turn
@@ -192,8 +192,8 @@ Suits kind Turn.End = kind ≡ Kind.Eop
 Suits kind Turn.Leave = keepsDepth kind ≡ true
 
 -- what the code holds, as the setting of the meaning
-abbrev pub settingBy : Terms → List ℕ → List Command → Setting
-settingBy terms table volume = record { ruler = terms .ruler; table = table; records = terms .records; volume = volume; page = terms .page }
+abbrev pub termsSetting : Terms → List ℕ → List Command → Setting
+termsSetting terms table volume = record { ruler = terms .ruler; table = table; rows = terms .rows; volume = volume; page = terms .page }
 
 -- what is asked comes to an outcome, whatever the levels that are saved
 pub record Comes (ruler : Ruler) (level : Level) (font : Font) (outcome : State → Outcome) (turn : Turn) (adds : Adds) : Type 0 where
@@ -205,7 +205,7 @@ pub record Comes (ruler : Ruler) (level : Level) (font : Font) (outcome : State 
 abbrev pub CharacterAsks : Terms → List ℕ → Level → Font → Bool → ℤ → Asked → Type 0
 CharacterAsks terms table level font sets code r =
     (volume : List Command)
-    → let setting = settingBy terms table volume in
+    → let setting = termsSetting terms table volume in
     Comes (terms .ruler) level font
     (λ s. cond sets (setCharacter setting s code (lookedFor setting font code)) (putCharacter setting s code (lookedFor setting font code))) (r .turn) (r .adds)
     × Plain (r .turn)
@@ -312,7 +312,7 @@ pub data Runs (file : List ℕ) : ℕ → ℕ → List Located → Type 0 where
 -- all that a walk over a page starts from
 pub record Ready (file fonts table : List ℕ) (terms : Terms) (start : ℕ) : Type 0 where
   pub short : length file ≤ longestFile
-  pub right : checkedTable table ≡ given (terms .records)
+  pub right : checkedTable table ≡ given (terms .rows)
   pub unit : Accepted (terms .ruler .k)
   pub drift-small : terms .ruler .drift ≤ 2
   pub told : Told file fonts (history file)

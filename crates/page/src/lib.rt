@@ -31,10 +31,10 @@ pub struct Counts {
     pub specials: usize,
 }
 
-// What a page is placed by, beside the file and the width table: K and D, how many records the table has, and the page's number
+// What a page is placed by, beside the file and the width table: K and D, how many rows the table has, and the page's number
 pub struct Terms {
     pub ruler: Ruler,
-    pub records: usize,
+    pub rows: usize,
     pub page: u64,
 }
 

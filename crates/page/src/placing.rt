@@ -20,7 +20,7 @@ ghost use Rattle.state.specs.Registers.{freshState};
 ghost use Rattle.page.specs.PageList.{pageOf};
 ghost use Rattle.page.specs.Placing.{placing};
 ghost use Rattle.page.specs.Answers.{withRoom, placedAccepted, placedPage, placedCounts, areaAfter};
-ghost use Rattle.page.specs.Steps.{settingBy, Ready, Held, placeAnswer};
+ghost use Rattle.page.specs.Steps.{termsSetting, Ready, Held, placeAnswer};
 
 // The length of a bop.
 const BOP: usize = 45;
@@ -41,8 +41,8 @@ fn place_commands(
     out: &mut [u8],
 ) -> PagePlaced
     requires { ⌜ Ready (now file) (now fonts) (now widths) terms start ⌝ }
-    ensures { λ r. ⌜ placeAnswer r ≡ placedCounts (andThen (placing (settingBy terms (now (widths .entry)) (history (now (file .entry)))) freshState (pageOf (terms .page) (history (now (file .entry))))) (withRoom (length (now (out .entry))))) ⌝ }
-    ensures { λ _. ⌜ now (out .exit) ≡ areaAfter (now (out .entry)) (andThen (placing (settingBy terms (now (widths .entry)) (history (now (file .entry)))) freshState (pageOf (terms .page) (history (now (file .entry))))) (withRoom (length (now (out .entry))))) ⌝ }
+    ensures { λ r. ⌜ placeAnswer r ≡ placedCounts (andThen (placing (termsSetting terms (now (widths .entry)) (history (now (file .entry)))) freshState (pageOf (terms .page) (history (now (file .entry))))) (withRoom (length (now (out .entry))))) ⌝ }
+    ensures { λ _. ⌜ now (out .exit) ≡ areaAfter (now (out .entry)) (andThen (placing (termsSetting terms (now (widths .entry)) (history (now (file .entry)))) freshState (pageOf (terms .page) (history (now (file .entry))))) (withRoom (length (now (out .entry))))) ⌝ }
 {
     match walking::walk(file, widths, fonts, terms, start, &mut out[..0]) {
         Walked::Left(place) => refused(refusals::POSITION_OUT_OF_RANGE, place),
@@ -74,9 +74,9 @@ fn place_accepted(
         UnitFound::Refused(refusal) => return PagePlaced::Refused(refusal),
         UnitFound::Is(k) => k,
     };
-    let records = match table::check_table(widths) {
+    let rows = match table::check_table(widths) {
         Table::Wrong(place) => return refused(refusals::WRONG_WIDTH_TABLE, place),
-        Table::Right(records) => records,
+        Table::Right(rows) => rows,
     };
     if page < 1 {
         return refused(refusals::NO_SUCH_PAGE, 0);
@@ -89,7 +89,7 @@ fn place_accepted(
             k: k,
             drift: units::drift_of(resolution),
         },
-        records: records,
+        rows: rows,
         page: page as u64,
     };
     place_commands(file, widths, fonts, terms, volume.wanted + BOP, out)

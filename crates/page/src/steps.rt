@@ -28,7 +28,7 @@ ghost use Rattle.volume.specs.History.{history};
 ghost use Rattle.state.specs.Steps.{Bounded};
 ghost use Rattle.commands.specs.declared.Kind.the-variants.{W, X, Y, Z};
 ghost use Rattle.page.specs.Placing.{distanceOr};
-ghost use Rattle.page.specs.Steps.{addedOf, AddsInWords, Known, Told, settingBy, CharacterAsks, ruleBy, sidewaysTurn, downTurn, ruleTurn, turnOf, command, MoveFits, RuleAsks, CommandAsks, StepAsks};
+ghost use Rattle.page.specs.Steps.{addedOf, AddsInWords, Known, Told, termsSetting, CharacterAsks, ruleBy, sidewaysTurn, downTurn, ruleTurn, turnOf, command, MoveFits, RuleAsks, CommandAsks, StepAsks};
 
 // Where the search for a character starts: records of one font whose codes follow each other are as far apart as their codes.
 fn guess(hint: usize, byte: u64) -> usize
@@ -54,20 +54,20 @@ fn character(
     code: i64,
     hint: usize,
 ) -> Asked
-    requires { ⌜ (checkedTable (now widths) ≡ given (terms .records)) × Known font ⌝ }
+    requires { ⌜ (checkedTable (now widths) ≡ given (terms .rows)) × Known font ⌝ }
     requires { ⌜ Bounded level × (natAbs code ≤ 2 ^ 31) ⌝ }
     ensures { λ r. ⌜ CharacterAsks terms (now (widths .entry)) level font sets code r ⌝ }
 {
     let byte = numbers::to_twos(256, code);
     let near = guess(hint, byte);
-    match table::find_near(widths, terms.records, font.checksum, font.scale, byte, near) {
+    match table::find_near(widths, terms.rows, font.checksum, font.scale, byte, near) {
         Place::Nowhere => Asked {
             turn: Turn::Stay,
             adds: Adds::Missing,
             hint: hint,
         },
         Place::At(index) => {
-            let metric = table::metric_of(widths, terms.records, index);
+            let metric = table::metric_of(widths, terms.rows, index);
             let escapement = metric.escapement;
             let adds = Adds::Placed(Record {
                 kind: 1,
@@ -264,8 +264,8 @@ fn asked_by(
     hint: usize,
 ) -> Asked
     requires { ⌜ Whole (command opcode (now params)) × Told (now file) (now fonts) (history (now file)) ⌝ }
-    requires { ⌜ (checkedTable (now widths) ≡ given (terms .records)) × Accepted (terms .ruler .k) × Known font × Bounded level ⌝ }
-    ensures { λ r. ⌜ CommandAsks (settingBy terms (now (widths .entry)) (history (now (file .entry)))) level font (command opcode (now (params .entry))) r ⌝ }
+    requires { ⌜ (checkedTable (now widths) ≡ given (terms .rows)) × Accepted (terms .ruler .k) × Known font × Bounded level ⌝ }
+    ensures { λ r. ⌜ CommandAsks (termsSetting terms (now (widths .entry)) (history (now (file .entry)))) level font (command opcode (now (params .entry))) r ⌝ }
 {
     let kind = commands::kind_of(opcode);
     match kind {
@@ -310,8 +310,8 @@ pub fn step_at(
     hint: usize,
 ) -> Step
     requires { ⌜ Told (now file) (now fonts) (history (now file)) ⌝ }
-    requires { ⌜ (checkedTable (now widths) ≡ given (terms .records)) × Accepted (terms .ruler .k) × Known font × Bounded level × (now table ≡ lengths) ⌝ }
-    ensures { λ r. ⌜ StepAsks (now (file .entry)) at (settingBy terms (now (widths .entry)) (history (now (file .entry)))) level font r ⌝ }
+    requires { ⌜ (checkedTable (now widths) ≡ given (terms .rows)) × Accepted (terms .ruler .k) × Known font × Bounded level × (now table ≡ lengths) ⌝ }
+    ensures { λ r. ⌜ StepAsks (now (file .entry)) at (termsSetting terms (now (widths .entry)) (history (now (file .entry)))) level font r ⌝ }
 {
     match commands::read_by(table, file, at) {
         Read::Refused(_) => Step {

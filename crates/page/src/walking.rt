@@ -12,7 +12,7 @@ ghost use Rattle.volume.specs.History.{history};
 ghost use Rattle.state.specs.Registers.{freshState};
 ghost use Rattle.page.specs.PageList.{pageOf};
 ghost use Rattle.page.specs.Placing.{placing};
-ghost use Rattle.page.specs.Steps.{Ready, settingBy, zeroCounts, finish, endingOf, Few};
+ghost use Rattle.page.specs.Steps.{Ready, termsSetting, zeroCounts, finish, endingOf, Few};
 
 // The hint for the font that is selected now, in exchange for that of the font before, so that no font's search starts from nothing again.
 fn exchanged(hints: &mut [usize; 256], before: u64, after: u64, hint: usize) -> usize {
@@ -30,7 +30,7 @@ pub fn walk(
     out: &mut [u8],
 ) -> Walked
     requires { ⌜ Ready (now file) (now fonts) (now widths) terms start ⌝ }
-    ensures { λ r. ⌜ endingOf (now (out .exit)) r ≡ finish (now (out .entry)) zeroCounts (placing (settingBy terms (now (widths .entry)) (history (now (file .entry)))) freshState (pageOf (terms .page) (history (now (file .entry))))) ⌝ }
+    ensures { λ r. ⌜ endingOf (now (out .exit)) r ≡ finish (now (out .entry)) zeroCounts (placing (termsSetting terms (now (widths .entry)) (history (now (file .entry)))) freshState (pageOf (terms .page) (history (now (file .entry))))) ⌝ }
     ensures { λ r. ⌜ Few (length (now (file .entry))) r ⌝ }
 {
     let ruler = terms.ruler;

@@ -93,7 +93,7 @@ module _ (a : Arguments) where
   area = now (a .1 .1 .1 .1 .0)
 
   -- what the contract says of them
-  abbrev pub meant : Answer meaning.Placed
+  abbrev pub meant : Answer meaning.Contents
   meant = placedPage file table resolution page (length area)
 
   -- K, by the file's units
@@ -108,49 +108,49 @@ module _ (a : Arguments) where
   pub record Grounds : Type 0 where
     pub found : Summary
     pub unit : Ratio
-    pub width-records : ℕ
+    pub rows : ℕ
     pub accepted : judged file ≡ given found
     pub unit-is : unitHere ≡ given unit
-    pub table-is : checkedTable table ≡ given width-records
+    pub table-is : checkedTable table ≡ given rows
     pub there : pageOutside page (found .pages) ≡ false
 
   -- K, D, the table, the volume's commands and the page's number
-  abbrev pub settingBy : Grounds → Setting
-  settingBy g = settingOf file table (g .unit) resolution (g .width-records) page
+  abbrev pub groundsSetting : Grounds → Setting
+  groundsSetting g = settingOf file table (g .unit) resolution (g .rows) page
 
   -- the page's own commands, each with the font that is current at it; at first there is none
   abbrev pub seenBy : Grounds → List Seen
-  seenBy g = withFonts (settingBy g) unselected own
+  seenBy g = withFonts (groundsSetting g) unselected own
 
   -- a page that is given was placed, and there is room
-  placed-by : (p : meaning.Placed) → meant ≡ given p
-      → (g : Grounds) × (placing (settingBy g) freshState own ≡ given p) × (placementRecordSize * length (p .records) ≤ length area)
+  placed-by : (p : meaning.Contents) → meant ≡ given p
+      → (g : Grounds) × (placing (groundsSetting g) freshState own ≡ given p) × (placementRecordSize * length (p .placements) ≤ length area)
   placed-by p e =
       let (found, accepted, e1) = then-given (judged file) _ p e in
       let (k, unit-is, e2) = then-given unitHere _ p e1 in
       let (n, table-is, e3) = then-given (checkedTable table) _ p e2 in
       let (there, e4) = given-next (pageOutside page (found .pages)) _ _ _ p e3 in
-      let g : Grounds = record { found = found; unit = k; width-records = n; accepted = accepted; unit-is = unit-is; table-is = table-is; there = there } in
-      let (q, placing-is, e5) = then-given (placing (settingBy g) freshState own) (withRoom (length area)) p e4 in
-      let (fits, e6) = given-next (ltb (length area) (placementRecordSize * length (q .records))) _ _ _ p e5 in
+      let g : Grounds = record { found = found; unit = k; rows = n; accepted = accepted; unit-is = unit-is; table-is = table-is; there = there } in
+      let (q, placing-is, e5) = then-given (placing (groundsSetting g) freshState own) (withRoom (length area)) p e4 in
+      let (fits, e6) = given-next (ltb (length area) (placementRecordSize * length (q .placements))) _ _ _ p e5 in
       let same : q ≡ p = given-same q p e6 in
-      (g, placing-is ∙ ap given same, subst (λ (o : meaning.Placed). placementRecordSize * length (o .records) ≤ length area) same (ltb-false (length area) _ fits))
+      (g, placing-is ∙ ap given same, subst (λ (o : meaning.Contents). placementRecordSize * length (o .placements) ≤ length area) same (ltb-false (length area) _ fits))
 
   -- a page that is refused by 16 passed all that is judged before
   left-by : (place : ℕ) → meant ≡ refused positionOutOfRange place
-      → (g : Grounds) × (placing (settingBy g) freshState own ≡ refused positionOutOfRange place)
+      → (g : Grounds) × (placing (groundsSetting g) freshState own ≡ refused positionOutOfRange place)
   left-by place e =
       let (found, accepted, e1) = then-refused (judged file) _ positionOutOfRange place (λ early. omega (arith, file-numbers file (only-refused (FileRefusal file) (judged file) early (file-refused-with file)))) e in
       let (k, unit-is, e2) = then-refused unitHere _ positionOutOfRange place (λ early. omega (arith, unit-numbers (only-refused UnitRefusal unitHere early (unit-refused-with _ _ _ resolution)))) e1 in
       let (n, table-is, e3) = then-refused (checkedTable table) _ positionOutOfRange place (λ early. omega (arith, only-refused (TableRefusal widthRecordSize table) (checkedTable table) early (table-refused-with table) .0)) e2 in
       let (there, e4) = refused-next (pageOutside page (found .pages)) noSuchPage 0 positionOutOfRange place _ (λ z. omega arith) e3 in
-      let g : Grounds = record { found = found; unit = k; width-records = n; accepted = accepted; unit-is = unit-is; table-is = table-is; there = there } in
-      (g, before (placing (settingBy g) freshState own) e4)
+      let g : Grounds = record { found = found; unit = k; rows = n; accepted = accepted; unit-is = unit-is; table-is = table-is; there = there } in
+      (g, before (placing (groundsSetting g) freshState own) e4)
     where
-      before : (answer : Answer meaning.Placed) → andThen answer (withRoom (length area)) ≡ refused positionOutOfRange place → answer ≡ refused positionOutOfRange place
+      before : (answer : Answer meaning.Contents) → andThen answer (withRoom (length area)) ≡ refused positionOutOfRange place → answer ≡ refused positionOutOfRange place
       before (refused n at) e = ap₂ refused (cc) (cc)
       before (given q) e =
-          let (fits, e1) = refused-next (ltb (length area) (placementRecordSize * length (q .records))) areaTooShort 0 positionOutOfRange place (given q) (λ z. omega arith) e in
+          let (fits, e1) = refused-next (ltb (length area) (placementRecordSize * length (q .placements))) areaTooShort 0 positionOutOfRange place (given q) (λ z. omega arith) e in
           absurd (given-not-refused q positionOutOfRange place e1)
 
 -- ---- what the contract of a call says
@@ -163,37 +163,37 @@ module _ (κs : Lfts 3) (a x : Arguments) where
   -- 16 is given only where all that is judged before it passed, and its place is that of the first of the page's own
   -- commands at which h or v would leave its range
   pub sixteen-is-the-pages : (place : ℕ) → place-page.Post κs a (Placed.Refused positionOutOfRange place) x
-      → (g : Grounds a) × LeavesAt (settingBy a g) place freshState (own a)
+      → (g : Grounds a) × LeavesAt (groundsSetting a g) place freshState (own a)
   sixteen-is-the-pages place post =
       let (g, left) = left-by a place (before (meant a) (sym (post .0))) in
-      (g, refused-place (settingBy a g) freshState (own a) positionOutOfRange place left .1)
+      (g, refused-place (groundsSetting a g) freshState (own a) positionOutOfRange place left .1)
     where
-      before : (answer : Answer meaning.Placed) → placedCounts answer ≡ refused positionOutOfRange place → answer ≡ refused positionOutOfRange place
+      before : (answer : Answer meaning.Contents) → placedCounts answer ≡ refused positionOutOfRange place → answer ≡ refused positionOutOfRange place
       before (refused n at) e = ap₂ refused (cc) (cc)
       before (given p) e = absurd (given-not-refused (countsOf p) positionOutOfRange place e)
 
   module _ (records missing specials : ℕ) (post : place-page.Post κs a (Placed.Records records missing specials) x) where
     -- the page that was placed
-    placed-page : (p : meaning.Placed) × (meant a ≡ given p) × (countsOf p ≡ record { records = records; missing = missing; specials = specials })
+    placed-page : (p : meaning.Contents) × (meant a ≡ given p) × (countsOf p ≡ record { records = records; missing = missing; specials = specials })
     placed-page =
         let (p, is, e) = then-given (meant a) (λ p. given (countsOf p)) _ (sym (post .0)) in
         (p, is, given-same (countsOf p) _ e)
 
     -- the area's first bytes are those of the page's records, as many as the answer says, and all bytes after them are as they were (rules 8.1, 9.1)
     pub accepted-writes-only-records :
-        (p : meaning.Placed)
+        (p : meaning.Contents)
         × (meant a ≡ given p)
-        × (length (p .records) ≡ records)
-        × (take (placementRecordSize * records) (area x) ≡ allBytes (p .records))
+        × (length (p .placements) ≡ records)
+        × (take (placementRecordSize * records) (area x) ≡ allBytes (p .placements))
         × (drop (placementRecordSize * records) (area x) ≡ drop (placementRecordSize * records) (area a))
         × (length (area x) ≡ length (area a))
     accepted-writes-only-records =
         let (p, is, counts) = placed-page in
-        let many : length (p .records) ≡ records = ap (λ (c : Counts). c .records) counts in
-        let written = allBytes (p .records) in
+        let many : length (p .placements) ≡ records = ap (λ (c : Counts). c .records) counts in
+        let written = allBytes (p .placements) in
         let rest = drop (placementRecordSize * records) (area a) in
         let area-is : area x ≡ written ++ rest = post .1 .0 ∙ ap (areaAfter (area a)) is ∙ ap (λ (n : ℕ). written ++ drop (placementRecordSize * n) (area a)) many in
-        let size : length written ≡ placementRecordSize * records = all-length (p .records) ∙ ap (λ (n : ℕ). placementRecordSize * n) many in (
+        let size : length written ≡ placementRecordSize * records = all-length (p .placements) ∙ ap (λ (n : ℕ). placementRecordSize * n) many in (
           p,
           is,
           many,
@@ -205,16 +205,16 @@ module _ (κs : Lfts 3) (a x : Arguments) where
     -- the counts are those of the page's own commands that make a record, are missing characters, are specials: none is invented (rule 8.3)
     pub counts-are-the-pages-own :
         (g : Grounds a)
-        × (records ≡ countOf ruleVisible (seenBy a g) + countOf (characterFound (settingBy a g)) (seenBy a g))
-        × (missing ≡ countOf (characterMissing (settingBy a g)) (seenBy a g))
+        × (records ≡ countOf ruleVisible (seenBy a g) + countOf (characterFound (groundsSetting a g)) (seenBy a g))
+        × (missing ≡ countOf (characterMissing (groundsSetting a g)) (seenBy a g))
         × (specials ≡ countOf isSpecial (seenBy a g))
     counts-are-the-pages-own =
         let (p, is, counts) = placed-page in
         let (g, placing-is, fits) = placed-by a p is in (
           g,
-          sym (ap (λ (c : Counts). c .records) counts) ∙ records-counted (settingBy a g) freshState (own a) p placing-is,
-          sym (ap (λ (c : Counts). c .missing) counts) ∙ missing-counted (settingBy a g) freshState (own a) p placing-is,
-          sym (ap (λ (c : Counts). c .specials) counts) ∙ specials-counted (settingBy a g) freshState (own a) p placing-is,
+          sym (ap (λ (c : Counts). c .records) counts) ∙ records-counted (groundsSetting a g) freshState (own a) p placing-is,
+          sym (ap (λ (c : Counts). c .missing) counts) ∙ missing-counted (groundsSetting a g) freshState (own a) p placing-is,
+          sym (ap (λ (c : Counts). c .specials) counts) ∙ specials-counted (groundsSetting a g) freshState (own a) p placing-is,
         )
 
     -- no command is passed over: the area's records say, in order, what the page's commands that make one say (rule 8.3)
@@ -223,11 +223,11 @@ module _ (κs : Lfts 3) (a x : Arguments) where
         × (written : List Record)
         × (length written ≡ records)
         × (take (placementRecordSize * records) (area x) ≡ allBytes written)
-        × (map saidBy written ≡ map (saidOf (settingBy a g)) (those (makesRecord (settingBy a g)) (seenBy a g)))
+        × (map saidBy written ≡ map (saidOf (groundsSetting a g)) (those (makesRecord (groundsSetting a g)) (seenBy a g)))
     records-in-order =
         let (p, is, many, bytes, rest, long) = accepted-writes-only-records in
         let (g, placing-is, fits) = placed-by a p is in
-        (g, p .records, many, bytes, counting.records-in-order (settingBy a g) freshState (own a) p placing-is)
+        (g, p .placements, many, bytes, counting.records-in-order (groundsSetting a g) freshState (own a) p placing-is)
 
 -- nothing of an earlier call comes into this one: answer and area are settled by the arguments' bytes and numbers, wherever they stand
 -- in memory, and by nothing else

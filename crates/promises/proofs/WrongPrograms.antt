@@ -85,7 +85,7 @@ module _ (κs : Lfts 3) (a x : Arguments) (is : IsPrinted a) where
     -- the area's forty bytes, each as printed
     pub area-as-printed : area x ≡ printedBytes
     area-as-printed =
-        let written = allBytes (printed .records) in
+        let written = allBytes (printed .placements) in
         post .1 .0
         ∙ ap (areaAfter (area a)) (example-placed a is)
         ∙ ap (λ (rest : List ℕ). written ++ rest) (drop-of-length-le (area a) {i = 40} (omega (arith, is .room-is)))

@@ -19,7 +19,7 @@ use Rattle.state.specs.declared.moving.Ruler.{Ruler}
 use Rattle.state.specs.declared.moving.Spot.{Spot}
 use Rattle.state.specs.Moving.{leaves, near, settled}
 use Rattle.state.specs.Registers.{State, zeroLevel, pushed, popped, spotOf, atSpot, movedBy, characterMoved, ruleMoved}
-use Rattle.state.specs.Steps.{savedOf, stateOf, Ruled, Bounded, AllBounded}
+use Rattle.state.specs.Steps.{savedOf, pageState, Ruled, Bounded, AllBounded}
 use Rattle.state.proofs.Nearness.{settled-small}
 
 -- ---- ranges
@@ -52,7 +52,7 @@ bounded-settled : (direction : Direction) (ruler : Ruler) (scale : ℕ) (positio
 bounded-settled direction ruler scale position pixel l ruled b stays =
     bounded-at direction (settled ruler position pixel) l b (position-in position stays) (pixel-in ruler scale position pixel ruled stays)
 
--- the pixel that moves along with a position, before it is held near the right one
+-- the pixel that moves along with a position, before it is held near the centre
 abbrev pub along : Direction → Ruler → ℕ → ℤ → ℤ → ℤ → ℤ
 along direction ruler scale position pixel n = cond (near direction n scale) (pixel +ℤ rounded (ruler .k) n) (rounded (ruler .k) (position +ℤ n))
 
@@ -98,7 +98,7 @@ saved-kept (suc depth) at stack l below =
 
 -- the caller's store before a push changes no state, and leaves the level where push asks it
 pub stored : (p : Page) → p .depth < length (p .stack)
-    → (stateOf (record { now = p .now; depth = p .depth; font = p .font; stack = set (p .stack) (p .depth) (p .now) }) ≡ stateOf p)
+    → (pageState (record { now = p .now; depth = p .depth; font = p .font; stack = set (p .stack) (p .depth) (p .now) }) ≡ pageState p)
     × (getD (set (p .stack) (p .depth) (p .now)) (p .depth) zeroLevel ≡ p .now)
 stored p room = (
   ap (λ (levels : List Level). record { level = p .now; saved = levels; font = p .font }) (saved-kept (p .depth) (p .depth) (p .stack) (p .now) (omega arith)),

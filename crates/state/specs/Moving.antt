@@ -21,7 +21,7 @@ near Down n scale = ltb (5 * natAbs n) (4 * scale)
 
 -- "if hh is further than D from rounded h, it becomes rounded h plus D if it was above, minus D if below"
 abbrev pub drifted : ℕ → ℤ → ℤ → ℤ
-drifted drift right pixel = cond (ltb drift (natAbs (pixel -ℤ right))) (cond (ltZ right pixel) (right +ℤ pos drift) (right -ℤ pos drift)) pixel
+drifted drift centre pixel = cond (ltb drift (natAbs (pixel -ℤ centre))) (cond (ltZ centre pixel) (centre +ℤ pos drift) (centre -ℤ pos drift)) pixel
 
 -- "After each sideways move, a set character's included …. So with vv and v after each move down"
 abbrev pub settled : Ruler → ℤ → ℤ → Spot

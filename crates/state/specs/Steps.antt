@@ -15,8 +15,8 @@ savedOf zero stack = []
 savedOf (suc depth) stack = getD stack depth zeroLevel ∷ savedOf depth stack
 
 -- the state that the code's page stands for
-abbrev pub stateOf : Page → State
-stateOf p = record { level = p .now; saved = savedOf (p .depth) (p .stack); font = p .font }
+abbrev pub pageState : Page → State
+pageState p = record { level = p .now; saved = savedOf (p .depth) (p .stack); font = p .font }
 
 -- a page with another current level
 abbrev pub withLevel : Page → Level → Page

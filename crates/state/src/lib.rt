@@ -9,7 +9,7 @@ ghost use lib.IntN.{natAbs, _+ℤ_};
 ghost use Rattle.state.specs.declared.moving.Direction.the-variants.{Sideways, Down};
 ghost use Rattle.state.specs.Moving.{leaves};
 ghost use Rattle.state.specs.Registers.{zeroLevel, freshState, pushed, popped, movedBy, characterMoved, ruleMoved};
-ghost use Rattle.state.specs.Steps.{stateOf, withLevel, Ruled, Bounded};
+ghost use Rattle.state.specs.Steps.{pageState, withLevel, Ruled, Bounded};
 
 pub mod moving;
 
@@ -48,7 +48,7 @@ impl Page {
 
     // What bop sets: every register zero, an empty stack, no font.
     pub fn fresh() -> Self
-        ensures { λ r. ⌜ (stateOf r ≡ freshState) × (r .depth ≡ 0) × (length (r .stack) ≡ 100) ⌝ }
+        ensures { λ r. ⌜ (pageState r ≡ freshState) × (r .depth ≡ 0) × (length (r .stack) ≡ 100) ⌝ }
     {
         let zero = Level {
             h: 0,
@@ -129,7 +129,7 @@ impl Page {
     // One level deeper: the caller has stored the current level above the saved ones, where it copies no array.
     pub fn push(mut self) -> Self
         requires { ⌜ (self .depth < 100) × (getD (self .stack) (self .depth) zeroLevel ≡ self .now) ⌝ }
-        ensures { λ r. ⌜ (stateOf r ≡ pushed (stateOf self)) × (r .depth ≡ self .depth + 1) × (r .stack ≡ self .stack) ⌝ }
+        ensures { λ r. ⌜ (pageState r ≡ pushed (pageState self)) × (r .depth ≡ self .depth + 1) × (r .stack ≡ self .stack) ⌝ }
     {
         self.depth = self.depth + 1;
         self
@@ -138,7 +138,7 @@ impl Page {
     // Back to the level that was saved last, which the caller has read, where that copies no array.
     pub fn pop(mut self, last: Level) -> Self
         requires { ⌜ (0 < self .depth) × (last ≡ getD (self .stack) (self .depth - 1) zeroLevel) ⌝ }
-        ensures { λ r. ⌜ (stateOf r ≡ popped (stateOf self)) × (r .depth ≡ self .depth - 1) × (r .stack ≡ self .stack) ⌝ }
+        ensures { λ r. ⌜ (pageState r ≡ popped (pageState self)) × (r .depth ≡ self .depth - 1) × (r .stack ≡ self .stack) ⌝ }
     {
         self.now = last;
         self.depth = self.depth - 1;

@@ -49,18 +49,18 @@ pub fn is_near(direction: Direction, n: i64, scale: u64) -> bool
     }
 }
 
-// The pixel, brought back to D from the right one if it is further.
-pub fn held_near(drift: u64, right: i64, pixel: i64) -> i64
-    requires { ⌜ (drift ≤ 2) × (natAbs right ≤ 2 ^ 31) × (natAbs pixel ≤ 2 ^ 32) ⌝ }
-    ensures { λ r. ⌜ r ≡ drifted drift right pixel ⌝ }
+// The pixel, brought back to within D of the centre, the rounded position, if it is further.
+pub fn held_near(drift: u64, centre: i64, pixel: i64) -> i64
+    requires { ⌜ (drift ≤ 2) × (natAbs centre ≤ 2 ^ 31) × (natAbs pixel ≤ 2 ^ 32) ⌝ }
+    ensures { λ r. ⌜ r ≡ drifted drift centre pixel ⌝ }
 {
-    if numbers::magnitude(pixel - right) <= drift {
+    if numbers::magnitude(pixel - centre) <= drift {
         return pixel;
     }
-    if right < pixel {
-        right + drift as i64
+    if centre < pixel {
+        centre + drift as i64
     } else {
-        right - drift as i64
+        centre - drift as i64
     }
 }
 
@@ -70,10 +70,10 @@ pub fn settle(ruler: Ruler, position: i64, pixel: i64) -> Spot
     requires { ⌜ (natAbs position ≤ 2 ^ 31) × (natAbs pixel ≤ 2 ^ 32) ⌝ }
     ensures { λ r. ⌜ r ≡ settled ruler position pixel ⌝ }
 {
-    let right = units::round(ruler.k, position);
+    let centre = units::round(ruler.k, position);
     Spot {
         position: position,
-        pixel: held_near(ruler.drift, right, pixel),
+        pixel: held_near(ruler.drift, centre, pixel),
     }
 }
 

@@ -29,7 +29,7 @@ pub struct Factors {
     pub inch: u64,
 }
 
-// The common divisor: of a and b, go on with b and a mod b until b is zero.
+// The common divisor: b takes the place of a, the remainder of a by b that of b, until b is 0.
 pub fn common_divisor(a: u64, b: u64) -> u64
     ensures { λ r. ⌜ r ≡ commonDivisor a b ⌝ }
 {
@@ -136,7 +136,7 @@ fn nearest_whole(k: Ratio, m: u64) -> u64
     (2 * p * m + q) / (2 * q)
 }
 
-// n rounded: the sign of n times the whole part of |K × n| + 1/2.
+// n in pixels, to the nearest; a half goes away from 0.
 pub fn round(k: Ratio, n: i64) -> i64
     requires { ⌜ Accepted k × (natAbs n ≤ 2 ^ 31) ⌝ }
     ensures { λ r. ⌜ r ≡ rounded k n ⌝ }

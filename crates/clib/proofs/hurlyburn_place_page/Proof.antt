@@ -7,7 +7,7 @@ use borrow.Author.Needs.{needs}
 use denote.Ref.{now}
 use lib.ListN.{length}
 use Rattle.refusals.specs.Answer.{Answer}
-use Rattle.page.specs.Placing.{Placed}
+use Rattle.page.specs.Placing.{Contents}
 use Rattle.page.specs.Answers.{placedPage, placedCounts, areaAfter}
 use Rattle.reader.specs.declared.Placed as reader
 use Rattle.reader.specs.Answers.{placedAnswer}
@@ -52,7 +52,7 @@ module _ (p : tie.After-place-page) where
   abbrev area : List ℕ
   area = now (start .args .area)
 
-  abbrev placed : Answer Placed
+  abbrev placed : Answer Contents
   placed = placedPage (now (start .args .file)) (now (start .args .widths)) (start .args .resolution) (start .args .page) (length area)
 
   room : 3 ≤ length array

@@ -6,7 +6,7 @@ use lib.ListN.{length}
 use denote.Ref.{now}
 use Rattle.refusals.specs.Answer.{Answer}
 use Rattle.page.specs.declared.PagePlaced.{PagePlaced}
-use Rattle.page.specs.Placing.{Placed}
+use Rattle.page.specs.Placing.{Contents}
 use Rattle.page.specs.Answers.{placedPage, placedCounts}
 use Rattle.page.specs.Steps.{placeAnswer}
 use Rattle.page.proofs.PlaceLaws.{refused-kept}
@@ -27,7 +27,7 @@ module _ (p : tie.After-place-page) where
   abbrev start : tie.Start
   start = p .before .before .before .before .before
 
-  abbrev meant : Answer Placed
+  abbrev meant : Answer Contents
   meant = placedPage (now (start .args .file)) (now (start .args .widths)) (start .args .resolution) (start .args .page) (length (now (start .args .out)))
 
   answer-is : (r : PagePlaced) → p .place-page .result ≡ r → placeAnswer r ≡ placedCounts meant

@@ -18,7 +18,7 @@ use Rattle.volume.specs.Past.{num, den, mag}
 use Rattle.volume.specs.History.{history}
 use Rattle.state.specs.Registers.{freshState}
 use Rattle.page.specs.PageList.{pageOf}
-use Rattle.page.specs.Placing.{Placed, placing}
+use Rattle.page.specs.Placing.{Contents, placing}
 use Rattle.page.specs.Answers.{withRoom, placedAccepted, placedCounts, areaAfter}
 use Rattle.page.proofs.PlaceLaws.{refused-to, unit-refused, table-refused, page-zero, page-beyond, page-there, held-units, held-unit, held-start, held-short, held-ready}
 use Rattle.page.proofs.placing.place_accepted.Statement.{statement}
@@ -69,13 +69,13 @@ module _ (t : tie.After-check-table) where
   table-was e = sym (t .check-table .ensures) ∙ ap tableSays e
 
   -- what the page comes to
-  abbrev meant : Answer Placed
+  abbrev meant : Answer Contents
   meant = placedAccepted (now (start .args .file)) (now (start .args .widths)) (start .args .resolution) (start .args .page) (length (now (start .args .out))) (start .args .volume .pages)
 
   no-table : {number place : ℕ} → checkedTable (now (start .args .widths)) ≡ refused number place → meant ≡ refused number place
   no-table e = table-refused (now (start .args .file)) (now (start .args .widths)) (start .args .resolution) (start .args .page) (length (now (start .args .out))) (start .args .volume .pages) unit-was e
 
-  module _ {records : ℕ} (table-is : checkedTable (now (start .args .widths)) ≡ given records) where
+  module _ {rows : ℕ} (table-is : checkedTable (now (start .args .widths)) ≡ given rows) where
     zero-page : start .args .page < 1 → meant ≡ refused noSuchPage 0
     zero-page h = page-zero (now (start .args .file)) (now (start .args .widths)) (start .args .resolution) (start .args .page) (length (now (start .args .out))) (start .args .volume .pages) unit-was table-is h
 
@@ -94,8 +94,8 @@ returns-2 c =
     let both = refused-to (no-table t (table-was t (c .before .before .place .given .1))) (now (start t .args .out)) in
     (c .refused .ensures ∙ both .0, both .1)
 
-enum-known-records : tie.Need-enum-known-records
-enum-known-records c = search needs
+enum-known-rows : tie.Need-enum-known-rows
+enum-known-rows c = search needs
 
 refused-requires-2 : tie.Need-refused-requires-2
 refused-requires-2 c κs = search needs
@@ -103,7 +103,7 @@ refused-requires-2 c κs = search needs
 returns-3 : tie.Need-returns-3
 returns-3 c =
     let t = c .before .before .before .before .before in
-    let both = refused-to (zero-page t (table-was t (c .before .before .before .records .given .1)) (c .before .if1 .taken)) (now (start t .args .out)) in
+    let both = refused-to (zero-page t (table-was t (c .before .before .before .rows .given .1)) (c .before .if1 .taken)) (now (start t .args .out)) in
     (c .refused2 .ensures ∙ both .0, both .1)
 
 refused-requires-3 : tie.Need-refused-requires-3
@@ -112,7 +112,7 @@ refused-requires-3 c κs = search needs
 returns-4 : tie.Need-returns-4
 returns-4 c =
     let t = c .before .before .before .before .before .before .before in
-    let both = refused-to (no-page t (table-was t (c .before .before .before .before .before .records .given .1)) (c .before .before .before .if1 .left) (c .before .if2 .taken)) (now (start t .args .out)) in
+    let both = refused-to (no-page t (table-was t (c .before .before .before .before .before .rows .given .1)) (c .before .before .before .if1 .left) (c .before .if2 .taken)) (now (start t .args .out)) in
     (c .refused3 .ensures ∙ both .0, both .1)
 
 drift-of-requires : tie.Need-drift-of-requires
@@ -126,7 +126,7 @@ add-place-commands c =
 place-commands-requires : tie.Need-place-commands-requires
 place-commands-requires c κs =
     let t = c .before .before .before .before .before .before .before .before .before in
-    held-ready (start t .pre) (c .before .before .before .before .before .if1 .left) (c .before .before .before .if2 .left) (now (start t .args .widths)) _ refl (table-was t (c .before .before .before .before .before .before .before .records .given .1))
+    held-ready (start t .pre) (c .before .before .before .before .before .if1 .left) (c .before .before .before .if2 .left) (now (start t .args .widths)) _ refl (table-was t (c .before .before .before .before .before .before .before .rows .given .1))
     (start t .args .resolution) (c .before .before .drift-of .ensures) (bytes (t .before .before .before .before .before)) (unit-given t)
 
 same-length : tie.Need-same-length
@@ -136,11 +136,11 @@ returns-5 : tie.Need-returns-5
 returns-5 c =
     let t = c .before .before .before .before .before .before .before .before .before .before .before .before in
     let s = start t .args in
-    let records = c .before .before .before .before .before .before .before .before .before .before .records .given .0 .0 in
-    let by-drift : ℕ → Answer Placed =
-    λ d. andThen (placing (record { ruler = record { k = k t; drift = d }; table = now (s .widths); records = records; volume = history (now (s .file)); page = s .page }) freshState (pageOf (s .page) (history (now (s .file))))) (withRoom (length (now (s .out)))) in
+    let rows = c .before .before .before .before .before .before .before .before .before .before .rows .given .0 .0 in
+    let by-drift : ℕ → Answer Contents =
+    λ d. andThen (placing (record { ruler = record { k = k t; drift = d }; table = now (s .widths); rows = rows; volume = history (now (s .file)); page = s .page }) freshState (pageOf (s .page) (history (now (s .file))))) (withRoom (length (now (s .out)))) in
     let there : meant t ≡ by-drift (drift (s .resolution)) =
-    page-there (now (s .file)) (now (s .widths)) (s .resolution) (s .page) (length (now (s .out))) (s .volume .pages) (unit-was t) (table-was t (c .before .before .before .before .before .before .before .before .before .before .records .given .1)) (c .before .before .before .before .before .before .before .before .if1 .left) (c .before .before .before .before .before .before .if2 .left) in
+    page-there (now (s .file)) (now (s .widths)) (s .resolution) (s .page) (length (now (s .out))) (s .volume .pages) (unit-was t) (table-was t (c .before .before .before .before .before .before .before .before .before .before .rows .given .1)) (c .before .before .before .before .before .before .before .before .if1 .left) (c .before .before .before .before .before .before .if2 .left) in
     let same : by-drift (c .before .before .before .before .before .drift-of .result) ≡ meant t = ap by-drift (c .before .before .before .before .before .drift-of .ensures) ∙ sym there in
     let placed = c .before .before .place-commands .ensures in
     (placed .0 ∙ ap placedCounts same, placed .1 ∙ ap (areaAfter (now (s .out))) same)
@@ -157,7 +157,7 @@ place-accepted-spec =
     enum-known-place
     refused-requires
     returns-2
-    enum-known-records
+    enum-known-rows
     refused-requires-2
     returns-3
     refused-requires-3

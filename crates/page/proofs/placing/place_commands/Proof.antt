@@ -14,8 +14,8 @@ use Rattle.page.specs.declared.Walked.{Walked}
 use Rattle.page.specs.declared.Walked.the-variants as Walked
 use Rattle.page.specs.Records.{placementRecordSize}
 use Rattle.page.specs.PageList.{pageOf}
-use Rattle.page.specs.Placing.{Placed, placing}
-use Rattle.page.specs.Steps.{settingBy, zeroCounts, finish, endingOf, Few}
+use Rattle.page.specs.Placing.{Contents, placing}
+use Rattle.page.specs.Steps.{termsSetting, zeroCounts, finish, endingOf, Few}
 use Rattle.page.proofs.PlaceLaws.{Through, walk-through, walk-again, left-to, short-to, all-to}
 use Rattle.page.proofs.placing.place_commands.Statement.{statement}
 use Rattle.page.proofs.placing.place_commands.Tie as tie
@@ -37,9 +37,9 @@ module _ (w : tie.After-walk) where
   abbrev entry : List ℕ
   entry = now (start .args .out)
 
-  abbrev answer : Answer Placed
+  abbrev answer : Answer Contents
   answer =
-      placing (settingBy (start .args .terms) (now (start .args .widths)) (history (now (start .args .file)))) freshState (pageOf (start .args .terms .page) (history (now (start .args .file))))
+      placing (termsSetting (start .args .terms) (now (start .args .widths)) (history (now (start .args .file)))) freshState (pageOf (start .args .terms .page) (history (now (start .args .file))))
 
   -- an area without room stays so
   nothing-written : (area : List ℕ) → length area ≡ 0 → area ≡ []

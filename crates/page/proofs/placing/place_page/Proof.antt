@@ -8,7 +8,7 @@ use denote.Ref.{now}
 use Rattle.refusals.specs.Answer.{Answer, andThen}
 use Rattle.volume.specs.declared.Summary.{Summary}
 use Rattle.volume.specs.Steps.{scanAnswer, ScanKeeps}
-use Rattle.page.specs.Placing.{Placed}
+use Rattle.page.specs.Placing.{Contents}
 use Rattle.page.specs.Answers.{placedAccepted, placedCounts, areaAfter}
 use Rattle.page.proofs.PlaceLaws.{refused-to}
 use Rattle.page.proofs.placing.place_page.Statement.{statement}
@@ -31,7 +31,7 @@ place-accepted-requires c κs =
     record { judgement = sym (scanned .ensures .0) ∙ ap scanAnswer (v .1); keeps = subst (ScanKeeps (now (s .args .file)) (s .args .page) (scanned .last .1 .1 .0)) (v .1) (scanned .ensures .1) }
 
 -- what follows the judgement of a file
-next : List ℕ → List ℕ → ℕ → ℕ → ℕ → Summary → Answer Placed
+next : List ℕ → List ℕ → ℕ → ℕ → ℕ → Summary → Answer Contents
 next file table resolution page room found = placedAccepted file table resolution page room (found .pages)
 
 returns : tie.Need-returns

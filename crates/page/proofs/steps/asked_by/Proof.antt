@@ -29,8 +29,8 @@ use Rattle.page.specs.declared.Adds.the-variants as Adds
 use Rattle.page.specs.declared.Turn.{Turn}
 use Rattle.page.specs.declared.Turn.the-variants as Turn
 use Rattle.page.specs.declared.Asked.{Asked}
-use Rattle.page.specs.Placing.{Setting, Outcome, nothing, goes, fontOf, afterKind}
-use Rattle.page.specs.Steps.{stateWith, did, Safe, Suits, settingBy, Comes, CharacterAsks, command, MoveFits, CommandAsks, FontIs}
+use Rattle.page.specs.Placing.{Setting, Outcome, nothing, continues, fontOf, afterKind}
+use Rattle.page.specs.Steps.{stateWith, did, Safe, Suits, termsSetting, Comes, CharacterAsks, command, MoveFits, CommandAsks, FontIs}
 use Rattle.page.proofs.TurnLaws.{plain-suits, onlyTurns, move-fits, turn-does, turn-suits, turn-safe, asks-by-kind, rule-sets, rule-puts}
 use Rattle.page.proofs.steps.asked_by.Statement.{statement}
 use Rattle.page.proofs.steps.asked_by.Tie as tie
@@ -47,7 +47,7 @@ module _ (k : tie.After-kind-of) where
   asking = command (start .args .opcode) (now (start .args .params))
 
   abbrev setting : Setting
-  setting = settingBy (start .args .terms) (now (start .args .widths)) (history (now (start .args .file)))
+  setting = termsSetting (start .args .terms) (now (start .args .widths)) (history (now (start .args .file)))
 
   kind-is : {kind : Kind} → k .kind-of .result ≡ kind → kindOfCommand asking ≡ kind
   kind-is told = sym (k .kind-of .ensures) ∙ told
@@ -181,7 +181,7 @@ returns-4 c =
     let number-is : toZ w64 (ofZ w64 (read .result)) ≡ selectedFont (s .opcode) (now (s .params)) = toZ-ofZ (sfits-of (read .ok)) ∙ read .ensures .0 in
     let font-is = subst (λ (number : ℤ). FontIs (now (s .file)) (now (s .fonts)) number (c .font-of .result)) number-is (c .font-of .ensures) (history (now (s .file))) (start k .pre .0 .1) in
     asks k (c .before .before .enum-told3 .given .1) (record { turn = Turn.Select (c .font-of .result); adds = Adds.Nothing; hint = s .hint })
-    (record { does = λ saved. ap (λ (font : Font). goes (record { level = s .level; saved = saved; font = font }) nothing) (font-is .0); safe = font-is .1; words = tt }) refl
+    (record { does = λ saved. ap (λ (font : Font). continues (record { level = s .level; saved = saved; font = font }) nothing) (font-is .0); safe = font-is .1; words = tt }) refl
 
 returns-5 : tie.Need-returns-5
 returns-5 c =

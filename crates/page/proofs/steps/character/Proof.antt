@@ -50,15 +50,15 @@ enum-known-index c = search needs
 
 -- the search found what the walk finds for the code's byte
 looked-is : (c : tie.After-find-near) → let a = c .before .before .before .before .args in
-    foundAt (now (a .widths)) (c .find-near .result) ≡ walk (a .terms .records) (now (a .widths)) (a .font .checksum) (a .font .scale) (codeByte (a .code))
+    foundAt (now (a .widths)) (c .find-near .result) ≡ walk (a .terms .rows) (now (a .widths)) (a .font .checksum) (a .font .scale) (codeByte (a .code))
 looked-is c =
     let a = c .before .before .before .before .args in
-    subst (λ (byte : ℕ). foundAt (now (a .widths)) (c .find-near .result) ≡ walk (a .terms .records) (now (a .widths)) (a .font .checksum) (a .font .scale) byte)
+    subst (λ (byte : ℕ). foundAt (now (a .widths)) (c .find-near .result) ≡ walk (a .terms .rows) (now (a .widths)) (a .font .checksum) (a .font .scale) byte)
     (byte-is (c .before .before))
     (c .find-near .ensures .0)
 
-index-below : (c : tie.After-index) → c .index .given .0 .0 < c .before .before .before .before .before .before .args .terms .records
-index-below c = subst (Among (c .before .before .before .before .before .before .args .terms .records)) (c .index .given .1) (c .before .before .find-near .ensures .1)
+index-below : (c : tie.After-index) → c .index .given .0 .0 < c .before .before .before .before .before .before .args .terms .rows
+index-below c = subst (Among (c .before .before .before .before .before .before .args .terms .rows)) (c .index .given .1) (c .before .before .find-near .ensures .1)
 
 metric-of-requires : tie.Need-metric-of-requires
 metric-of-requires c κs = (c .before .before .before .before .before .before .before .pre .0 .0, index-below (c .before))
@@ -71,23 +71,23 @@ add-hint : tie.Need-add-hint
 add-hint c =
     let k = c .before .before .before .before in
     let s = start (c .before .before) in
-    omega (arith, s .good .0, record-inside (now (s .args .widths)) (s .args .terms .records) (s .pre .0 .0) (k .index .given .0 .0) (index-below k))
+    omega (arith, s .good .0, record-inside (now (s .args .widths)) (s .args .terms .rows) (s .pre .0 .0) (k .index .given .0 .0) (index-below k))
 
 sub-hint : tie.Need-sub-hint
 sub-hint c = omega (arith, byte-below (c .before .before .before .before .before .before .before .before))
 
 -- the walk finds the metric that was read
 found-is : (c : tie.After-metric-of) → let a = start c .args in
-    walk (a .terms .records) (now (a .widths)) (a .font .checksum) (a .font .scale) (codeByte (a .code)) ≡ found (c .metric-of .result)
+    walk (a .terms .rows) (now (a .widths)) (a .font .checksum) (a .font .scale) (codeByte (a .code)) ≡ found (c .metric-of .result)
 found-is c =
     let k = c .before .before in
     sym (looked-is (k .before .before)) ∙ ap (foundAt (now (start c .args .widths))) (k .index .given .1) ∙ ap found (sym (c .metric-of .ensures))
 
 hit : (c : tie.After-metric-of) → let a = start c .args in
-    Hit (now (a .widths)) (a .terms .records) (a .font .checksum) (a .font .scale) (codeByte (a .code)) (c .metric-of .result)
+    Hit (now (a .widths)) (a .terms .rows) (a .font .checksum) (a .font .scale) (codeByte (a .code)) (c .metric-of .result)
 hit c =
     let a = start c .args in
-    walk-found (now (a .widths)) (a .terms .records) (a .font .checksum) (a .font .scale) (codeByte (a .code)) (c .metric-of .result) (found-is c)
+    walk-found (now (a .widths)) (a .terms .rows) (a .font .checksum) (a .font .scale) (codeByte (a .code)) (c .metric-of .result) (found-is c)
 
 bytes : (c : tie.After-metric-of) (i : ℕ) → getD (now (start c .args .widths)) i 0 < 256
 bytes c i = c .before .before .before .before .before .before .before .shared-slice-known .given i .fits

@@ -11,7 +11,7 @@ use Rattle.commands.specs.Reading.{reading}
 use Rattle.commands.specs.Steps.{readAnswer}
 use Rattle.commands.proofs.Readings.{commandAt, Reads, given-reads}
 use Rattle.volume.specs.History.{history}
-use Rattle.page.specs.Steps.{settingBy, CommandAsks}
+use Rattle.page.specs.Steps.{termsSetting, CommandAsks}
 use Rattle.page.proofs.steps.step_at.Statement.{statement}
 use Rattle.page.proofs.steps.step_at.Tie as tie
 
@@ -60,7 +60,7 @@ returns-2 c command rest stands =
     let file = now (s .args .file) in
     let same : commandAt file r ≡ command =
     (let e : whole (commandAt file r) (drop (r .next) file) ≡ whole command rest = sym (read k .ahead) ∙ stands in cc) in (
-      subst (λ (read-command : Command). CommandAsks (settingBy (s .args .terms) (now (s .args .widths)) (history file)) (s .args .level) (s .args .font) read-command (c .asked-by .result)) same (c .asked-by .ensures),
+      subst (λ (read-command : Command). CommandAsks (termsSetting (s .args .terms) (now (s .args .widths)) (history file)) (s .args .level) (s .args .font) read-command (c .asked-by .result)) same (c .asked-by .ensures),
       subst (λ (read-command : Command). r .next ≡ s .args .at + (1 + length (read-command .params))) same (omega (arith, read k .nexts, read k .starts)),
     )
 

@@ -17,14 +17,14 @@ use Rattle.state.specs.declared.Page.{Page}
 use Rattle.state.specs.declared.moving.Direction.the-variants as Direction
 use Rattle.state.specs.Moving.{leaves}
 use Rattle.state.specs.Registers.{State, zeroLevel, pushed, popped, movedBy, characterMoved, ruleMoved}
-use Rattle.state.specs.Steps.{stateOf, savedOf, withLevel, Ruled, Bounded}
+use Rattle.state.specs.Steps.{pageState, savedOf, withLevel, Ruled, Bounded}
 use Rattle.state.proofs.Levels.{bounded-moved, bounded-rule, bounded-character, stored}
 use Rattle.page.specs.declared.Counts.{Counts}
 use Rattle.page.specs.declared.Turn.{Turn}
 use Rattle.page.specs.declared.Turn.the-variants as Turn
 use Rattle.page.specs.declared.Step.{Step}
-use Rattle.page.specs.Placing.{goes, withNumbers}
-use Rattle.page.specs.Steps.{addedOf, did, settingBy, StepAsks, Safe}
+use Rattle.page.specs.Placing.{continues, withNumbers}
+use Rattle.page.specs.Steps.{addedOf, did, termsSetting, StepAsks, Safe}
 use Rattle.page.proofs.PageRuns.{runs-inside}
 use Rattle.page.proofs.WalkLaws.{Sound, state-sound, popped-bounded, popped-known, turnedDepth, GoesOn, Walking, starting, advances, few, in-ranges, onwards, leveled, push-room, pop-room, ended, left}
 use Rattle.page.proofs.Words.{word, small-word}
@@ -69,7 +69,7 @@ module _ (c : tie.After-step-at Inv-loop μ-loop) where
   abbrev here : Walking (now (entry .args .file)) (now (entry .args .fonts)) (now (entry .args .widths)) (entry .args .terms) (entry .args .start) (now (entry .args .out)) (head .loop .out) (head .loop .page) (head .loop .counts) (head .loop .at)
   here = head .loop .inv
 
-  asks : StepAsks (now (entry .args .file)) (head .loop .at) (settingBy (entry .args .terms) (now (entry .args .widths)) (history (now (entry .args .file)))) (head .loop .page .now) (head .loop .page .font) step
+  asks : StepAsks (now (entry .args .file)) (head .loop .at) (termsSetting (entry .args .terms) (now (entry .args .widths)) (history (now (entry .args .file)))) (head .loop .page .now) (head .loop .page .font) step
   asks = c .step-at .ensures
 
   ruled : Ruled (entry .args .terms .ruler) (head .loop .page .font .scale)
@@ -105,15 +105,15 @@ module _ (n : tie.After-note Inv-loop μ-loop) where
 
   -- to another level only
   to-level : (turn : Turn) → step read .asked .turn ≡ turn → GoesOn turn → (l : Level)
-      → did (entry read .args .terms .ruler) (stateOf before) turn (step read .asked .adds) ≡ goes (withNumbers (stateOf before) l) (addedOf (step read .asked .adds))
+      → did (entry read .args .terms .ruler) (pageState before) turn (step read .asked .adds) ≡ continues (withNumbers (pageState before) l) (addedOf (step read .asked .adds))
       → turnedDepth turn (before .depth) ≡ before .depth → (page : Page) → page ≡ withLevel before l → Bounded l → Next page
   to-level turn turn-is on l led flat page page-is bounded =
       leveled (here read) (step read) (asks read) turn turn-is on l led flat page page-is bounded (n .note .last .0) (n .note .ensures .1) (n .note .result) (n .note .ensures .0)
 
   -- to another state
   to-state : (turn : Turn) → step read .asked .turn ≡ turn → GoesOn turn → (s : State)
-      → did (entry read .args .terms .ruler) (stateOf before) turn (step read .asked .adds) ≡ goes s (addedOf (step read .asked .adds))
-      → (page : Page) → stateOf page ≡ s → page .depth ≡ turnedDepth turn (before .depth) → Sound page → Next page
+      → did (entry read .args .terms .ruler) (pageState before) turn (step read .asked .adds) ≡ continues s (addedOf (step read .asked .adds))
+      → (page : Page) → pageState page ≡ s → page .depth ≡ turnedDepth turn (before .depth) → Sound page → Next page
   to-state turn turn-is on s led page state-is depth-is sound =
       onwards (here read) (step read) (asks read) turn turn-is on s led page state-is depth-is sound (n .note .last .0) (n .note .ensures .1) (n .note .result) (n .note .ensures .0)
 
@@ -130,7 +130,7 @@ loop-less c = less (read (c .before .before .before .before))
 loop-again : tie.Need-loop-again Inv-loop μ-loop
 loop-again c =
     let n = c .before .before .before .before in
-    to-state n Turn.Stay (c .enum-told .given .1) tt (stateOf (before n)) refl (before n) refl refl (here (read n) .sound)
+    to-state n Turn.Stay (c .enum-told .given .1) tt (pageState (before n)) refl (before n) refl refl (here (read n) .sound)
 
 enum-known-turn : tie.Need-enum-known-turn Inv-loop μ-loop
 enum-known-turn c = search needs
@@ -237,7 +237,7 @@ room n turn-is = push-room (here (read n)) (step (read n)) (asks (read n)) turn-
 
 -- the level that was stored changes nothing of the state
 kept : (n : tie.After-note Inv-loop μ-loop) → step (read n) .asked .turn ≡ Turn.Push
-    → (stateOf (record { now = before n .now; depth = before n .depth; font = before n .font; stack = set (before n .stack) (before n .depth) (before n .now) }) ≡ stateOf (before n))
+    → (pageState (record { now = before n .now; depth = before n .depth; font = before n .font; stack = set (before n .stack) (before n .depth) (before n .now) }) ≡ pageState (before n))
     × (getD (set (before n .stack) (before n .depth) (before n .now)) (before n .depth) zeroLevel ≡ before n .now)
 kept n turn-is = stored (before n) (omega (arith, room n turn-is, here (read n) .sound .full))
 
@@ -259,8 +259,8 @@ loop-again-6 c =
     let turn-is = c .before .enum-told2 .given .1 in
     let sound = here (read n) .sound in
     let state-is = c .push .ensures .0 ∙ ap pushed (kept n turn-is .0) in
-    to-state n Turn.Push turn-is tt (pushed (stateOf (before n))) refl (c .push .result) state-is (c .push .ensures .1)
-    (state-sound (c .push .result) (pushed (stateOf (before n))) state-is (sound .bounded) (sound .bounded, sound .kept) (sound .known)
+    to-state n Turn.Push turn-is tt (pushed (pageState (before n))) refl (c .push .result) state-is (c .push .ensures .1)
+    (state-sound (c .push .result) (pushed (pageState (before n))) state-is (sound .bounded) (sound .bounded, sound .kept) (sound .known)
     (omega (arith, c .push .ensures .1, room n turn-is))
     (ap length (c .push .ensures .2) ∙ length-set (before n .stack) (before n .depth) (before n .now) ∙ sound .full))
 
@@ -291,7 +291,7 @@ loop-again-7 c =
     let n = c .before .before .before .before .before .before in
     let turn-is = c .before .before .enum-told3 .given .1 in
     let sound = here (read n) .sound in
-    let s = stateOf (before n) in
+    let s = pageState (before n) in
     let back = popped-bounded s (s .saved) (sound .kept) (sound .bounded) (sound .kept) in
     to-state n Turn.Pop turn-is tt (popped s) refl (c .pop .result) (c .pop .ensures .0) (c .pop .ensures .1)
     (state-sound (c .pop .result) (popped s) (c .pop .ensures .0) (back .0) (back .1) (popped-known s (s .saved) (sound .known))

@@ -5,7 +5,7 @@ use mathlib.Core.List.{List}
 use borrow.Author.Needs.{needs}
 use Rattle.state.specs.declared.Level.{Level}
 use Rattle.state.specs.Registers.{State, poppedTo}
-use Rattle.state.specs.Steps.{savedOf, stateOf}
+use Rattle.state.specs.Steps.{savedOf, pageState}
 use Rattle.state.proofs.Levels.{saved-last}
 use Rattle.state.proofs.Page.pop.Statement.{statement}
 use Rattle.state.proofs.Page.pop.Tie as tie
@@ -19,7 +19,7 @@ returns c =
     let p = s .args .self in
     let back : Level → State = λ l. record { level = l; saved = savedOf (p .depth - 1) (p .stack); font = p .font } in
     let saved-is = saved-last (p .depth) (p .stack) (s .pre .0) in
-    (subst (λ (levels : List Level). back (s .args .last) ≡ poppedTo (stateOf p) levels) (sym saved-is) (ap back (s .pre .1)), refl, refl)
+    (subst (λ (levels : List Level). back (s .args .last) ≡ poppedTo (pageState p) levels) (sym saved-is) (ap back (s .pre .1)), refl, refl)
 
 pub pop-spec : {M : Type 1} → statement M
 pop-spec = tie.close (tie.spec sub-self returns)
