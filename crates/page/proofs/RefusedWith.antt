@@ -25,8 +25,8 @@ use Rattle.volume.specs.History.{history}
 use Rattle.state.specs.Registers.{State, freshState}
 use Rattle.page.specs.Records.{placementRecordSize}
 use Rattle.page.specs.PageList.{Located, isOn, pageOf}
-use Rattle.page.specs.Placing.{Setting, Outcome, leavesRange, goes, Placed, after, onOutcome, placing}
-use Rattle.page.specs.Answers.{pageOutside, settingOf, withRoom, placedAccepted, placedPage, placedCounts}
+use Rattle.page.specs.Placing.{Setting, Outcome, leavesRange, continues, after, onOutcome, placing}
+use Rattle.page.specs.Answers.{pageOutside, settingOf, placedAccepted, placedPage, placedCounts}
 use Rattle.page.proofs.Traces.{Trace, start, more, accepted-trace}
 
 -- ---- where a page's own commands stand
@@ -65,7 +65,7 @@ module _ (file table : List ℕ) where
     where
       by : (o : Outcome) → ((next : State) → RefusedOnly May (placing setting next rest)) → RefusedOnly May (onOutcome (c .at) o (λ next. placing setting next rest))
       by leavesRange onward = inr (inr (inr (inr (refl, below .0))))
-      by (goes next added) onward = then-only May (placing setting next rest) _ (onward next) (λ p. tt)
+      by (continues next added) onward = then-only May (placing setting next rest) _ (onward next) (λ p. tt)
 
   module _ (resolution page room : ℕ) where
     -- 12 to 17
@@ -73,11 +73,11 @@ module _ (file table : List ℕ) where
     accepted-refused-with found accepted =
         let unit = unitOf (num (history file)) (den (history file)) (mag (history file)) resolution in
         then-only May unit _ (only-wider UnitRefusal May unit (λ number place may. inr (inl may)) (unit-refused-with _ _ _ resolution)) (λ k.
-        then-only May (checkedTable table) _ (only-wider (TableRefusal widthRecordSize table) May (checkedTable table) (λ number place may. inr (inr (inl may))) (table-refused-with table)) (λ records.
+        then-only May (checkedTable table) _ (only-wider (TableRefusal widthRecordSize table) May (checkedTable table) (λ number place may. inr (inr (inl may))) (table-refused-with table)) (λ rows.
         if-only May (pageOutside page (found .pages)) noSuchPage 0 _ (inr (inr (inr (inl (inl refl, refl)))))
-        (then-only May (placing (settingOf file table k resolution records page) freshState (pageOf page (history file))) _
+        (then-only May (placing (settingOf file table k resolution rows page) freshState (pageOf page (history file))) _
         (placing-refused-with _ freshState _ (page-below file page (history file) (accepted-trace file found accepted))) (λ p.
-        if-only May (ltb room (placementRecordSize * length (p .records))) areaTooShort 0 (given p) (inr (inr (inr (inl (inr refl, refl))))) tt))))
+        if-only May (ltb room (placementRecordSize * length (p .placements))) areaTooShort 0 (given p) (inr (inr (inr (inl (inr refl, refl))))) tt))))
 
     -- 1 to 17, each at its place
     pub page-refused-with : RefusedOnly (PageRefusal file widthRecordSize table) (placedCounts (placedPage file table resolution page room))
