@@ -7,15 +7,17 @@ use mathlib.Core.Logic.{⊎-elim}
 use Prim.Native.Nat.{ℕ, _+_, _-_, _<_, _≤_}
 use native.Mathlib.Omega.{arith}
 use lib.Dec.{leb}
-use lib.ListN.{length, getD, take, drop, List·getD-append, List·getD-eq-default, take-append-drop}
+use lib.ListN.{length, take, drop, List·getD-eq-default, take-append-drop}
 use lib.Seq.{length-take-le}
 use borrow.Author.Tests.{le-ltb}
-use Rattle.numbers.specs.Bytes.{unsignedAt}
-use Rattle.numbers.proofs.Bytes.{unsigned-front}
+use Rattle.numbers.proofs.Bytes.{unsigned-front, unsigned-drop}
 use Rattle.commands.specs.declared.Kind.{Kind}
 use Rattle.commands.specs.declared.Kind.the-variants.{SetCharacter, SetRule, PutCharacter, PutRule, Nop, Bop, Eop, Push, Pop, Right, W, X, Down, Y, Z, Select, Special, Define, Pre, Post, PostPost, Undefined}
 use Rattle.commands.specs.Kinds.{kindOf}
-use Rattle.commands.specs.Lengths.{lengths, fixedLength, innerLengthOf, innerLength, sizeOf}
+use Rattle.commands.specs.declared.fields.UnsignedField.{UnsignedField}
+use Rattle.commands.specs.Fields.{unsignedIn, bopPointer, preCommentLength, postPages, endIdentification, specialLength, definitionNumberSize, definitionAreaLength, definitionNameLength, definitionName}
+use Rattle.commands.specs.Parameters.{definition}
+use Rattle.commands.specs.Lengths.{lengths, fixedLength, innerLength, sizeOf}
 use Rattle.commands.specs.Commands.{Command, Whole, kindOfCommand}
 use Rattle.commands.proofs.Ranges.{below-or-not, constant-on, equal-on, between-on}
 use Rattle.commands.proofs.Opcodes.{first, last, range-kind, kind-from, from-250}
@@ -72,29 +74,30 @@ hasInner k = leb 239 (first k) && leb (first k) 247
 
 module _ (opcode : ℕ) (params : List ℕ) where
   inner-undefined : kindOf opcode ≡ Undefined → innerLength opcode params ≡ 0
-  unfolding innerLength innerLengthOf
+  unfolding innerLength
   inner-undefined e = rw e
 
-  pub inner-special : kindOf opcode ≡ Special → innerLength opcode params ≡ unsignedAt params 0 (opcode - 238)
-  unfolding innerLength innerLengthOf
+  pub inner-special : kindOf opcode ≡ Special → innerLength opcode params ≡ unsignedIn (specialLength opcode) params
+  unfolding innerLength
   inner-special e = rw e
 
-  pub inner-define : kindOf opcode ≡ Define → innerLength opcode params ≡ getD params (opcode - 230) 0 + getD params (opcode - 229) 0
-  unfolding innerLength innerLengthOf
+  pub inner-define : kindOf opcode ≡ Define
+      → innerLength opcode params ≡ unsignedIn definitionAreaLength (definition opcode params) + unsignedIn definitionNameLength (definition opcode params)
+  unfolding innerLength
   inner-define e = rw e
 
-  pub inner-pre : kindOf opcode ≡ Pre → innerLength opcode params ≡ getD params 13 0
-  unfolding innerLength innerLengthOf
+  pub inner-pre : kindOf opcode ≡ Pre → innerLength opcode params ≡ unsignedIn preCommentLength params
+  unfolding innerLength
   inner-pre e = rw e
 
   pub inner-below : opcode < 239 → innerLength opcode params ≡ 0
-  inner-below l = constant-on (λ x. innerLength x params) 0 0 239 (unfold innerLength innerLengthOf kindOf in refl) (omega arith) (omega arith)
+  inner-below l = constant-on (λ x. innerLength x params) 0 0 239 (unfold innerLength kindOf in refl) (omega arith) (omega arith)
 
   pub inner-above : 248 ≤ opcode → innerLength opcode params ≡ 0
   inner-above h = ⊎-elim defined (λ beyond. inner-undefined (from-250 opcode beyond)) (below-or-not opcode 250)
     where
       defined : opcode < 250 → innerLength opcode params ≡ 0
-      defined l = constant-on (λ x. innerLength x params) 0 248 2 (unfold innerLength innerLengthOf kindOf in refl) h (omega arith)
+      defined l = constant-on (λ x. innerLength x params) 0 248 2 (unfold innerLength kindOf in refl) h (omega arith)
 
 -- an opcode has no length inside, or is of one of the three kinds
 data Inner (opcode : ℕ) : Type 0 where
@@ -130,8 +133,15 @@ inner-none {k} opcode params e plain = go (inner-cases opcode)
 -- ---- only bytes inside the parameters are looked at
 
 module _ (opcode : ℕ) (params more : List ℕ) (long : fixedLength opcode ≤ length params) where
-  byte-append : (index : ℕ) → index < fixedLength opcode → getD (params ++ more) index 0 ≡ getD params index 0
-  byte-append index h = List·getD-append params more 0 index (omega arith)
+  field-append : (field : UnsignedField) → field .at + field .size ≤ fixedLength opcode → unsignedIn field (params ++ more) ≡ unsignedIn field params
+  field-append field h = unsigned-front params more (field .at) (field .size) (omega arith)
+
+  said-append : (field : UnsignedField) → definitionNumberSize opcode + (field .at + field .size) ≤ fixedLength opcode
+      → unsignedIn field (definition opcode (params ++ more)) ≡ unsignedIn field (definition opcode params)
+  said-append field h =
+      unsigned-drop (params ++ more) (definitionNumberSize opcode) (field .at) (field .size)
+      ∙ unsigned-front params more (definitionNumberSize opcode + field .at) (field .size) (omega arith)
+      ∙ sym (unsigned-drop params (definitionNumberSize opcode) (field .at) (field .size))
 
   inner-append : innerLength opcode (params ++ more) ≡ innerLength opcode params
   inner-append = go (inner-cases opcode)
@@ -140,14 +150,14 @@ module _ (opcode : ℕ) (params more : List ℕ) (long : fixedLength opcode ≤ 
       go (none zero-at) = zero-at (params ++ more) ∙ sym (zero-at params)
       go (special s) =
           inner-special opcode (params ++ more) s
-          ∙ unsigned-front params more 0 (opcode - 238) (omega (arith, fixed-of opcode s))
+          ∙ field-append (specialLength opcode) (omega (arith, fixed-of opcode s))
           ∙ sym (inner-special opcode params s)
       go (define d) =
           inner-define opcode (params ++ more) d
-          ∙ ap₂ _+_ (byte-append (opcode - 230) (omega (arith, fixed-of opcode d, kind-from opcode d))) (byte-append (opcode - 229) (omega (arith, fixed-of opcode d, kind-from opcode d)))
+          ∙ ap₂ _+_ (said-append definitionAreaLength (omega (arith, fixed-of opcode d, kind-from opcode d))) (said-append definitionNameLength (omega (arith, fixed-of opcode d, kind-from opcode d)))
           ∙ sym (inner-define opcode params d)
       go (pre p) =
-          inner-pre opcode (params ++ more) p ∙ byte-append 13 (omega (arith, fixed-of opcode p)) ∙ sym (inner-pre opcode params p)
+          inner-pre opcode (params ++ more) p ∙ field-append preCommentLength (omega (arith, fixed-of opcode p)) ∙ sym (inner-pre opcode params p)
 
   pub size-append : sizeOf opcode (params ++ more) ≡ sizeOf opcode params
   unfolding sizeOf
@@ -187,3 +197,14 @@ module _ (c : Command) (w : Whole c) where
 -- a character's code has at most four bytes, and a bop 44
 shown : (c : Command) → Whole c → (kindOfCommand c ≡ SetCharacter → length (c .params) ≤ 4) × (kindOfCommand c ≡ Bop → length (c .params) ≡ 44)
 shown c w = (λ e. whole-at-most c w e refl, λ e. whole-plain c w e refl)
+
+-- the fields of bop, of fnt_def1 (of fnt_def4), of pre, of post and of post_post end where the table says
+fields-fill :
+    (fixedLength 139 ≡ bopPointer .at + bopPointer .size)
+    × (fixedLength 243 ≡ definitionNumberSize 243 + definitionName)
+    × (fixedLength 246 ≡ definitionNumberSize 246 + definitionName)
+    × (fixedLength 247 ≡ preCommentLength .at + preCommentLength .size)
+    × (fixedLength 248 ≡ postPages .at + postPages .size)
+    × (fixedLength 249 ≡ endIdentification .at + endIdentification .size)
+unfolding fixedLength lengths
+fields-fill = (refl, refl, refl, refl, refl, refl)

@@ -1,14 +1,14 @@
--- "The parameter bytes of opcodes 128 to 249 stand in one table; lengths inside a command (names, comments, specials) are read unsigned, whatever
--- appendix A's sign, and add to it." Assumes nothing.
+-- How many parameter bytes a command has: what the table gives for its opcode, and what lengths inside the command, read without a sign, add.
+-- Assumes nothing.
 use Prim.Native.Nat.{ℕ, _+_, _-_}
 use mathlib.Core.Bool.{cond}
 use mathlib.Core.List.{List, [], _∷_, _++_}
 use lib.Dec.{ltb}
 use lib.ListN.{getD, replicate}
-use Rattle.numbers.specs.Bytes.{unsignedAt}
-use Rattle.commands.specs.declared.Kind.{Kind}
-use Rattle.commands.specs.declared.Kind.the-variants.{SetCharacter, SetRule, PutCharacter, PutRule, Nop, Bop, Eop, Push, Pop, Right, W, X, Down, Y, Z, Select, Special, Define, Pre, Post, PostPost, Undefined}
-use Rattle.commands.specs.Kinds.{kindOf}
+use Rattle.commands.specs.declared.Kind.the-variants.{Special, Define, Pre}
+use Rattle.commands.specs.Kinds.{kindOf, is}
+use Rattle.commands.specs.Fields.{unsignedIn, preCommentLength, specialLength, definitionAreaLength, definitionNameLength}
+use Rattle.commands.specs.Parameters.{definition}
 
 -- the table of 122 lengths, appendix A's commands in its order
 unfoldable pub lengths : List ℕ
@@ -33,34 +33,12 @@ unfoldable pub fixedLength : ℕ → ℕ
 unfolding lengths
 fixedLength opcode = cond (ltb opcode 128) 0 (getD lengths (opcode - 128) 0)
 
--- what a length inside the command adds: k of a special and of pre, a + l of a font definition
-unfoldable pub innerLengthOf : Kind → ℕ → List ℕ → ℕ
-innerLengthOf SetCharacter opcode params = 0
-innerLengthOf SetRule opcode params = 0
-innerLengthOf PutCharacter opcode params = 0
-innerLengthOf PutRule opcode params = 0
-innerLengthOf Nop opcode params = 0
-innerLengthOf Bop opcode params = 0
-innerLengthOf Eop opcode params = 0
-innerLengthOf Push opcode params = 0
-innerLengthOf Pop opcode params = 0
-innerLengthOf Right opcode params = 0
-innerLengthOf W opcode params = 0
-innerLengthOf X opcode params = 0
-innerLengthOf Down opcode params = 0
-innerLengthOf Y opcode params = 0
-innerLengthOf Z opcode params = 0
-innerLengthOf Select opcode params = 0
-innerLengthOf Special opcode params = unsignedAt params 0 (opcode - 238)
-innerLengthOf Define opcode params = getD params (opcode - 230) 0 + getD params (opcode - 229) 0
-innerLengthOf Pre opcode params = getD params 13 0
-innerLengthOf Post opcode params = 0
-innerLengthOf PostPost opcode params = 0
-innerLengthOf Undefined opcode params = 0
-
--- the same by the opcode
+-- what the lengths inside a command add: of a special's text, of the two parts of a font's name, of the comment in pre
 unfoldable pub innerLength : ℕ → List ℕ → ℕ
-innerLength opcode params = innerLengthOf (kindOf opcode) opcode params
+innerLength opcode params =
+    cond (is (kindOf opcode) Special) (unsignedIn (specialLength opcode) params)
+    (cond (is (kindOf opcode) Define) (unsignedIn definitionAreaLength (definition opcode params) + unsignedIn definitionNameLength (definition opcode params))
+    (cond (is (kindOf opcode) Pre) (unsignedIn preCommentLength params) 0))
 
 -- how long the parameters are of which `params` has the first bytes
 unfoldable pub sizeOf : ℕ → List ℕ → ℕ

@@ -1,6 +1,7 @@
 pub mod Kinds
+pub mod Fields
+pub mod Parameters
 pub mod Lengths
 pub mod Commands
-pub mod Parameters
 pub mod Reading
 pub mod Steps

@@ -6,8 +6,9 @@ use lib.Dec.{ltb, eqb}
 use lib.ListN.{length, drop}
 use lib.IntN.{ℤ, pos}
 use Rattle.numbers.specs.Bytes.{unsignedAt, signedAt}
+use Rattle.commands.specs.Fields.{unsignedIn, signedIn, ruleHeightField, ruleWidthField, selectionNumberSize, definitionNumberSize, definitionChecksum, definitionScale, definitionDesignSize}
 
--- appendix A: "usually regarded as nonnegative integers; but four-byte-long parameters … can be either positive or negative"
+-- a number of one to four bytes: of four bytes it has a sign, of fewer it has none
 abbrev pub numberAt : List ℕ → ℕ → ℕ → ℤ
 numberAt params at count = cond (eqb count 4) (signedAt params at count) (pos (unsignedAt params at count))
 
@@ -15,38 +16,38 @@ numberAt params at count = cond (eqb count 4) (signedAt params at count) (pos (u
 abbrev pub characterCode : ℕ → List ℕ → ℤ
 characterCode opcode params = cond (ltb opcode 128) (pos opcode) (numberAt params 0 (length params))
 
--- a distance: "shorter parameters that denote distances, can be either positive or negative"
+-- the distance of a move has a sign in any number of bytes
 abbrev pub distance : List ℕ → ℤ
 distance params = signedAt params 0 (length params)
 
--- a rule's height a[+4] and width b[+4]
+-- a rule's height
 abbrev pub ruleHeight : List ℕ → ℤ
-ruleHeight params = signedAt params 0 4
+ruleHeight params = signedIn ruleHeightField params
 
--- b[+4]
+-- a rule's width
 abbrev pub ruleWidth : List ℕ → ℤ
-ruleWidth params = signedAt params 4 4
+ruleWidth params = signedIn ruleWidthField params
 
--- the font that a selection names: fnt_num_0 to fnt_num_63 by the opcode, else k
+-- the font that a selection names: fnt_num_0 (171) to fnt_num_63 by the opcode itself, fnt1 (235) to fnt4 by the parameter
 abbrev pub selectedFont : ℕ → List ℕ → ℤ
-selectedFont opcode params = cond (ltb opcode 235) (pos (opcode - 171)) (numberAt params 0 (opcode - 234))
+selectedFont opcode params = cond (ltb opcode 235) (pos (opcode - 171)) (numberAt params 0 (selectionNumberSize opcode))
 
--- the font that a definition names: k in one to four bytes
+-- the font that a definition names
 abbrev pub definedFont : ℕ → List ℕ → ℤ
-definedFont opcode params = numberAt params 0 (opcode - 242)
+definedFont opcode params = numberAt params 0 (definitionNumberSize opcode)
 
--- c[4] s[4] d[4] a[1] l[1] n[a + l] of a definition: what follows k
+-- what a definition says of its font: the parameters after the font's number
 abbrev pub definition : ℕ → List ℕ → List ℕ
-definition opcode params = drop (opcode - 242) params
+definition opcode params = drop (definitionNumberSize opcode) params
 
--- c[4]
+-- its check sum
 abbrev pub fontChecksum : List ℕ → ℕ
-fontChecksum definition = unsignedAt definition 0 4
+fontChecksum definition = unsignedIn definitionChecksum definition
 
--- s[4]
+-- its scale
 abbrev pub fontScale : List ℕ → ℕ
-fontScale definition = unsignedAt definition 4 4
+fontScale definition = unsignedIn definitionScale definition
 
--- d[4]
+-- its design size
 abbrev pub fontDesignSize : List ℕ → ℕ
-fontDesignSize definition = unsignedAt definition 8 4
+fontDesignSize definition = unsignedIn definitionDesignSize definition

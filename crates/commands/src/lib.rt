@@ -1,6 +1,7 @@
 // One command: its kind, the length of its parameters, and the reading of what stands at a place.
 use refusals::Refusal;
 
+pub mod fields;
 pub mod parameters;
 
 ghost use mathlib.Core.Path.{_≡_};
@@ -264,16 +265,16 @@ fn inner_length(file: &[u8], start: usize, opcode: u8) -> usize
 {
     match opcode {
         239..=242 => {
-            let count = (opcode - 238) as usize;
+            let count = (opcode - fields::BEFORE_SPECIAL) as usize;
             numbers::unsigned_at(file, start, count) as usize
         }
         243..=246 => {
-            let area = start + (opcode - 230) as usize;
-            let area_length = numbers::wide(file[area]);
-            let name_length = numbers::wide(file[area + 1]);
+            let said = start + (opcode - fields::BEFORE_DEFINITION) as usize;
+            let area_length = numbers::wide(file[said + fields::DEFINITION_AREA_LENGTH.at]);
+            let name_length = numbers::wide(file[said + fields::DEFINITION_NAME_LENGTH.at]);
             (area_length + name_length) as usize
         }
-        247 => numbers::wide(file[start + 13]) as usize,
+        247 => numbers::wide(file[start + fields::PRE_COMMENT_LENGTH.at]) as usize,
         _ => 0,
     }
 }

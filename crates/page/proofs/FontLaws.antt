@@ -1,20 +1,19 @@
 -- The font that a selection leaves: what its entry in the table of definitions leads to. Assumes nothing.
-use mathlib.Core.Path.{_≡_, refl, sym, ap, ap₂, _∙_, subst}
+use mathlib.Core.Path.{_≡_, refl, sym, ap, _∙_, subst}
 use mathlib.Core.Bool.{true, false}
 use mathlib.Core.List.{List}
-use Prim.Native.Nat.{ℕ, _+_, _≤_}
-use native.Mathlib.Nat.{add-zero}
+use Prim.Native.Nat.{ℕ, _-_, _≤_}
 use native.Mathlib.Omega.{arith}
-use lib.ListN.{getD}
+use lib.ListN.{getD, take, drop}
 use lib.IntN.{ℤ, natAbs}
-use Rattle.numbers.specs.Bytes.{unsignedAt}
 use Rattle.commands.specs.Commands.{Command}
+use Rattle.commands.specs.Parameters.{fontChecksum, fontScale}
 use Rattle.volume.specs.declared.Part.{Part}
 use Rattle.volume.specs.Past.{body, Definition, definitionOf}
 use Rattle.volume.specs.Rules.{lawfulFont}
 use Rattle.volume.specs.Steps.{SayingAt}
 use Rattle.volume.proofs.FontTables.{told-none}
-use Rattle.volume.proofs.Sayings.{number-there}
+use Rattle.volume.proofs.Sayings.{part-says}
 use Rattle.volume.proofs.NameLaws.{Leads, said-there}
 use Rattle.state.specs.Registers.{unselected}
 use Rattle.page.specs.Placing.{fontBy}
@@ -36,16 +35,17 @@ module _ {file fonts : List ℕ} {past : List Command} (told : Told file fonts p
 
     -- an entry leads to the definition, and the definition to the font
     module _ {at : ℕ} (leads : Leads file fonts number past (told .tells) (told .standing) lawful at) (r : Part) (saying : SayingAt file at r) where
-      number-is : (from : ℕ) → from + 4 ≤ 14 → unsignedAt file (r .start + from) 4 ≡ unsignedAt (body (leads .c)) from 4
-      number-is from h =
-          ap (λ (part : Part). unsignedAt file (part .start + from) 4) (said-there file fonts number past (told .tells) (told .standing) lawful leads r saying)
-          ∙ number-there file at (leads .ahead) (leads .kind-is) from 4 h
+      said-is : take (r .end - r .start) (drop (r .start) file) ≡ body (leads .c)
+      said-is =
+          ap (λ (part : Part). take (part .end - part .start) (drop (part .start) file)) (said-there file fonts number past (told .tells) (told .standing) lawful leads r saying)
+          ∙ part-says file at (leads .ahead) (leads .kind-is)
 
-      pub font-is : record { number = natAbs number; checksum = unsignedAt file (r .start) 4; scale = unsignedAt file (r .start + 4) 4 } ≡ fontBy number (definitionOf false number past)
+      pub font-is :
+          let said = take (r .end - r .start) (drop (r .start) file) in
+          record { number = natAbs number; checksum = fontChecksum said; scale = fontScale said } ≡ fontBy number (definitionOf false number past)
       font-is =
-          ap₂ (λ (sum size : ℕ). record { number = natAbs number; checksum = sum; scale = size })
-          (ap (λ (start : ℕ). unsignedAt file start 4) (sym (add-zero (r .start))) ∙ number-is 0 (omega arith)) (number-is 4 (omega arith))
+          ap (λ (said : List ℕ). record { number = natAbs number; checksum = fontChecksum said; scale = fontScale said }) said-is
           ∙ ap (fontBy number) (sym (leads .defined))
 
-      pub scale-in : unsignedAt file (r .start + 4) 4 ≤ 134217727
-      scale-in = subst (λ (size : ℕ). size ≤ 134217727) (sym (number-is 4 (omega arith))) (subst (λ (d : Definition). InScale d) (leads .defined) (told .scales number))
+      pub scale-in : fontScale (take (r .end - r .start) (drop (r .start) file)) ≤ 134217727
+      scale-in = subst (λ (said : List ℕ). fontScale said ≤ 134217727) (sym said-is) (subst (λ (d : Definition). InScale d) (leads .defined) (told .scales number))

@@ -13,10 +13,11 @@ use lib.Signed.{ltZ}
 use borrow.Author.Tests.{ltb-true, leb-true, not-false}
 use Rattle.refusals.specs.Answer.{given}
 use Rattle.numbers.specs.Signs.{sameNumber}
-use Rattle.numbers.specs.Bytes.{unsignedAt}
+use Rattle.numbers.specs.Bytes.{unsignedAt, signedAt}
 use Rattle.numbers.proofs.Signed.{diff, lt-yes}
 use Rattle.units.specs.Steps.{Units}
 use Rattle.commands.specs.declared.Kind.the-variants.{Define, Pre, PostPost}
+use Rattle.commands.specs.Fields.{unsignedIn, preIdentification, preNum, preDen, preMag}
 use Rattle.commands.specs.Commands.{Command, kindOfCommand, whole, front}
 use Rattle.commands.specs.Parameters.{fontScale}
 use Rattle.commands.proofs.Ranges.{below-or-not}
@@ -25,7 +26,7 @@ use Rattle.volume.specs.declared.Stage.{Stage}
 use Rattle.volume.specs.declared.Stage.the-variants.{AtStart, BeforePages, OnPage, BetweenPages, AfterPost, AfterEnd}
 use Rattle.volume.specs.declared.Summary.{Summary}
 use Rattle.volume.specs.Past.{isA, place, stage, num, den, mag, fontNumber, body, defines, stands, definitionOf}
-use Rattle.volume.specs.Rules.{isAtStart, lawfulPreamble, positiveAt, mayStand, lawfulSize, lawfulFont, lawfulDefinition, fontLeftOut, Allowed}
+use Rattle.volume.specs.Rules.{isAtStart, lawfulPreamble, positiveUnit, mayStand, lawfulSize, lawfulFont, lawfulDefinition, fontLeftOut, Allowed}
 use Rattle.volume.specs.Judged.{judgedFrom, judged}
 use Rattle.volume.specs.History.{historyFrom, history}
 use Rattle.volume.proofs.Arms.{is-kind}
@@ -122,7 +123,7 @@ module _ (params : List ℕ) (bytes : (i : ℕ) → getD params i 0 < 256) where
   four-below at = omega (arith, bytes (at + 0), bytes (at + 1), bytes (at + 2), bytes (at + 3))
 
   -- and where they are positive as a signed number, below 2^31
-  positive-four : (at : ℕ) → positiveAt params at ≡ true → (0 < unsignedAt params at 4) × (unsignedAt params at 4 < 2 ^ 31)
+  positive-four : (at : ℕ) → ltZ (pos 0) (signedAt params at 4) ≡ true → (0 < unsignedAt params at 4) × (unsignedAt params at 4 < 2 ^ 31)
   positive-four at e = by (ltb (unsignedAt params at 4 + unsignedAt params at 4) (256 ^ 4)) refl e
     where
       by : (low : Bool) → ltb (unsignedAt params at 4 + unsignedAt params at 4) (256 ^ 4) ≡ low
@@ -134,14 +135,14 @@ module _ (params : List ℕ) (bytes : (i : ℕ) → getD params i 0 < 256) where
           absurd (omega (arith, four-below at, lt-yes (pos 0) (pos (unsignedAt params at 4) -ℤ pos (256 ^ 4)) q, diff (pos (unsignedAt params at 4)) (pos (256 ^ 4))))
 
   -- the units of a preamble that keeps the rules
-  preamble-units : lawfulPreamble params ≡ true → Units (unsignedAt params 1 4) (unsignedAt params 5 4) (unsignedAt params 9 4)
+  preamble-units : lawfulPreamble params ≡ true → Units (unsignedIn preNum params) (unsignedIn preDen params) (unsignedIn preMag params)
   preamble-units e =
-      let from-num = and-eq-true-iff (eqb (getD params 0 0) 2) _ .0 e .1 in
-      let from-den = and-eq-true-iff (positiveAt params 1) _ .0 from-num in
-      let both = and-eq-true-iff (positiveAt params 5) (positiveAt params 9) .0 (from-den .1) in
-      let (num-positive, num-below) = positive-four 1 (from-den .0) in
-      let (den-positive, den-below) = positive-four 5 (both .0) in
-      let (mag-positive, mag-below) = positive-four 9 (both .1) in
+      let from-num = and-eq-true-iff (eqb (unsignedIn preIdentification params) 2) _ .0 e .1 in
+      let from-den = and-eq-true-iff (positiveUnit preNum params) _ .0 from-num in
+      let both = and-eq-true-iff (positiveUnit preDen params) (positiveUnit preMag params) .0 (from-den .1) in
+      let (num-positive, num-below) = positive-four (preNum .at) (from-den .0) in
+      let (den-positive, den-below) = positive-four (preDen .at) (both .0) in
+      let (mag-positive, mag-below) = positive-four (preMag .at) (both .1) in
       record {
         num-positive = num-positive;
         num-below = num-below;

@@ -10,7 +10,7 @@ use Rattle.units.specs.Rounding.{nearestWhole}
 use Rattle.units.specs.Divisor.{commonDivisor, divisorWithin, lowest}
 use Rattle.widths.specs.Table.{checkedFrom}
 use Rattle.commands.specs.Kinds.{kindOf}
-use Rattle.commands.specs.Lengths.{lengths, fixedLength, innerLengthOf, innerLength, sizeOf}
+use Rattle.commands.specs.Lengths.{lengths, fixedLength, innerLength, sizeOf}
 use Rattle.commands.specs.Commands.{frontAfter}
 use Rattle.volume.specs.Rules.{sameBytes}
 use Rattle.volume.specs.Judged.{tail, judgedFrom, judged}
@@ -43,7 +43,7 @@ printed = record { placements = rule (pos 9) (pos 2) (pos 3) ∷ rule (pos 11) (
 
 -- "empty table, R 300, page 1, prints in whole": into an area that just holds it
 pub printed-placed : placedPage example [] 300 1 40 ≡ given printed
-unfolding unsignedAt nearestWhole commonDivisor divisorWithin lowest checkedFrom kindOf lengths fixedLength innerLengthOf innerLength sizeOf frontAfter sameBytes tail judgedFrom judged history historyFrom after placing
+unfolding unsignedAt nearestWhole commonDivisor divisorWithin lowest checkedFrom kindOf lengths fixedLength innerLength sizeOf frontAfter sameBytes tail judgedFrom judged history historyFrom after placing
 printed-placed = refl
 
 -- the two records as bytes

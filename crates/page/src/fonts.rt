@@ -1,4 +1,5 @@
 // The font that a selection names, from its definition before post.
+use commands::fields;
 use state::Font;
 use volume::fonts;
 ghost use Rattle.page.specs.Steps.{FontIs};
@@ -22,13 +23,14 @@ pub fn font_of(file: &[u8], fonts: &[u32; 256], number: i64) -> Font
     let part = fonts::saying_at(file, entry - 1);
     let start = part.start;
     let end = part.end;
-    if end - start < 14 {
+    let said = &file[start..end];
+    if said.len() < fields::DEFINITION_NAME {
         return unselected;
     }
     let which = number as u64;
     Font {
         number: which,
-        checksum: numbers::unsigned_at(file, start, 4),
-        scale: numbers::unsigned_at(file, start + 4, 4),
+        checksum: fields::unsigned_in(fields::DEFINITION_CHECKSUM, said),
+        scale: fields::unsigned_in(fields::DEFINITION_SCALE, said),
     }
 }

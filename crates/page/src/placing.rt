@@ -4,6 +4,7 @@ use crate::Terms;
 use crate::Walked;
 use crate::records;
 use crate::walking;
+use commands::fields;
 use refusals::Refusal;
 use state::moving::Ruler;
 use units::UnitFound;
@@ -22,8 +23,8 @@ ghost use Rattle.page.specs.Placing.{placing};
 ghost use Rattle.page.specs.Answers.{withRoom, placedAccepted, placedPage, placedCounts, areaAfter};
 ghost use Rattle.page.specs.Steps.{termsSetting, Ready, Held, placeAnswer};
 
-// The length of a bop.
-const BOP: usize = 45;
+// The length of a bop: its opcode and its parameters, of which the pointer is the last.
+const BOP: usize = 1 + fields::BOP_POINTER.at + fields::BOP_POINTER.size;
 
 fn refused(number: u8, place: usize) -> PagePlaced
     ensures { λ r. ⌜ placeAnswer r ≡ Rattle.refusals.specs.Answer.refused number place ⌝ }

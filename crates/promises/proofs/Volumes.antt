@@ -9,12 +9,13 @@ use lib.ListN.{length, getD, drop, replicate, length-append}
 use lib.Seq.{drop-at}
 use lib.IntN.{pos}
 use borrow.Author.Tests.{not-false, eqb-true, leb-false, ltb-true, ltb-false}
-use Rattle.numbers.specs.Bytes.{unsignedAt, signedAt}
+use Rattle.numbers.specs.Bytes.{unsignedAt}
 use Rattle.numbers.proofs.Signed.{same-number-true}
 use Rattle.commands.specs.declared.Kind.{Kind}
 use Rattle.commands.specs.declared.Kind.the-variants.{Bop, Eop, Push, Pop, Select, Define, Pre, Post, PostPost}
 use Rattle.commands.specs.Kinds.{kindOf, is}
-use Rattle.commands.specs.Lengths.{lengths, fixedLength, innerLengthOf, innerLength, sizeOf}
+use Rattle.commands.specs.Fields.{unsignedIn, signedIn, bopPointer, postPointer, postNum, postDen, postMag, postDepth, postPages, endPointer}
+use Rattle.commands.specs.Lengths.{lengths, fixedLength, innerLength, sizeOf}
 use Rattle.commands.specs.Commands.{Command, kindOfCommand, Whole, written}
 use Rattle.commands.specs.Parameters.{selectedFont, fontScale, fontDesignSize}
 use Rattle.commands.proofs.Opcodes.{kind-range}
@@ -237,15 +238,15 @@ module _ {cs : List Command} (keeps : Keeps cs) {past : List Command} {c : Comma
   pre-once k = only-pre (kept-there .0) (kept-there .1) k
 
   -- p of bop is the place of the bop before, or −1 (rule 3.7)
-  pub bop-points-back : kindOfCommand c ≡ Bop → signedAt (c .params) 40 4 ≡ lastBop past
+  pub bop-points-back : kindOfCommand c ≡ Bop → signedIn bopPointer (c .params) ≡ lastBop past
   bop-points-back k = same-number-true _ _ (holds _ (rw k at (kept-there .1 .pointer)))
 
   -- p of post is the place of the last bop (rule 3.7)
-  pub post-points : kindOfCommand c ≡ Post → signedAt (c .params) 0 4 ≡ lastBop past
+  pub post-points : kindOfCommand c ≡ Post → signedIn postPointer (c .params) ≡ lastBop past
   post-points k = same-number-true _ _ (holds _ (rw k at (kept-there .1 .pointer)))
 
   -- q of post_post is the place of post (rule 3.7)
-  pub post-post-points : kindOfCommand c ≡ PostPost → signedAt (c .params) 0 4 ≡ pos (postPlace past)
+  pub post-post-points : kindOfCommand c ≡ PostPost → signedIn endPointer (c .params) ≡ pos (postPlace past)
   post-post-points k = same-number-true _ _ (not-false _ (rw k at (kept-there .1 .pointer)))
 
   -- what is selected has a definition before it (rule 3.6)
@@ -266,18 +267,18 @@ module _ {cs : List Command} (keeps : Keeps cs) {past : List Command} {c : Comma
 
   -- what post says of the list before it (rule 3.8)
   pub post-repeats : kindOfCommand c ≡ Post
-      → (unsignedAt (c .params) 26 2 ≡ pages past)
-      × (unsignedAt (c .params) 24 2 ≡ greatest past)
-      × (unsignedAt (c .params) 4 4 ≡ num past)
-      × (unsignedAt (c .params) 8 4 ≡ den past)
-      × (unsignedAt (c .params) 12 4 ≡ mag past)
+      → (unsignedIn postPages (c .params) ≡ pages past)
+      × (unsignedIn postDepth (c .params) ≡ greatest past)
+      × (unsignedIn postNum (c .params) ≡ num past)
+      × (unsignedIn postDen (c .params) ≡ den past)
+      × (unsignedIn postMag (c .params) ≡ mag past)
   post-repeats k =
       let p = c .params in
       let rules : lawfulPostamble (num past) (den past) (mag past) (greatest past) (pages past) p ≡ true = holds _ (rw k at (kept-there .1 .postamble)) in
-      let from-num = and-eq-true-iff (eqb (unsignedAt p 4 4) (num past)) _ .0 rules in
-      let from-den = and-eq-true-iff (eqb (unsignedAt p 8 4) (den past)) _ .0 (from-num .1) in
-      let from-mag = and-eq-true-iff (eqb (unsignedAt p 12 4) (mag past)) _ .0 (from-den .1) in
-      let from-depth = and-eq-true-iff (eqb (unsignedAt p 24 2) (greatest past)) _ .0 (from-mag .1) in (
+      let from-num = and-eq-true-iff (eqb (unsignedIn postNum p) (num past)) _ .0 rules in
+      let from-den = and-eq-true-iff (eqb (unsignedIn postDen p) (den past)) _ .0 (from-num .1) in
+      let from-mag = and-eq-true-iff (eqb (unsignedIn postMag p) (mag past)) _ .0 (from-den .1) in
+      let from-depth = and-eq-true-iff (eqb (unsignedIn postDepth p) (greatest past)) _ .0 (from-mag .1) in (
         eqb-true _ _ (from-depth .1),
         eqb-true _ _ (from-depth .0),
         eqb-true _ _ (from-num .0),
@@ -299,7 +300,7 @@ listOfM =
 
 -- it keeps the rules, and its written forms are M
 pub M-list : Keeps listOfM × (written listOfM ≡ M)
-unfolding unsignedAt kindOf lengths fixedLength innerLengthOf innerLength sizeOf
+unfolding unsignedAt kindOf lengths fixedLength innerLength sizeOf
 M-list = (
   goes (record { defined = lit< tt; exact = refl }) (all-kept _ _ refl) refl
       (goes (record { defined = lit< tt; exact = refl }) (all-kept _ _ refl) refl

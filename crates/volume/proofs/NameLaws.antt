@@ -9,11 +9,12 @@ use lib.IntN.{ℤ, natAbs}
 use Rattle.refusals.specs.Numbers.{noFont}
 use Rattle.refusals.specs.Answer.{refused, given}
 use Rattle.commands.specs.declared.Kind.the-variants.{Define}
+use Rattle.commands.specs.Fields.{definitionName}
 use Rattle.commands.specs.Commands.{Command, kindOfCommand, whole, front}
 use Rattle.volume.specs.declared.Part.{Part}
 use Rattle.volume.specs.Past.{Definition, none, stands, definitionOf}
 use Rattle.volume.specs.Rules.{lawfulFont}
-use Rattle.volume.specs.Names.{namePart, namedBy}
+use Rattle.volume.specs.Names.{namedBy}
 use Rattle.volume.specs.Steps.{entryOf, Tells, StandsIn, AllStanding, Lawfully, sayingPart, SayingAt}
 use Rattle.volume.proofs.FontTables.{lawful-in, definition-kind, told-entry, told-none}
 use Rattle.volume.proofs.Sayings.{body-long, body-all}
@@ -50,12 +51,10 @@ module _ (file fonts : List ℕ) (number : ℤ) (past : List Command) (tells : T
     pub said-there : r ≡ sayingPart at (l .c)
     said-there = saying .2 (l .c) (l .rest) (l .ahead) (l .kind-is)
 
-    pub said-long : 14 ≤ r .end - r .start
-    said-long = subst (λ (part : Part). 14 ≤ part .end - part .start) (sym said-there) (omega (arith, body-all file at (l .ahead) (l .kind-is), body-long file at (l .ahead) (l .kind-is)))
+    pub said-long : definitionName ≤ r .end - r .start
+    said-long = subst (λ (part : Part). definitionName ≤ part .end - part .start) (sym said-there) (omega (arith, body-all file at (l .ahead) (l .kind-is), body-long file at (l .ahead) (l .kind-is)))
 
-    pub name-is : given (record { start = r .start + 14; end = r .end }) ≡ namedBy (definitionOf false number past)
+    pub name-is : given (record { start = r .start + definitionName; end = r .end }) ≡ namedBy (definitionOf false number past)
     name-is =
-        let start-is : sayingPart at (l .c) .start + 14 ≡ namePart at (l .c) .start = omega arith in
-        ap (λ (part : Part). given (record { start = part .start + 14; end = part .end })) said-there
-        ∙ ap (λ (start : ℕ). given (record { start = start; end = namePart at (l .c) .end })) start-is
+        ap (λ (part : Part). given (record { start = part .start + definitionName; end = part .end })) said-there
         ∙ ap namedBy (sym (l .defined))

@@ -5,7 +5,7 @@ use mathlib.Core.List.{List, [], _∷_}
 use native.Mathlib.Omega.{arith}
 use lib.Dec.{lit<}
 use Rattle.commands.specs.Kinds.{kindOf}
-use Rattle.commands.specs.Lengths.{lengths, fixedLength, innerLengthOf, innerLength, sizeOf}
+use Rattle.commands.specs.Lengths.{lengths, fixedLength, innerLength, sizeOf}
 use Rattle.commands.specs.Commands.{Command, Whole, written, front, whole}
 use Rattle.commands.proofs.Fronts.{front-written}
 use Rattle.volume.specs.Lawful.{filler, fillers, Follows, ends, goes, Keeps}
@@ -28,7 +28,7 @@ unique (more {c = c} {cs = cs} w ws) (more {c = d} {cs = ds} v vs) e =
     cc
 
 filler-whole : Whole filler
-unfolding kindOf lengths fixedLength innerLengthOf innerLength sizeOf
+unfolding kindOf lengths fixedLength innerLength sizeOf
 filler-whole = record { defined = lit< tt; exact = refl }
 
 fillers-whole : (n : ℕ) → AllWhole (fillers n)

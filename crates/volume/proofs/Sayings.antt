@@ -1,14 +1,16 @@
 -- What a definition says, where it stands in a file: where its bytes are, and how many. Assumes nothing.
-use mathlib.Core.Path.{_≡_, sym, ap, ap₂, _∙_}
+use mathlib.Core.Path.{_≡_, refl, sym, ap, _∙_}
 use mathlib.Core.List.{List, _++_}
-use Prim.Native.Nat.{ℕ, _+_, _-_, _<_, _≤_}
+use Prim.Native.Nat.{ℕ, _+_, _-_, _≤_}
 use native.Mathlib.Nat.{add-zero}
 use native.Mathlib.Omega.{arith}
-use lib.ListN.{length, getD, take, drop, length-drop, List·getD-append}
+use lib.ListN.{length, getD, take, drop, length-drop}
 use lib.Seq.{drop-drop, drop-append-le, getD-drop, take-at}
 use Rattle.numbers.specs.Bytes.{unsignedAt}
-use Rattle.numbers.proofs.Bytes.{unsigned-drop, unsigned-front}
+use Rattle.numbers.proofs.Bytes.{unsigned-one, unsigned-drop, unsigned-front}
 use Rattle.commands.specs.declared.Kind.the-variants.{Define}
+use Rattle.commands.specs.declared.fields.UnsignedField.{UnsignedField}
+use Rattle.commands.specs.Fields.{unsignedIn, definitionNumberSize, definitionAreaLength, definitionNameLength, definitionName}
 use Rattle.commands.specs.Commands.{Command, Whole, kindOfCommand, form, whole, front}
 use Rattle.commands.proofs.Opcodes.{kind-range}
 use Rattle.commands.proofs.Lengths.{fixed-of, inner-define, whole-size}
@@ -39,21 +41,15 @@ module _ (file : List ℕ) (at : ℕ) {c : Command} {rest : List ℕ} (ahead : f
 
   -- ---- how many bytes
 
-  length-body : length (body c) ≡ length (c .params) - (c .opcode - 242)
-  length-body = length-drop (c .opcode - 242) (c .params)
+  length-body : length (body c) ≡ length (c .params) - definitionNumberSize (c .opcode)
+  length-body = length-drop (definitionNumberSize (c .opcode)) (c .params)
 
-  byte-of : (i : ℕ) {index : ℕ} → c .opcode - 242 + i ≡ index → getD (c .params) index 0 ≡ getD (body c) i 0
-  byte-of i e = ap (λ (j : ℕ). getD (c .params) j 0) (sym e) ∙ sym (getD-drop (c .opcode - 242) (c .params) i 0)
-
-  params-long : length (c .params) ≡ c .opcode - 228 + (getD (body c) 12 0 + getD (body c) 13 0)
-  params-long =
-      let area : c .opcode - 242 + 12 ≡ c .opcode - 230 = omega (arith, opcode-in) in
-      let name : c .opcode - 242 + 13 ≡ c .opcode - 229 = omega (arith, opcode-in) in
-      whole-size c good ∙ ap₂ _+_ (fixed-of (c .opcode) define) (inner-define (c .opcode) (c .params) define ∙ ap₂ _+_ (byte-of 12 area) (byte-of 13 name))
+  params-long : length (c .params) ≡ definitionNumberSize (c .opcode) + definitionName + (unsignedIn definitionAreaLength (body c) + unsignedIn definitionNameLength (body c))
+  params-long = omega (arith, whole-size c good, fixed-of (c .opcode) define, inner-define (c .opcode) (c .params) define, opcode-in)
 
   -- check sum, s, d, a and l are there
-  pub body-long : 14 ≤ length (body c)
-  body-long = omega (arith, length-body, params-long, opcode-in)
+  pub body-long : definitionName ≤ length (body c)
+  body-long = omega (arith, length-body, params-long)
 
   pub body-all : sayingPart at c .end - sayingPart at c .start ≡ length (body c)
   body-all = omega (arith, length-body)
@@ -62,29 +58,34 @@ module _ (file : List ℕ) (at : ℕ) {c : Command} {rest : List ℕ} (ahead : f
 
   body-there : drop (sayingPart at c .start) file ≡ body c ++ rest
   body-there =
-      sym (drop-drop (c .opcode - 242) (at + 1) file)
-      ∙ ap (drop (c .opcode - 242)) (sym (drop-drop 1 at file) ∙ ap (drop 1) there)
-      ∙ drop-append-le (c .opcode - 242) (c .params) rest (omega (arith, params-long, opcode-in))
+      sym (drop-drop (definitionNumberSize (c .opcode)) (at + 1) file)
+      ∙ ap (drop (definitionNumberSize (c .opcode))) (sym (drop-drop 1 at file) ∙ ap (drop 1) there)
+      ∙ drop-append-le (definitionNumberSize (c .opcode)) (c .params) rest (omega (arith, params-long))
 
-  byte-there : (i : ℕ) → i < 14 → getD file (sayingPart at c .start + i) 0 ≡ getD (body c) i 0
-  byte-there i h =
-      sym (getD-drop (sayingPart at c .start) file i 0)
-      ∙ ap (λ (bytes : List ℕ). getD bytes i 0) body-there
-      ∙ List·getD-append (body c) rest 0 i (omega (arith, body-long))
+  pub field-there : (field : UnsignedField) → field .at + field .size ≤ definitionName
+      → unsignedAt file (sayingPart at c .start + field .at) (field .size) ≡ unsignedIn field (body c)
+  field-there field h =
+      sym (unsigned-drop file (sayingPart at c .start) (field .at) (field .size))
+      ∙ ap (unsignedIn field) body-there
+      ∙ unsigned-front (body c) rest (field .at) (field .size) (omega (arith, body-long))
 
-  pub number-there : (from count : ℕ) → from + count ≤ 14 → unsignedAt file (sayingPart at c .start + from) count ≡ unsignedAt (body c) from count
-  number-there from count h =
-      sym (unsigned-drop file (sayingPart at c .start) from count)
-      ∙ ap (λ (bytes : List ℕ). unsignedAt bytes from count) body-there
-      ∙ unsigned-front (body c) rest from count (omega (arith, body-long))
+  byte-there : (field : UnsignedField) → field .at + field .size ≤ definitionName → field .size ≡ 1
+      → getD file (sayingPart at c .start + field .at) 0 ≡ unsignedIn field (body c)
+  byte-there field h one =
+      sym (unsigned-one file (sayingPart at c .start + field .at))
+      ∙ ap (unsignedAt file (sayingPart at c .start + field .at)) (sym one)
+      ∙ field-there field h
 
   pub part-says : take (sayingPart at c .end - sayingPart at c .start) (drop (sayingPart at c .start) file) ≡ body c
   part-says = ap (take (sayingPart at c .end - sayingPart at c .start)) body-there ∙ take-at (body c) rest _ (sym body-all)
 
   -- ---- the opcode tells where the part starts, and its own lengths where it ends
 
-  pub start-is : at + 1 + (getD file at 0 - 242) ≡ sayingPart at c .start
-  start-is = ap (λ (opcode : ℕ). at + 1 + (opcode - 242)) opcode-there
+  pub start-is : at + 1 + definitionNumberSize (getD file at 0) ≡ sayingPart at c .start
+  start-is = ap (λ (opcode : ℕ). at + 1 + definitionNumberSize opcode) opcode-there
 
-  pub end-is : let start = at + 1 + (getD file at 0 - 242) in start + 14 + (getD file (start + 12) 0 + getD file (start + 13) 0) ≡ sayingPart at c .end
-  end-is = rw start-is (omega (arith, byte-there 12 (omega arith), byte-there 13 (omega arith), params-long, opcode-in))
+  pub end-is :
+      let start = at + 1 + definitionNumberSize (getD file at 0) in
+      start + definitionName + (getD file (start + definitionAreaLength .at) 0 + getD file (start + definitionNameLength .at) 0) ≡ sayingPart at c .end
+  end-is =
+      rw start-is (omega (arith, byte-there definitionAreaLength (omega arith) refl, byte-there definitionNameLength (omega arith) refl, params-long))

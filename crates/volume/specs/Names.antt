@@ -7,15 +7,16 @@ use lib.ListN.{length, take, drop}
 use lib.IntN.{ℤ}
 use Rattle.refusals.specs.Numbers.{noFont}
 use Rattle.refusals.specs.Answer.{Answer, refused, given, andThen}
+use Rattle.commands.specs.Fields.{definitionNumberSize, definitionName}
 use Rattle.commands.specs.Commands.{Command}
 use Rattle.volume.specs.declared.Part.{Part}
 use Rattle.volume.specs.Past.{Definition, none, stands, definitionOf}
 use Rattle.volume.specs.History.{history}
 use Rattle.volume.specs.Judged.{judged}
 
--- the part of a definition that holds the name: after c[4] s[4] d[4] a[1] l[1], to the command's end
+-- the part of a definition at a place that holds the name: from where its name starts to the command's end
 abbrev pub namePart : ℕ → Command → Part
-namePart at c = record { start = at + (c .opcode - 242) + 15; end = at + 1 + length (c .params) }
+namePart at c = record { start = at + 1 + definitionNumberSize (c .opcode) + definitionName; end = at + 1 + length (c .params) }
 
 -- "the name of an undefined font number is 8 with place 0"
 abbrev pub namedBy : Definition → Answer Part

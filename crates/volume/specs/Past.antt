@@ -6,11 +6,12 @@ use mathlib.Core.List.{List, [], _∷_}
 use lib.ListN.{length}
 use lib.IntN.{ℤ, pos, negsuc}
 use Rattle.numbers.specs.Signs.{sameNumber}
-use Rattle.numbers.specs.Bytes.{unsignedAt}
 use Rattle.commands.specs.declared.Kind.{Kind}
 use Rattle.commands.specs.declared.Kind.the-variants.{Bop, Eop, Push, Pop, Select, Define, Pre, Post, PostPost}
 use Rattle.commands.specs.Kinds.{is}
 use Rattle.commands.specs.Commands.{Command, kindOfCommand}
+use Rattle.commands.specs.declared.fields.UnsignedField.{UnsignedField}
+use Rattle.commands.specs.Fields.{unsignedIn, preNum, preDen, preMag}
 use Rattle.commands.specs.Parameters.{definedFont, definition}
 use Rattle.volume.specs.declared.Stage.{Stage}
 use Rattle.volume.specs.declared.Stage.the-variants.{AtStart, BeforePages, OnPage, BetweenPages, AfterPost, AfterEnd}
@@ -38,7 +39,7 @@ abbrev pub stage : List Command → Stage
 stage [] = AtStart
 stage (c ∷ past) = stageAfter (kindOfCommand c) (stage past)
 
--- "after post"
+-- whether post has passed
 abbrev pub isAfterPost : Stage → Bool
 isAfterPost AtStart = false
 isAfterPost BeforePages = false
@@ -58,14 +59,14 @@ abbrev pub depth : List Command → ℕ
 depth [] = 0
 depth (c ∷ past) = depthAfter (kindOfCommand c) (depth past)
 
--- "the greatest depth reached"
+-- the greatest depth that was reached
 abbrev pub greatest : List Command → ℕ
 greatest [] = 0
 greatest (c ∷ past) = max (greatest past) (depth (c ∷ past))
 
 -- ---- pages and pointers
 
--- "the number of pages"
+-- how many pages have begun
 abbrev pub pages : List Command → ℕ
 pages [] = 0
 pages (c ∷ past) = cond (isA Bop c) (pages past + 1) (pages past)
@@ -82,22 +83,22 @@ postPlace (c ∷ past) = cond (isA Post c) (place past) (postPlace past)
 
 -- ---- the preamble
 
--- num, den and mag of pre stand at 1, 5 and 9 of its parameters
-abbrev pub unitAt : ℕ → List Command → ℕ
-unitAt offset [] = 0
-unitAt offset (c ∷ past) = cond (isA Pre c) (unsignedAt (c .params) offset 4) (unitAt offset past)
+-- a field of the last pre
+abbrev pub unitIn : UnsignedField → List Command → ℕ
+unitIn field [] = 0
+unitIn field (c ∷ past) = cond (isA Pre c) (unsignedIn field (c .params)) (unitIn field past)
 
--- num[4]
+-- its num
 abbrev pub num : List Command → ℕ
-num past = unitAt 1 past
+num past = unitIn preNum past
 
--- den[4]
+-- its den
 abbrev pub den : List Command → ℕ
-den past = unitAt 5 past
+den past = unitIn preDen past
 
--- mag[4]
+-- its mag
 abbrev pub mag : List Command → ℕ
-mag past = unitAt 9 past
+mag past = unitIn preMag past
 
 -- ---- fonts
 

@@ -5,16 +5,16 @@ use mathlib.Core.Path.{_≡_}
 use mathlib.Core.Bool.{Bool, true, false, cond, not, _&&_, _||_}
 use mathlib.Core.List.{List, [], _∷_}
 use lib.Dec.{ltb, leb, eqb}
-use lib.ListN.{getD}
 use lib.IntN.{ℤ, pos}
 use lib.Signed.{leZ, ltZ}
 use Rattle.refusals.specs.Numbers.{wrongPreamble, misplacedCommand, wrongDepth, wrongFontDefinition, noFont, wrongPointer, wrongPostamble}
 use Rattle.numbers.specs.Signs.{sameNumber}
-use Rattle.numbers.specs.Bytes.{unsignedAt, signedAt}
 use Rattle.commands.specs.declared.Kind.{Kind}
 use Rattle.commands.specs.declared.Kind.the-variants.{SetCharacter, PutCharacter, Nop, Bop, Eop, Push, Pop, Select, Define, Pre, Post, PostPost}
 use Rattle.commands.specs.Kinds.{is}
 use Rattle.commands.specs.Commands.{Command, kindOfCommand}
+use Rattle.commands.specs.declared.fields.UnsignedField.{UnsignedField}
+use Rattle.commands.specs.Fields.{unsignedIn, signedIn, asSigned, bopPointer, preIdentification, preNum, preDen, preMag, postPointer, postNum, postDen, postMag, postDepth, postPages, endPointer, endIdentification}
 use Rattle.commands.specs.Parameters.{selectedFont, fontScale, fontDesignSize}
 use Rattle.state.specs.Limits.{deepest, mostFonts}
 use Rattle.volume.specs.declared.Stage.{Stage}
@@ -32,13 +32,15 @@ isAtStart BetweenPages = false
 isAtStart AfterPost = false
 isAtStart AfterEnd = false
 
--- "positive as a signed number", of four bytes
-abbrev pub positiveAt : List ℕ → ℕ → Bool
-positiveAt params at = ltZ (pos 0) (signedAt params at 4)
+-- a unit of pre is above zero, where it is read with a sign
+abbrev pub positiveUnit : UnsignedField → List ℕ → Bool
+positiveUnit field params = ltZ (pos 0) (signedIn (asSigned field) params)
 
--- pre: i[1] num[4] den[4] mag[4]
+-- pre has identification 2, and its three units are above zero
 abbrev pub lawfulPreamble : List ℕ → Bool
-lawfulPreamble params = eqb (getD params 0 0) 2 && (positiveAt params 1 && (positiveAt params 5 && positiveAt params 9))
+lawfulPreamble params =
+    eqb (unsignedIn preIdentification params) 2
+    && (positiveUnit preNum params && (positiveUnit preDen params && positiveUnit preMag params))
 
 -- where 4 applies
 abbrev pub preambleWrong : List Command → Command → Bool
@@ -121,30 +123,30 @@ fontMissing past c =
 
 -- ---- 9: "a wrong pointer in bop, post or post_post"
 
--- "bop points to the previous bop, the first holds −1. post points to the last bop, post_post to post"
+-- where 9 applies: a bop holds the place of the bop before it, the first −1; post that of the last bop, post_post that of post
 abbrev pub pointerWrong : List Command → Command → Bool
 pointerWrong past c =
-    (isA Bop c && not (sameNumber (signedAt (c .params) 40 4) (lastBop past)))
-    || ((isA Post c && not (sameNumber (signedAt (c .params) 0 4) (lastBop past)))
-    || (isA PostPost c && not (sameNumber (signedAt (c .params) 0 4) (pos (postPlace past)))))
+    (isA Bop c && not (sameNumber (signedIn bopPointer (c .params)) (lastBop past)))
+    || ((isA Post c && not (sameNumber (signedIn postPointer (c .params)) (lastBop past)))
+    || (isA PostPost c && not (sameNumber (signedIn endPointer (c .params)) (pos (postPlace past)))))
 
 -- ---- 10: "num, den, mag, depth or page count in post wrong; identification in post_post not 2"
 
--- "its s equals the greatest depth reached"
+-- the depth that post states against the greatest that was reached
 abbrev pub rightDepth : ℕ → ℕ → Bool
 rightDepth stated reached = eqb stated reached
 
--- "post repeats num, den, mag; … its t is the number of pages": p[4] num[4] den[4] mag[4] l[4] u[4] s[2] t[2]
+-- post has the three units of pre once more, the greatest depth and the number of pages
 abbrev pub lawfulPostamble : ℕ → ℕ → ℕ → ℕ → ℕ → List ℕ → Bool
 lawfulPostamble num den mag greatest pages params =
-    eqb (unsignedAt params 4 4) num
-    && (eqb (unsignedAt params 8 4) den
-    && (eqb (unsignedAt params 12 4) mag && (rightDepth (unsignedAt params 24 2) greatest && eqb (unsignedAt params 26 2) pages)))
+    eqb (unsignedIn postNum params) num
+    && (eqb (unsignedIn postDen params) den
+    && (eqb (unsignedIn postMag params) mag && (rightDepth (unsignedIn postDepth params) greatest && eqb (unsignedIn postPages params) pages)))
 
--- post_post: q[4] i[1]
+-- where 10 applies: post states something else, or post_post has another identification than 2
 abbrev pub postambleWrong : List Command → Command → Bool
 postambleWrong past c =
-    (isA Post c && not (lawfulPostamble (num past) (den past) (mag past) (greatest past) (pages past) (c .params))) || (isA PostPost c && not (eqb (getD (c .params) 4 0) 2))
+    (isA Post c && not (lawfulPostamble (num past) (den past) (mag past) (greatest past) (pages past) (c .params))) || (isA PostPost c && not (eqb (unsignedIn endIdentification (c .params)) 2))
 
 -- ---- "then the lowest of 4 to 10 that applies"; 0 where none does
 

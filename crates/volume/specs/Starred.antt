@@ -7,7 +7,7 @@ use Rattle.refusals.specs.Numbers.{fileEnds, wrongDepth, wrongTail}
 use Rattle.refusals.specs.Answer.{Answer, refused, given}
 use Rattle.numbers.specs.Bytes.{unsignedAt}
 use Rattle.commands.specs.Kinds.{kindOf}
-use Rattle.commands.specs.Lengths.{lengths, fixedLength, innerLengthOf, innerLength, sizeOf}
+use Rattle.commands.specs.Lengths.{lengths, fixedLength, innerLength, sizeOf}
 use Rattle.commands.specs.Commands.{frontAfter}
 use Rattle.volume.specs.declared.Summary.{Summary}
 use Rattle.volume.specs.Rules.{sameBytes}
@@ -50,5 +50,5 @@ fileFound e = judged (e .file)
 
 -- the definitions give what is printed
 pub files-hold : map fileFound fileExamples ≡ map (λ e. e .printed) fileExamples
-unfolding unsignedAt kindOf lengths fixedLength innerLengthOf innerLength sizeOf frontAfter sameBytes tail judgedFrom judged
+unfolding unsignedAt kindOf lengths fixedLength innerLength sizeOf frontAfter sameBytes tail judgedFrom judged
 files-hold = refl

@@ -9,11 +9,11 @@ use lib.IntN.{ℤ, pos, natAbs}
 use Rattle.refusals.specs.Numbers.{wrongPreamble, misplacedCommand, wrongDepth, wrongFontDefinition, noFont, wrongPointer, wrongPostamble}
 use Rattle.refusals.specs.Answer.{Answer, given, refusal}
 use Rattle.numbers.specs.Signs.{sameNumber}
-use Rattle.numbers.specs.Bytes.{unsignedAt, signedAt}
 use Rattle.commands.specs.declared.Kind.{Kind}
 use Rattle.commands.specs.declared.Kind.the-variants.{SetCharacter, SetRule, PutCharacter, PutRule, Nop, Bop, Right, W, X, Down, Y, Z, Select, Define, Pre, Post}
 use Rattle.commands.specs.Kinds.{kindOf, is}
 use Rattle.commands.specs.Commands.{Command, kindOfCommand, whole, front}
+use Rattle.commands.specs.Fields.{unsignedIn, signedIn, bopPointer, preNum, preDen, preMag, postPointer, endPointer, endIdentification, definitionNumberSize}
 use Rattle.commands.specs.Parameters.{definedFont, selectedFont}
 use Rattle.commands.specs.Reading.{longestFile}
 use Rattle.state.specs.Limits.{deepest}
@@ -101,9 +101,9 @@ afterOf page v kind params =
       bop = cond (is kind Bop) (pos (v .at)) (v .bop);
       wanted = cond (is kind Bop && eqb (v .pages + 1) page) (v .at) (v .wanted);
       post = cond (is kind Post) (v .at) (v .post);
-      num = cond (is kind Pre) (unsignedAt params 1 4) (v .num);
-      den = cond (is kind Pre) (unsignedAt params 5 4) (v .den);
-      mag = cond (is kind Pre) (unsignedAt params 9 4) (v .mag);
+      num = cond (is kind Pre) (unsignedIn preNum params) (v .num);
+      den = cond (is kind Pre) (unsignedIn preDen params) (v .den);
+      mag = cond (is kind Pre) (unsignedIn preMag params) (v .mag);
       fonts = cond (defines false (v .stage) kind) (v .fonts + 1) (v .fonts);
       again = cond (defines true (v .stage) kind) (v .again + 1) (v .again);
       selected = cond (is kind Bop) false (cond (is kind Select) true (v .selected));
@@ -137,19 +137,19 @@ characterFault selected = cond (not selected) noFont 0
 
 -- 9, of bop
 abbrev pub bopFault : Volume → List ℕ → ℕ
-bopFault v params = cond (not (sameNumber (signedAt params 40 4) (v .bop))) wrongPointer 0
+bopFault v params = cond (not (sameNumber (signedIn bopPointer params) (v .bop))) wrongPointer 0
 
 -- 9, then 10, of post
 abbrev pub postFault : Volume → List ℕ → ℕ
 postFault v params =
-    cond (not (sameNumber (signedAt params 0 4) (v .bop))) wrongPointer
+    cond (not (sameNumber (signedIn postPointer params) (v .bop))) wrongPointer
     (cond (not (lawfulPostamble (v .num) (v .den) (v .mag) (v .greatest) (v .pages) params)) wrongPostamble 0)
 
 -- 7, 9, then 10, of post_post
 abbrev pub endFault : Volume → List ℕ → ℕ
 endFault v params =
     cond (not (eqb (v .again) (v .fonts))) wrongFontDefinition
-    (cond (not (sameNumber (signedAt params 0 4) (pos (v .post)))) wrongPointer (cond (not (eqb (getD params 4 0) 2)) wrongPostamble 0))
+    (cond (not (sameNumber (signedIn endPointer params) (pos (v .post)))) wrongPointer (cond (not (eqb (unsignedIn endIdentification params) 2)) wrongPostamble 0))
 
 -- ---- the font tables: one more than the place of a font's definition, 0 where it has none
 
@@ -204,7 +204,7 @@ pub record Going (file : List ℕ) (page : ℕ) (v : Volume) (fonts again : List
 
 -- a command of a kind that the rules read has the parameters that they read
 abbrev pub WithRoom : Kind → List ℕ → Type 0
-WithRoom kind params = kind ≡ Pre → 14 ≤ length params
+WithRoom kind params = kind ≡ Pre → preMag .at + preMag .size ≤ length params
 
 -- a definition's font is one of 0 to 255
 abbrev pub LawfullyNumbered : ℕ → List ℕ → Type 0
@@ -217,7 +217,7 @@ SelectionIs fonts opcode params r =
 
 -- the part of the file that holds check sum, s, d, a, l and name of the definition at a place: after the font's number, to the command's end
 abbrev pub sayingPart : ℕ → Command → Part
-sayingPart at c = record { start = at + 1 + (c .opcode - 242); end = at + 1 + length (c .params) }
+sayingPart at c = record { start = at + 1 + definitionNumberSize (c .opcode); end = at + 1 + length (c .params) }
 
 -- r lies within the file, and is that part where a definition stands at the place
 abbrev pub SayingAt : List ℕ → ℕ → Part → Type 0

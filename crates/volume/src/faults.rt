@@ -4,11 +4,13 @@ use crate::Volume;
 use crate::fonts;
 use crate::rules;
 use commands::Kind;
+use commands::fields;
 ghost use mathlib.Core.Path.{_≡_};
-ghost use Prim.Native.Nat.{_≤_, _<_, _^_};
+ghost use Prim.Native.Nat.{_+_, _≤_, _<_, _^_};
 ghost use lib.ListN.{length};
 ghost use Rattle.commands.specs.declared.Kind.the-variants.{Bop, Select, Define, Post, PostPost};
 ghost use Rattle.commands.specs.Kinds.{kindOf};
+ghost use Rattle.commands.specs.Fields.{bopPointer, postPages, endIdentification};
 ghost use Rattle.commands.specs.Lengths.{fixedLength};
 ghost use Rattle.volume.specs.Steps.{WithRoom, firstFault, standingOr, depthFault, characterFault, bopFault, postFault, endFault, SelectionFaultIs, DefinitionFaultIs, FaultIs};
 
@@ -104,14 +106,14 @@ fn character_fault(v: Volume, kind: Kind) -> u8
 
 // 5, then 9: the fault of bop.
 fn bop_fault(v: Volume, params: &[u8]) -> u8
-    requires { ⌜ 44 ≤ length (now params) ⌝ }
+    requires { ⌜ bopPointer .at + bopPointer .size ≤ length (now params) ⌝ }
     ensures { λ r. ⌜ r ≡ standingOr (v .stage) Bop (bopFault v (now (params .entry))) ⌝ }
 {
     let stage = v.stage;
     if !rules::may_stand(stage, Kind::Bop) {
         return refusals::MISPLACED_COMMAND;
     }
-    if !rules::points_to(params, 40, v.bop) {
+    if !rules::points_to(fields::BOP_POINTER, params, v.bop) {
         return refusals::WRONG_POINTER;
     }
     0
@@ -119,14 +121,14 @@ fn bop_fault(v: Volume, params: &[u8]) -> u8
 
 // 5, 9, then 10: the fault of post.
 fn post_fault(v: Volume, params: &[u8]) -> u8
-    requires { ⌜ 28 ≤ length (now params) ⌝ }
+    requires { ⌜ postPages .at + postPages .size ≤ length (now params) ⌝ }
     ensures { λ r. ⌜ r ≡ standingOr (v .stage) Post (postFault v (now (params .entry))) ⌝ }
 {
     let stage = v.stage;
     if !rules::may_stand(stage, Kind::Post) {
         return refusals::MISPLACED_COMMAND;
     }
-    if !rules::points_to(params, 0, v.bop) {
+    if !rules::points_to(fields::POST_POINTER, params, v.bop) {
         return refusals::WRONG_POINTER;
     }
     if !rules::lawful_postamble(v.num, v.den, v.mag, v.greatest, v.pages, params) {
@@ -137,7 +139,7 @@ fn post_fault(v: Volume, params: &[u8]) -> u8
 
 // 5, 7, 9, then 10: the fault of post_post.
 fn end_fault(v: Volume, params: &[u8]) -> u8
-    requires { ⌜ (5 ≤ length (now params)) × (v .post < 2 ^ 32) ⌝ }
+    requires { ⌜ (endIdentification .at + endIdentification .size ≤ length (now params)) × (v .post < 2 ^ 32) ⌝ }
     ensures { λ r. ⌜ r ≡ standingOr (v .stage) PostPost (endFault v (now (params .entry))) ⌝ }
 {
     let stage = v.stage;
@@ -147,10 +149,10 @@ fn end_fault(v: Volume, params: &[u8]) -> u8
     if v.again != v.fonts {
         return refusals::WRONG_FONT_DEFINITION;
     }
-    if !rules::points_to(params, 0, v.post as i64) {
+    if !rules::points_to(fields::END_POINTER, params, v.post as i64) {
         return refusals::WRONG_POINTER;
     }
-    if params[4] != 2 {
+    if fields::unsigned_in(fields::END_IDENTIFICATION, params) != 2 {
         return refusals::WRONG_POSTAMBLE;
     }
     0

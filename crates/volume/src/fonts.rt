@@ -4,6 +4,7 @@ use crate::Stage;
 use crate::comparing;
 use crate::rules;
 use commands::Kind;
+use commands::fields;
 use commands::parameters;
 use state::Page;
 ghost use mathlib.Core.Path.{_≡_};
@@ -62,18 +63,20 @@ pub fn saying_at(file: &[u8], at: usize) -> Part
         return nothing;
     }
     let opcode = file[at];
-    if opcode < 243 {
+    if opcode < fields::FNT_DEF1 {
         return nothing;
     }
-    if 246 < opcode {
+    if fields::FNT_DEF4 < opcode {
         return nothing;
     }
-    let start = at + 1 + (opcode - 242) as usize;
-    let name = start + 14;
+    let start = at + 1 + (opcode - fields::BEFORE_DEFINITION) as usize;
+    let name = start + fields::DEFINITION_NAME;
     if file.len() < name {
         return nothing;
     }
-    let lengths = numbers::wide(file[start + 12]) + numbers::wide(file[start + 13]);
+    let area_length = numbers::wide(file[start + fields::DEFINITION_AREA_LENGTH.at]);
+    let name_length = numbers::wide(file[start + fields::DEFINITION_NAME_LENGTH.at]);
+    let lengths = area_length + name_length;
     let end = name + lengths as usize;
     if file.len() < end {
         return nothing;
@@ -109,12 +112,12 @@ pub fn lawful_definition(
     if !lawful_font(number) {
         return false;
     }
-    let from = (opcode - 242) as usize;
+    let from = (opcode - fields::BEFORE_DEFINITION) as usize;
     let said = &params[from..];
-    if !rules::lawful_size(numbers::unsigned_at(said, 4, 4)) {
+    if !rules::lawful_size(fields::unsigned_in(fields::DEFINITION_SCALE, said)) {
         return false;
     }
-    if !rules::lawful_size(numbers::unsigned_at(said, 8, 4)) {
+    if !rules::lawful_size(fields::unsigned_in(fields::DEFINITION_DESIGN_SIZE, said)) {
         return false;
     }
     let early = entry_of(fonts, number);

@@ -4,6 +4,7 @@ use crate::Part;
 use crate::Scanned;
 use crate::fonts;
 use crate::scanning;
+use commands::fields;
 use refusals::Refusal;
 ghost use mathlib.Core.Path.{_≡_};
 ghost use lib.ListN.{length};
@@ -28,10 +29,10 @@ fn named_by(file: &[u8], fonts: &[u32; 256], number: i64) -> Named
     let part = fonts::saying_at(file, entry - 1);
     let start = part.start;
     let end = part.end;
-    if end - start < 14 {
+    if end - start < fields::DEFINITION_NAME {
         return nowhere;
     }
-    let name = start + 14;
+    let name = start + fields::DEFINITION_NAME;
     Named::At(Part {
         start: name,
         end: end,

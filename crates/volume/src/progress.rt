@@ -3,6 +3,7 @@ use crate::Stage;
 use crate::Volume;
 use crate::rules;
 use commands::Kind;
+use commands::fields;
 ghost use mathlib.Core.Path.{_≡_};
 ghost use mathlib.Core.List.{[]};
 ghost use Prim.Native.Nat.{ℕ, _+_, _≤_, _<_, _^_, max};
@@ -104,9 +105,9 @@ pub fn after(v: Volume, page: usize, kind: Kind, params: &[u8]) -> Volume
     let mut next = moved_on(v, kind, params.len());
     match kind {
         Kind::Pre => {
-            next.num = numbers::unsigned_at(params, 1, 4);
-            next.den = numbers::unsigned_at(params, 5, 4);
-            next.mag = numbers::unsigned_at(params, 9, 4);
+            next.num = fields::unsigned_in(fields::PRE_NUM, params);
+            next.den = fields::unsigned_in(fields::PRE_DEN, params);
+            next.mag = fields::unsigned_in(fields::PRE_MAG, params);
             next
         }
         Kind::Bop => {

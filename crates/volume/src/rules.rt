@@ -1,15 +1,18 @@
 // The rules that look at one command and at numbers: one function for each part of a row of the refusal table.
 use crate::Stage;
 use commands::Kind;
+use commands::fields;
+use commands::fields::SignedField;
+use commands::fields::UnsignedField;
 use state::Page;
 ghost use mathlib.Core.Path.{_≡_};
 ghost use Prim.Native.Nat.{_+_, _≤_, _<_};
 ghost use lib.ListN.{length};
 ghost use Rattle.numbers.specs.Signs.{sameNumber};
-ghost use Rattle.numbers.specs.Bytes.{signedAt};
+ghost use Rattle.commands.specs.Fields.{signedIn, preMag, postPages};
 ghost use Rattle.volume.specs.Past.{isAfterPost};
 ghost use Rattle.commands.specs.declared.Kind.the-variants.{Nop, Bop, Post, PostPost};
-ghost use Rattle.volume.specs.Rules.{isAtStart, positiveAt, lawfulPreamble, mayStand, wrongAtDepth, lawfulSize, lawfulPostamble};
+ghost use Rattle.volume.specs.Rules.{isAtStart, positiveUnit, lawfulPreamble, mayStand, wrongAtDepth, lawfulSize, lawfulPostamble};
 
 // Whether the list is at its start.
 pub fn at_start(stage: Stage) -> bool
@@ -31,29 +34,29 @@ pub fn after_post(stage: Stage) -> bool
     }
 }
 
-// Whether a unit, four bytes at a place, is positive.
-fn positive_at(params: &[u8], at: usize) -> bool
-    requires { ⌜ at + 4 ≤ length (now params) ⌝ }
-    ensures { λ r. ⌜ r ≡ positiveAt (now (params .entry)) at ⌝ }
+// Whether a unit of pre is positive.
+fn positive_unit(field: UnsignedField, params: &[u8]) -> bool
+    requires { ⌜ (field .at + field .size ≤ length (now params)) × (field .size ≤ 4) ⌝ }
+    ensures { λ r. ⌜ r ≡ positiveUnit field (now (params .entry)) ⌝ }
 {
-    0 < numbers::signed_at(params, at, 4)
+    0 < numbers::signed_at(params, field.at, field.size)
 }
 
 // 4: identification 2, and num, den and mag positive.
 pub fn lawful_preamble(params: &[u8]) -> bool
-    requires { ⌜ 14 ≤ length (now params) ⌝ }
+    requires { ⌜ preMag .at + preMag .size ≤ length (now params) ⌝ }
     ensures { λ r. ⌜ r ≡ lawfulPreamble (now (params .entry)) ⌝ }
 {
-    if params[0] != 2 {
+    if fields::unsigned_in(fields::PRE_IDENTIFICATION, params) != 2 {
         return false;
     }
-    if !positive_at(params, 1) {
+    if !positive_unit(fields::PRE_NUM, params) {
         return false;
     }
-    if !positive_at(params, 5) {
+    if !positive_unit(fields::PRE_DEN, params) {
         return false;
     }
-    positive_at(params, 9)
+    positive_unit(fields::PRE_MAG, params)
 }
 
 // 5: whether a command may stand there.
@@ -137,12 +140,12 @@ pub fn lawful_size(size: u64) -> bool
     size <= 134217727
 }
 
-// 9: whether the pointer at a place of the parameters is this one.
-pub fn points_to(params: &[u8], at: usize, place: i64) -> bool
-    requires { ⌜ at + 4 ≤ length (now params) ⌝ }
-    ensures { λ r. ⌜ r ≡ sameNumber (signedAt (now (params .entry)) at 4) place ⌝ }
+// 9: whether a pointer is this one.
+pub fn points_to(pointer: SignedField, params: &[u8], place: i64) -> bool
+    requires { ⌜ (pointer .at + pointer .size ≤ length (now params)) × (pointer .size ≤ 4) ⌝ }
+    ensures { λ r. ⌜ r ≡ sameNumber (signedIn pointer (now (params .entry))) place ⌝ }
 {
-    numbers::same_number(numbers::signed_at(params, at, 4), place)
+    numbers::same_number(fields::signed_in(pointer, params), place)
 }
 
 // 10: whether post repeats num, den and mag, and states depth and pages.
@@ -154,20 +157,20 @@ pub fn lawful_postamble(
     pages: usize,
     params: &[u8],
 ) -> bool
-    requires { ⌜ 28 ≤ length (now params) ⌝ }
+    requires { ⌜ postPages .at + postPages .size ≤ length (now params) ⌝ }
     ensures { λ r. ⌜ r ≡ lawfulPostamble num den mag greatest pages (now (params .entry)) ⌝ }
 {
-    if numbers::unsigned_at(params, 4, 4) != num {
+    if fields::unsigned_in(fields::POST_NUM, params) != num {
         return false;
     }
-    if numbers::unsigned_at(params, 8, 4) != den {
+    if fields::unsigned_in(fields::POST_DEN, params) != den {
         return false;
     }
-    if numbers::unsigned_at(params, 12, 4) != mag {
+    if fields::unsigned_in(fields::POST_MAG, params) != mag {
         return false;
     }
-    if numbers::unsigned_at(params, 24, 2) != greatest as u64 {
+    if fields::unsigned_in(fields::POST_DEPTH, params) != greatest as u64 {
         return false;
     }
-    numbers::unsigned_at(params, 26, 2) == pages as u64
+    fields::unsigned_in(fields::POST_PAGES, params) == pages as u64
 }

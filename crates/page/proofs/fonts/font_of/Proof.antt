@@ -62,40 +62,43 @@ module _ (c : tie.Else2) (past : List Command) (told : Told (now (c .before .bef
       subst Definition-at (ap (λ (n : ℕ). n - 1) (sym (entry-is (c .before))))
       (leads (now (a .file)) (now (a .fonts)) (a .number) past (told .tells) (told .standing) (lawful (c .before .before)) (λ e. c .if2 .left (entry-is (c .before) ∙ e)))
 
-sub-if3 : tie.Need-sub-if3
-sub-if3 c = search needs
+sub-said : tie.Need-sub-said
+sub-said c = search needs
+
+part-said-start : tie.Need-part-said-start
+part-said-start c = search needs
+
+part-said-end : tie.Need-part-said-end
+part-said-end c = search needs
 
 returns-3 : tie.Need-returns-3
 returns-3 c past told =
-    let a = c .before .before .before .before .before .before .before .args in
-    let e = c .before .before in
-    let s = c .before .saying-at in
+    let a = c .before .before .before .before .before .before .before .before .args in
+    let e = c .before .before .before in
+    let s = c .before .before .saying-at in
     absurd (omega (arith, said-long (now (a .file)) (now (a .fonts)) (a .number) past (told .tells) (told .standing) (lawful (e .before .before)) (definition e past told) (s .result) (s .ensures), c .if3 .taken))
 
 cast-which : tie.Need-cast-which
 cast-which c =
-    let s = c .before .before .before .before .before .before .before in
-    let l = lawful-in (s .args .number) (lawful (c .before .before .before .before)) in
+    let s = c .before .before .before .before .before .before .before .before in
+    let l = lawful-in (s .args .number) (lawful (c .before .before .before .before .before)) in
     rw (toZ-ofZ (s .fits .number)) (l .0, omega (arith, l .1))
 
-unsigned-at-requires : tie.Need-unsigned-at-requires
-unsigned-at-requires c κs = (omega (arith, c .if3 .left, c .before .saying-at .ensures .1), omega arith)
+unsigned-in-requires : tie.Need-unsigned-in-requires
+unsigned-in-requires c κs = search needs
 
-add-unsigned-at : tie.Need-add-unsigned-at
-add-unsigned-at c = omega (arith, c .before .if3 .left, c .before .before .saying-at .ensures .1)
-
-unsigned-at-requires-2 : tie.Need-unsigned-at-requires-2
-unsigned-at-requires-2 c κs = (omega (arith, c .before .if3 .left, c .before .before .saying-at .ensures .1), omega arith)
+unsigned-in-requires-2 : tie.Need-unsigned-in-requires-2
+unsigned-in-requires-2 c κs = search needs
 
 returns-4 : tie.Need-returns-4
 returns-4 c past told =
-    let s = c .before .before .before .before .before .before .before .before .before in
-    let e = c .before .before .before .before in
-    let part = c .before .before .before .saying-at in
+    let s = c .before .before .before .before .before .before .before .before .before .before in
+    let e = c .before .before .before .before .before in
+    let part = c .before .before .before .before .saying-at in
     let legal = lawful (e .before .before) in
     let l = definition e past told in
-    let checksum = c .before .unsigned-at in
-    let scale = c .unsigned-at2 in (
+    let checksum = c .before .unsigned-in in
+    let scale = c .unsigned-in2 in (
       ap (λ (z : ℤ). record { number = natAbs z; checksum = checksum .result; scale = scale .result }) (toZ-ofZ (s .fits .number))
           ∙ ap₂ (λ (sum size : ℕ). record { number = natAbs (s .args .number); checksum = sum; scale = size }) (checksum .ensures .0) (scale .ensures .0)
           ∙ font-is told (s .args .number) legal l (part .result) (part .ensures),
@@ -112,10 +115,11 @@ font-of-spec =
     returns-2
     sub-saying-at
     saying-at-requires
-    sub-if3
+    sub-said
+    part-said-start
+    part-said-end
     returns-3
     cast-which
-    unsigned-at-requires
-    add-unsigned-at
-    unsigned-at-requires-2
+    unsigned-in-requires
+    unsigned-in-requires-2
     returns-4)

@@ -9,16 +9,19 @@ use borrow.Author.Needs.{needs}
 use borrow.Author.Tests.{eq-eqb, ne-eqb}
 use Rattle.refusals.specs.Numbers.{wrongFontDefinition}
 use Rattle.numbers.specs.Signs.{sameNumber}
-use Rattle.numbers.specs.Bytes.{signedAt}
 use Rattle.numbers.proofs.Signed.{read-pos}
 use Rattle.commands.specs.declared.Kind.the-variants.{PostPost}
+use Rattle.commands.specs.Fields.{unsignedIn, signedIn, endPointer, endIdentification}
 use Rattle.volume.specs.Steps.{standingOr}
 use Rattle.volume.proofs.FaultLaws.{answered, passed-on}
 use Rattle.volume.proofs.faults.end_fault.Statement.{statement}
 use Rattle.volume.proofs.faults.end_fault.Tie as tie
 
-pointer-wrong : (c : tie.After-points-to) → not (c .points-to .result) ≡ not (sameNumber (signedAt (c .before .before .before .before .before .before .before .args .params .now) 0 4) (pos (c .before .before .before .before .before .before .before .args .v .post)))
+pointer-wrong : (c : tie.After-points-to) → not (c .points-to .result) ≡ not (sameNumber (signedIn endPointer (c .before .before .before .before .before .before .before .args .params .now)) (pos (c .before .before .before .before .before .before .before .args .v .post)))
 pointer-wrong c = rw (c .points-to .ensures, read-pos (c .before .before .before .before .before .before .before .args .v .post) (omega arith)) refl
+
+identification-wrong : (c : tie.After-unsigned-in) → not (eqb (c .unsigned-in .result) 2) ≡ not (eqb (unsignedIn endIdentification (c .before .before .before .before .before .before .before .before .before .args .params .now)) 2)
+identification-wrong c = ap (λ (n : ℕ). not (eqb n 2)) (c .unsigned-in .ensures .0)
 
 -- past 5 and 7 the answer is left to 9 and 10
 no-font-left : (c : tie.Else2) {r later : ℕ} → r ≡ later → r ≡ standingOr (c .before .before .before .before .before .args .v .stage) PostPost (cond (not (eqb (c .before .before .before .before .before .args .v .again) (c .before .before .before .before .before .args .v .fonts))) wrongFontDefinition later)
@@ -42,14 +45,14 @@ points-to-requires c κs = search needs
 returns-3 : tie.Need-returns-3
 returns-3 c = no-font-left (c .before .before .before) (answered (pointer-wrong (c .before)) _ _ (c .if3 .taken))
 
-shared-slice-read-if4 : tie.Need-shared-slice-read-if4
-shared-slice-read-if4 c = search needs
+unsigned-in-requires : tie.Need-unsigned-in-requires
+unsigned-in-requires c κs = search needs
 
 returns-4 : tie.Need-returns-4
-returns-4 c = no-font-left (c .before .before .before .before .before) (passed-on (pointer-wrong (c .before .before .before)) _ _ (c .before .before .if3 .left) (answered refl _ _ (ap not (ne-eqb _ _ (c .if4 .taken)))))
+returns-4 c = no-font-left (c .before .before .before .before .before) (passed-on (pointer-wrong (c .before .before .before)) _ _ (c .before .before .if3 .left) (answered (identification-wrong (c .before)) _ _ (ap not (ne-eqb _ _ (c .if4 .taken)))))
 
 returns-5 : tie.Need-returns-5
-returns-5 c = no-font-left (c .before .before .before .before .before) (passed-on (pointer-wrong (c .before .before .before)) _ _ (c .before .before .if3 .left) (passed-on refl _ _ (ap not (eq-eqb _ _ (c .if4 .left))) refl))
+returns-5 c = no-font-left (c .before .before .before .before .before) (passed-on (pointer-wrong (c .before .before .before)) _ _ (c .before .before .if3 .left) (passed-on (identification-wrong (c .before)) _ _ (ap not (eq-eqb _ _ (c .if4 .left))) refl))
 
 pub end-fault-spec : {M : Type 1} → statement M
 end-fault-spec =
@@ -61,6 +64,6 @@ end-fault-spec =
     cast-points-to
     points-to-requires
     returns-3
-    shared-slice-read-if4
+    unsigned-in-requires
     returns-4
     returns-5)

@@ -5,14 +5,14 @@ use mir.Facts.{toZ-ofZ}
 use borrow.Author.Needs.{sfits-of, needs}
 use Rattle.refusals.specs.Numbers.{wrongPostamble}
 use Rattle.numbers.specs.Signs.{sameNumber}
-use Rattle.numbers.specs.Bytes.{signedAt}
+use Rattle.commands.specs.Fields.{signedIn, postPointer}
 use Rattle.commands.specs.declared.Kind.the-variants.{Post}
 use Rattle.volume.specs.Steps.{standingOr, postFault}
 use Rattle.volume.proofs.FaultLaws.{answered, passed-on}
 use Rattle.volume.proofs.faults.post_fault.Statement.{statement}
 use Rattle.volume.proofs.faults.post_fault.Tie as tie
 
-pointer-wrong : (c : tie.After-points-to) → not (c .points-to .result) ≡ not (sameNumber (signedAt (c .before .before .before .before .before .args .params .now) 0 4) (c .before .before .before .before .before .args .v .bop))
+pointer-wrong : (c : tie.After-points-to) → not (c .points-to .result) ≡ not (sameNumber (signedIn postPointer (c .before .before .before .before .before .args .params .now)) (c .before .before .before .before .before .args .v .bop))
 pointer-wrong c = rw (c .points-to .ensures, toZ-ofZ (sfits-of (c .before .struct-told .given .1 .1 .1 .1 .1 .0 .1))) refl
 
 -- past 5 and 9 the answer is left to 10

@@ -12,7 +12,7 @@ use mir.Val.{toZ, ofZ}
 use mir.Facts.{toZ-ofZ}
 use borrow.Author.Needs.{needs, sfits-of}
 use borrow.Author.Tests.{not-true, not-false}
-use Rattle.numbers.specs.Bytes.{unsignedAt}
+use Rattle.commands.specs.Fields.{definitionNumberSize, definitionName}
 use Rattle.commands.specs.Commands.{Command}
 use Rattle.commands.specs.Parameters.{definedFont, definition, fontScale, fontDesignSize}
 use Rattle.commands.proofs.Opcodes.{kind-range}
@@ -46,11 +46,11 @@ opcode-in c =
     (low, high, omega (arith, fixed-of (c .args .opcode) (c .pre .0)))
 
 -- the part of the parameters that the code cuts off
-said-is : (c : tie.Start) → take (length (c .args .params .now) - (c .args .opcode - 242)) (drop (c .args .opcode - 242) (c .args .params .now)) ≡ said c
-said-is c = said-all (c .args .params .now) (c .args .opcode - 242)
+said-is : (c : tie.Start) → take (length (c .args .params .now) - definitionNumberSize (c .args .opcode)) (drop (definitionNumberSize (c .args .opcode)) (c .args .params .now)) ≡ said c
+said-is c = said-all (c .args .params .now) (definitionNumberSize (c .args .opcode))
 
-said-long : (c : tie.Start) → 14 ≤ length (said c)
-said-long c = omega (arith, opcode-in c, length-drop (c .args .opcode - 242) (c .args .params .now))
+said-long : (c : tie.Start) → definitionName ≤ length (said c)
+said-long c = omega (arith, opcode-in c, length-drop (definitionNumberSize (c .args .opcode)) (c .args .params .now))
 
 -- ---- the tests
 
@@ -66,7 +66,7 @@ number-lawful c = sym (number-tested (c .before)) ∙ not-false _ (c .if1 .left)
 scale-tested : (c : tie.After-lawful-size) → c .lawful-size .result ≡ lawfulSize (fontScale (said (c .before .before .before .before .before .before .before .before)))
 scale-tested c =
     c .lawful-size .ensures
-    ∙ ap lawfulSize (c .before .unsigned-at .ensures .0 ∙ ap (λ (bytes : List ℕ). unsignedAt bytes 4 4) (said-is (c .before .before .before .before .before .before .before .before)))
+    ∙ ap lawfulSize (c .before .unsigned-in .ensures .0 ∙ ap fontScale (said-is (c .before .before .before .before .before .before .before .before)))
 
 scale-lawful : (c : tie.Else2) → lawfulSize (fontScale (said (c .before .before .before .before .before .before .before .before .before))) ≡ true
 scale-lawful c = sym (scale-tested (c .before)) ∙ not-false _ (c .if2 .left)
@@ -74,7 +74,7 @@ scale-lawful c = sym (scale-tested (c .before)) ∙ not-false _ (c .if2 .left)
 design-size-tested : (c : tie.After-lawful-size2) → c .lawful-size2 .result ≡ lawfulSize (fontDesignSize (said (c .before .before .before .before .before .before .before .before .before .before .before)))
 design-size-tested c =
     c .lawful-size2 .ensures
-    ∙ ap lawfulSize (c .before .unsigned-at2 .ensures .0 ∙ ap (λ (bytes : List ℕ). unsignedAt bytes 8 4) (said-is (c .before .before .before .before .before .before .before .before .before .before .before)))
+    ∙ ap lawfulSize (c .before .unsigned-in2 .ensures .0 ∙ ap fontDesignSize (said-is (c .before .before .before .before .before .before .before .before .before .before .before)))
 
 lawful-by-turn : (c : tie.Else3) (past : List Command)
     → inTurn past (number (begun c)) (said (begun c)) ≡ lawfulDefinition past (command (begun c .args .opcode) (begun c .args .params .now))
@@ -122,8 +122,8 @@ part-said-start c = omega (arith, opcode-in (c .before .before .before .before .
 part-said-end : tie.Need-part-said-end
 part-said-end c = search needs
 
-unsigned-at-requires : tie.Need-unsigned-at-requires
-unsigned-at-requires c κs = rw (said-is (c .before .before .before .before .before .before)) (omega (arith, said-long (c .before .before .before .before .before .before)), omega arith)
+unsigned-in-requires : tie.Need-unsigned-in-requires
+unsigned-in-requires c κs = rw (said-is (c .before .before .before .before .before .before)) (omega (arith, said-long (c .before .before .before .before .before .before)), omega arith)
 
 lawful-size-requires : tie.Need-lawful-size-requires
 lawful-size-requires c κs = search needs
@@ -134,8 +134,8 @@ returns-2 c =
     λ past early late standing stage-is count-is.
     wrong-scale past (s .args .opcode) (s .args .params .now) (number-lawful (c .before .before .before .before)) (sym (scale-tested (c .before)) ∙ not-true _ (c .if2 .taken))
 
-unsigned-at-requires-2 : tie.Need-unsigned-at-requires-2
-unsigned-at-requires-2 c κs = rw (said-is (c .before .before .before .before .before .before .before .before .before)) (omega (arith, said-long (c .before .before .before .before .before .before .before .before .before)), omega arith)
+unsigned-in-requires-2 : tie.Need-unsigned-in-requires-2
+unsigned-in-requires-2 c κs = rw (said-is (c .before .before .before .before .before .before .before .before .before)) (omega (arith, said-long (c .before .before .before .before .before .before .before .before .before)), omega arith)
 
 lawful-size-requires-2 : tie.Need-lawful-size-requires-2
 lawful-size-requires-2 c κs = search needs
@@ -216,10 +216,10 @@ lawful-definition-spec =
     sub-said
     part-said-start
     part-said-end
-    unsigned-at-requires
+    unsigned-in-requires
     lawful-size-requires
     returns-2
-    unsigned-at-requires-2
+    unsigned-in-requires-2
     lawful-size-requires-2
     returns-3
     entry-of-requires

@@ -71,13 +71,13 @@ add-end c = search needs
 
 returns-5 : tie.Need-returns-5
 returns-5 c =
-    let a = c .before .before .before .before .before .before .before .before .before .before .before .args in
-    (omega arith, omega arith, λ d rest ahead define. absurd (omega (arith, inside (a .file .now) (a .at) ahead define, end-is (a .file .now) (a .at) ahead define, c .before .before .before .wide .ensures, c .before .wide2 .ensures, c .if5 .taken)))
+    let a = c .before .before .before .before .before .before .before .before .before .before .before .before .before .args in
+    (omega arith, omega arith, λ d rest ahead define. absurd (omega (arith, inside (a .file .now) (a .at) ahead define, end-is (a .file .now) (a .at) ahead define, c .before .before .before .before .wide .ensures, c .before .wide2 .ensures, c .if5 .taken)))
 
 returns-6 : tie.Need-returns-6
 returns-6 c =
-    let a = c .before .before .before .before .before .before .before .before .before .before .before .args in
-    let area = c .before .before .before .wide in
+    let a = c .before .before .before .before .before .before .before .before .before .before .before .before .before .args in
+    let area = c .before .before .before .before .wide in
     let name = c .before .wide2 in (
       omega arith,
       omega arith,

@@ -23,14 +23,14 @@ moved-on-requires c κs = search needs
 enum-told : tie.Need-enum-told
 enum-told c = search needs
 
-unsigned-at-requires : tie.Need-unsigned-at-requires
-unsigned-at-requires c κs = omega (arith, c .before .before .before .before .pre .0 .1 (c .enum-told .given .1))
+unsigned-in-requires : tie.Need-unsigned-in-requires
+unsigned-in-requires c κs = omega (arith, c .before .before .before .before .pre .0 .1 (c .enum-told .given .1))
 
-unsigned-at-requires-2 : tie.Need-unsigned-at-requires-2
-unsigned-at-requires-2 c κs = omega (arith, c .before .before .before .before .before .pre .0 .1 (c .before .enum-told .given .1))
+unsigned-in-requires-2 : tie.Need-unsigned-in-requires-2
+unsigned-in-requires-2 c κs = omega (arith, c .before .before .before .before .before .pre .0 .1 (c .before .enum-told .given .1))
 
-unsigned-at-requires-3 : tie.Need-unsigned-at-requires-3
-unsigned-at-requires-3 c κs = omega (arith, c .before .before .before .before .before .before .pre .0 .1 (c .before .before .enum-told .given .1))
+unsigned-in-requires-3 : tie.Need-unsigned-in-requires-3
+unsigned-in-requires-3 c κs = omega (arith, c .before .before .before .before .before .before .pre .0 .1 (c .before .before .enum-told .given .1))
 
 enum-told-2 : tie.Need-enum-told-2
 enum-told-2 c = search needs
@@ -63,7 +63,7 @@ add-next-3 : tie.Need-add-next-3
 add-next-3 c = search needs
 
 returns : tie.Need-returns
-returns c = rw (c .before .before .before .before .before .moved-on .ensures, c .before .before .unsigned-at .ensures .0, c .before .unsigned-at2 .ensures .0, c .unsigned-at3 .ensures .0, c .before .before .before .enum-told .given .1)
+returns c = rw (c .before .before .before .before .before .moved-on .ensures, c .before .before .unsigned-in .ensures .0, c .before .unsigned-in2 .ensures .0, c .unsigned-in3 .ensures .0, c .before .before .before .enum-told .given .1)
 
 returns-2 : tie.Need-returns-2
 returns-2 c = rw (c .before .before .before .before .before .moved-on .ensures, read-pos (c .before .before .before .before .before .before .before .args .v .at) (omega arith), c .before .before .before .enum-told2 .given .1, eq-eqb _ _ (c .if1 .taken))
@@ -95,9 +95,9 @@ after-spec =
     (tie.spec
     moved-on-requires
     enum-told
-    unsigned-at-requires
-    unsigned-at-requires-2
-    unsigned-at-requires-3
+    unsigned-in-requires
+    unsigned-in-requires-2
+    unsigned-in-requires-3
     enum-told-2
     add-next
     cast-next

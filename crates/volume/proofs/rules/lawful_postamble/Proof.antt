@@ -7,48 +7,48 @@ use borrow.Author.Tests.{eq-eqb, ne-eqb}
 use Rattle.volume.proofs.rules.lawful_postamble.Statement.{statement}
 use Rattle.volume.proofs.rules.lawful_postamble.Tie as tie
 
-unsigned-at-requires : tie.Need-unsigned-at-requires
-unsigned-at-requires c κs = search needs
+unsigned-in-requires : tie.Need-unsigned-in-requires
+unsigned-in-requires c κs = search needs
 
 returns : tie.Need-returns
-returns c = rw (← c .before .unsigned-at .ensures .0, ne-eqb _ _ (c .if1 .taken))
+returns c = rw (← c .before .unsigned-in .ensures .0, ne-eqb _ _ (c .if1 .taken))
 
-unsigned-at-requires-2 : tie.Need-unsigned-at-requires-2
-unsigned-at-requires-2 c κs = search needs
+unsigned-in-requires-2 : tie.Need-unsigned-in-requires-2
+unsigned-in-requires-2 c κs = search needs
 
 returns-2 : tie.Need-returns-2
-returns-2 c = rw (← c .before .before .before .unsigned-at .ensures .0, eq-eqb _ _ (c .before .before .if1 .left), ← c .before .unsigned-at2 .ensures .0, ne-eqb _ _ (c .if2 .taken))
+returns-2 c = rw (← c .before .before .before .unsigned-in .ensures .0, eq-eqb _ _ (c .before .before .if1 .left), ← c .before .unsigned-in2 .ensures .0, ne-eqb _ _ (c .if2 .taken))
 
-unsigned-at-requires-3 : tie.Need-unsigned-at-requires-3
-unsigned-at-requires-3 c κs = search needs
+unsigned-in-requires-3 : tie.Need-unsigned-in-requires-3
+unsigned-in-requires-3 c κs = search needs
 
 returns-3 : tie.Need-returns-3
-returns-3 c = rw (← c .before .before .before .before .before .unsigned-at .ensures .0, eq-eqb _ _ (c .before .before .before .before .if1 .left), ← c .before .before .before .unsigned-at2 .ensures .0, eq-eqb _ _ (c .before .before .if2 .left), ← c .before .unsigned-at3 .ensures .0, ne-eqb _ _ (c .if3 .taken))
+returns-3 c = rw (← c .before .before .before .before .before .unsigned-in .ensures .0, eq-eqb _ _ (c .before .before .before .before .if1 .left), ← c .before .before .before .unsigned-in2 .ensures .0, eq-eqb _ _ (c .before .before .if2 .left), ← c .before .unsigned-in3 .ensures .0, ne-eqb _ _ (c .if3 .taken))
 
-unsigned-at-requires-4 : tie.Need-unsigned-at-requires-4
-unsigned-at-requires-4 c κs = search needs
+unsigned-in-requires-4 : tie.Need-unsigned-in-requires-4
+unsigned-in-requires-4 c κs = search needs
 
 returns-4 : tie.Need-returns-4
-returns-4 c = rw (← c .before .before .before .before .before .before .before .unsigned-at .ensures .0, eq-eqb _ _ (c .before .before .before .before .before .before .if1 .left), ← c .before .before .before .before .before .unsigned-at2 .ensures .0, eq-eqb _ _ (c .before .before .before .before .if2 .left), ← c .before .before .before .unsigned-at3 .ensures .0, eq-eqb _ _ (c .before .before .if3 .left), ← c .before .unsigned-at4 .ensures .0, ne-eqb _ _ (c .if4 .taken))
+returns-4 c = rw (← c .before .before .before .before .before .before .before .unsigned-in .ensures .0, eq-eqb _ _ (c .before .before .before .before .before .before .if1 .left), ← c .before .before .before .before .before .unsigned-in2 .ensures .0, eq-eqb _ _ (c .before .before .before .before .if2 .left), ← c .before .before .before .unsigned-in3 .ensures .0, eq-eqb _ _ (c .before .before .if3 .left), ← c .before .unsigned-in4 .ensures .0, ne-eqb _ _ (c .if4 .taken))
 
-unsigned-at-requires-5 : tie.Need-unsigned-at-requires-5
-unsigned-at-requires-5 c κs = search needs
+unsigned-in-requires-5 : tie.Need-unsigned-in-requires-5
+unsigned-in-requires-5 c κs = search needs
 
 returns-5 : tie.Need-returns-5
-returns-5 c = rw (← c .before .before .before .before .before .before .before .before .unsigned-at .ensures .0, eq-eqb _ _ (c .before .before .before .before .before .before .before .if1 .left), ← c .before .before .before .before .before .before .unsigned-at2 .ensures .0, eq-eqb _ _ (c .before .before .before .before .before .if2 .left), ← c .before .before .before .before .unsigned-at3 .ensures .0, eq-eqb _ _ (c .before .before .before .if3 .left), ← c .before .before .unsigned-at4 .ensures .0, eq-eqb _ _ (c .before .if4 .left))
-    (ap (λ (stated : ℕ). eqb stated (c .before .before .before .before .before .before .before .before .before .before .args .pages)) (c .unsigned-at5 .ensures .0))
+returns-5 c = rw (← c .before .before .before .before .before .before .before .before .unsigned-in .ensures .0, eq-eqb _ _ (c .before .before .before .before .before .before .before .if1 .left), ← c .before .before .before .before .before .before .unsigned-in2 .ensures .0, eq-eqb _ _ (c .before .before .before .before .before .if2 .left), ← c .before .before .before .before .unsigned-in3 .ensures .0, eq-eqb _ _ (c .before .before .before .if3 .left), ← c .before .before .unsigned-in4 .ensures .0, eq-eqb _ _ (c .before .if4 .left))
+    (ap (λ (stated : ℕ). eqb stated (c .before .before .before .before .before .before .before .before .before .before .args .pages)) (c .unsigned-in5 .ensures .0))
 
 pub lawful-postamble-spec : {M : Type 1} → statement M
 lawful-postamble-spec =
     tie.close
     (tie.spec
-    unsigned-at-requires
+    unsigned-in-requires
     returns
-    unsigned-at-requires-2
+    unsigned-in-requires-2
     returns-2
-    unsigned-at-requires-3
+    unsigned-in-requires-3
     returns-3
-    unsigned-at-requires-4
+    unsigned-in-requires-4
     returns-4
-    unsigned-at-requires-5
+    unsigned-in-requires-5
     returns-5)

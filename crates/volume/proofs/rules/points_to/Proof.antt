@@ -6,14 +6,14 @@ use Rattle.numbers.specs.Signs.{sameNumber}
 use Rattle.volume.proofs.rules.points_to.Statement.{statement}
 use Rattle.volume.proofs.rules.points_to.Tie as tie
 
-signed-at-requires : tie.Need-signed-at-requires
-signed-at-requires c κs = search needs
+signed-in-requires : tie.Need-signed-in-requires
+signed-in-requires c κs = search needs
 
 same-number-requires : tie.Need-same-number-requires
 same-number-requires c κs = search needs
 
 returns : tie.Need-returns
-returns c = c .same-number .ensures ∙ ap₂ sameNumber (toZ-ofZ (sfits-of (c .before .signed-at .ok)) ∙ c .before .signed-at .ensures .0) (toZ-ofZ (c .before .before .before .fits .place))
+returns c = c .same-number .ensures ∙ ap₂ sameNumber (toZ-ofZ (sfits-of (c .before .signed-in .ok)) ∙ c .before .signed-in .ensures .0) (toZ-ofZ (c .before .before .before .fits .place))
 
 pub points-to-spec : {M : Type 1} → statement M
-points-to-spec = tie.close (tie.spec signed-at-requires same-number-requires returns)
+points-to-spec = tie.close (tie.spec signed-in-requires same-number-requires returns)
