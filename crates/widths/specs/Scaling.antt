@@ -5,6 +5,7 @@ use lib.Dec.{leb, eqb}
 use lib.IntN.{ℤ, pos, _-ℤ_}
 use Rattle.refusals.specs.Numbers.{wrongWidthTable}
 use Rattle.refusals.specs.Answer.{Answer, given, refuseIf}
+use Rattle.numbers.specs.Sizes.{lawfulSize}
 use Rattle.widths.specs.declared.FixWord.{FixWord}
 use Rattle.widths.specs.declared.Halved.{Halved}
 
@@ -33,14 +34,10 @@ signedShare k w = cond (eqb (w .b0) 255) (pos (share k w) -ℤ pos (k .alpha * k
 abbrev pub scaledBy : ℕ → FixWord → ℤ
 scaledBy scale w = signedShare (halved scale) w
 
--- "scale is 1 to 134,217,727"
-abbrev pub lawfulScale : ℕ → Bool
-lawfulScale scale = leb 1 scale && leb scale 134217727
-
 -- "the width's first byte is 0 or 255"
 abbrev pub lawfulFirst : ℕ → Bool
 lawfulFirst b0 = eqb b0 0 || eqb b0 255
 
--- 14 "with place 0, if the scale is outside 1 to 134,217,727 or the first width byte is not 0 or 255"
+-- 14 with place 0, if the scale is no lawful size or the first byte of the width is no lawful first byte
 abbrev pub scaledWidth : ℕ → FixWord → Answer ℤ
-scaledWidth scale w = refuseIf (not (lawfulScale scale && lawfulFirst (w .b0))) wrongWidthTable 0 (given (scaledBy scale w))
+scaledWidth scale w = refuseIf (not (lawfulSize scale && lawfulFirst (w .b0))) wrongWidthTable 0 (given (scaledBy scale w))

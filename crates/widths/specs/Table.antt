@@ -9,7 +9,8 @@ use Rattle.refusals.specs.Numbers.{wrongWidthTable}
 use Rattle.refusals.specs.Answer.{Answer, given, refuseIf}
 use Rattle.numbers.specs.Bytes.{unsignedAt, signedAt}
 use Rattle.widths.specs.declared.FixWord.{FixWord}
-use Rattle.widths.specs.Scaling.{lawfulScale, lawfulFirst}
+use Rattle.numbers.specs.Sizes.{lawfulSize}
+use Rattle.widths.specs.Scaling.{lawfulFirst}
 
 -- "records of one fixed size, no header. Width record, 16 bytes"
 abbrev pub widthRecordSize : ℕ
@@ -49,7 +50,7 @@ rises table (suc index) = ltb (recordOf table index .key) (recordOf table (suc i
 
 -- "scale is 1 to 134,217,727; the zero byte is 0; the width's first byte is 0 or 255"
 abbrev pub lawfulFields : WidthRecord → Bool
-lawfulFields r = lawfulScale (r .scale) && (eqb (r .zero-byte) 0 && lawfulFirst (r .width .b0))
+lawfulFields r = lawfulSize (r .scale) && (eqb (r .zero-byte) 0 && lawfulFirst (r .width .b0))
 
 -- "Bytes left over after whole records are a wrong record"
 abbrev pub wholeRecord : List ℕ → ℕ → Bool
