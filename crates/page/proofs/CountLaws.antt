@@ -15,19 +15,21 @@ use Rattle.widths.specs.LookUp.{LookUp, found, absent}
 use Rattle.commands.specs.declared.Kind.{Kind}
 use Rattle.commands.specs.declared.Kind.the-variants as Kind
 use Rattle.commands.specs.Commands.{Command, kindOfCommand}
-use Rattle.commands.specs.Parameters.{distance, ruleHeight, ruleWidth, selectedFont}
+use Rattle.commands.specs.Parameters.{distance, ruleHeight, ruleWidth}
 use Rattle.volume.specs.Past.{isA}
 use Rattle.state.specs.declared.Level.{Level}
 use Rattle.state.specs.declared.Font.{Font}
 use Rattle.state.specs.declared.moving.Direction.{Direction}
 use Rattle.state.specs.declared.moving.Direction.the-variants as Direction
+use Rattle.state.specs.declared.registers.Register.{Register}
+use Rattle.state.specs.declared.registers.Register.the-variants as Register
 use Rattle.state.specs.Moving.{leaves}
-use Rattle.state.specs.Registers.{State, poppedTo, spotOf}
+use Rattle.state.specs.Registers.{State, poppedTo, spotOf, registerOf, directionOf}
 use Rattle.page.specs.declared.Record.{Record}
 use Rattle.page.specs.Records.{characterRecord, ruleRecord}
 use Rattle.page.specs.PageList.{Located}
-use Rattle.page.specs.Placing.{Setting, fontOf, lookedFor, Added, nothing, placed, missing, special, Outcome, continues, leavesRange, withNumbers, setCharacter, putCharacter, isVisible, move, distanceOr, withW, withX, withY, withZ, afterKind, after, Contents, adding, onOutcome, placing}
-use Rattle.page.specs.Counting.{Seen, withFonts, isCharacter, isRule, codeOf, characterFound, characterMissing, ruleVisible, isSpecial, makesRecord, countOf, those, saidBy, saidOf}
+use Rattle.page.specs.Placing.{Setting, lookedFor, Added, nothing, placed, missing, special, Outcome, continues, leavesRange, movesTo, setCharacter, putCharacter, isVisible, plainMove, distanceOr, registerMove, afterKind, after, Contents, adding, onOutcome, placing}
+use Rattle.page.specs.Counting.{Seen, fontAfter, withFonts, isCharacter, isRule, codeOf, characterFound, characterMissing, ruleVisible, isSpecial, makesRecord, countOf, those, saidBy, saidOf}
 
 -- what is given in the end was made from a result that was given
 and-given : {A B : Type 0} (make : A → B) (answer : Answer A) (b : B) → andThen answer (λ a. given (make a)) ≡ given b
@@ -61,14 +63,10 @@ module _ (setting : Setting) where
     a-special : In c false false false true → Adding c special
     no-more : In c false false false false → Adding c nothing
 
-  -- the font that is current after a command
-  abbrev pub fontAfter : Seen → Font
-  fontAfter c = cond (isA Kind.Select (c .command)) (fontOf setting (selectedFont (c .command .opcode) (c .command .params))) (c .font)
-
   -- an outcome is the one that the counts and the fonts say
   abbrev pub AsCounted : Seen → Outcome → Type 0
   AsCounted c leavesRange = Unit {0}
-  AsCounted c (continues next added) = (next .font ≡ fontAfter c) × Adding c added
+  AsCounted c (continues next added) = (next .font ≡ fontAfter setting (c .font) (c .command)) × Adding c added
 
   -- where h or v would leave its range nothing is said
   unless : (c : Seen) (o : Outcome) (t : Bool) → AsCounted c o → AsCounted c (cond t leavesRange o)
@@ -89,8 +87,14 @@ module _ (setting : Setting) where
     quiet (rule, character, other, select) = (rw select, no-more (rw (rule, character, other) none))
 
     -- so does a move
-    moves : Is false false false false → (direction : Direction) (from : Level) (n : ℤ) → AsCounted this (move direction setting (withNumbers s from) n)
-    moves is direction from n = unless this _ (leaves (spotOf direction from .position +ℤ n)) (quiet is)
+    moves : Is false false false false → (direction : Direction) (n : ℤ) (level : Level) → AsCounted this (movesTo direction s n level nothing)
+    moves is direction n level = unless this _ (leaves (spotOf direction (s .level) .position +ℤ n)) (quiet is)
+
+    plain-moves : Is false false false false → (direction : Direction) → AsCounted this (plainMove direction setting s (c .params))
+    plain-moves is direction = moves is direction (distance (c .params)) _
+
+    register-moves : Is false false false false → (register : Register) → AsCounted this (registerMove register setting s (c .params))
+    register-moves is register = moves is (directionOf register) (distanceOr (registerOf register (s .level)) (c .params)) _
 
     -- a rule's sides, and its record where the page stands
     abbrev height : ℤ
@@ -136,12 +140,12 @@ module _ (setting : Setting) where
     by-kind Kind.Eop e = quiet (rw e none)
     by-kind Kind.Push e = quiet (rw e none)
     by-kind Kind.Pop e = let (font, adding) = quiet (rw e none) in (popped-font (s .saved) ∙ font, adding)
-    by-kind Kind.Right e = moves (rw e none) Direction.Sideways (s .level) (distance (c .params))
-    by-kind Kind.W e = let n = distanceOr (s .level .w) (c .params) in moves (rw e none) Direction.Sideways (withW n (s .level)) n
-    by-kind Kind.X e = let n = distanceOr (s .level .x) (c .params) in moves (rw e none) Direction.Sideways (withX n (s .level)) n
-    by-kind Kind.Down e = moves (rw e none) Direction.Down (s .level) (distance (c .params))
-    by-kind Kind.Y e = let n = distanceOr (s .level .y) (c .params) in moves (rw e none) Direction.Down (withY n (s .level)) n
-    by-kind Kind.Z e = let n = distanceOr (s .level .z) (c .params) in moves (rw e none) Direction.Down (withZ n (s .level)) n
+    by-kind Kind.Right e = plain-moves (rw e none) Direction.Sideways
+    by-kind Kind.W e = register-moves (rw e none) Register.W
+    by-kind Kind.X e = register-moves (rw e none) Register.X
+    by-kind Kind.Down e = plain-moves (rw e none) Direction.Down
+    by-kind Kind.Y e = register-moves (rw e none) Register.Y
+    by-kind Kind.Z e = register-moves (rw e none) Register.Z
     by-kind Kind.Select e = (rw e, no-more (rw e none))
     by-kind Kind.Special e = (rw e, a-special (rw e (refl, refl, refl, refl)))
     by-kind Kind.Define e = quiet (rw e none)

@@ -3,6 +3,7 @@ pub mod CharacterLaws
 pub mod CountLaws
 pub mod FontLaws
 pub mod Found
+pub mod Frames
 pub mod PageRuns
 pub mod PlaceLaws
 pub mod RecordWords

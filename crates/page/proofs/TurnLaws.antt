@@ -21,18 +21,24 @@ use Rattle.commands.proofs.Lengths.{fixedBy, hasInner, whole-at-most}
 use Rattle.volume.proofs.Arms.{on-kinds}
 use Rattle.state.specs.declared.Level.{Level}
 use Rattle.state.specs.declared.Font.{Font}
+use Rattle.state.specs.declared.moving.Direction.{Direction}
+use Rattle.state.specs.declared.moving.Direction.the-variants as Direction
 use Rattle.state.specs.declared.moving.Ruler.{Ruler}
+use Rattle.state.specs.declared.registers.Register.{Register}
+use Rattle.state.specs.declared.registers.Register.the-variants as Register
 use Rattle.state.specs.Moving.{leaves}
-use Rattle.state.specs.Registers.{State, ruleMoved}
+use Rattle.state.specs.Registers.{State, spotOf, ruleMoved, registerOf, directionOf}
 use Rattle.state.specs.Steps.{Bounded}
+use Rattle.state.proofs.Levels.{register-in}
 use Rattle.page.specs.declared.Terms.{Terms}
 use Rattle.page.specs.declared.Adds.{Adds}
 use Rattle.page.specs.declared.Adds.the-variants as Adds
 use Rattle.page.specs.declared.Turn.{Turn}
 use Rattle.page.specs.declared.Turn.the-variants as Turn
 use Rattle.page.specs.declared.Asked.{Asked}
-use Rattle.page.specs.Placing.{Setting, Added, Outcome, continues, leavesRange, withNumbers, ruleAdded, setRule, distanceOr, withW, withX, withY, withZ, afterKind, after}
-use Rattle.page.specs.Steps.{addedOf, AddsInWords, stateWith, did, Safe, Plain, keepsDepth, Suits, termsSetting, Comes, ruleBy, sidewaysTurn, downTurn, ruleTurn, turnOf, isMove, MoveFits, RuleAsks, CommandAsks}
+use Rattle.page.specs.Placing.{Setting, Added, Outcome, continues, leavesRange, movesTo, ruleAdded, setRule, plainMove, distanceOr, registerMove, afterKind, after}
+use Rattle.page.specs.Blocks.{inside}
+use Rattle.page.specs.Steps.{addedOf, stateWith, did, Safe, turnFrame, Suits, termsSetting, Comes, ruleBy, unlessLeft, plainTurn, registerTurn, turnOf, isMove, MoveFits, RuleAsks, CommandAsks}
 
 -- ---- a turn, unless h or v would leave its range
 
@@ -41,33 +47,20 @@ module _ (ruler : Ruler) (s : State) (turn : Turn) (adds : Adds) where
   did-unless true = refl
   did-unless false = refl
 
-pub safe-unless : (now : Level) (turn : Turn) (position : ℤ) → (leaves position ≡ false → Safe now turn) → Safe now (cond (leaves position) Turn.Leave turn)
-safe-unless now turn position safe = by (leaves position) refl
-  where
-    by : (t : Bool) → leaves position ≡ t → Safe now (cond t Turn.Leave turn)
-    by true e = tt
-    by false e = safe e
+module _ (direction : Direction) (level : Level) (n : ℤ) (turn : Turn) where
+  pub safe-unless : (leaves (spotOf direction level .position +ℤ n) ≡ false → Safe level turn) → Safe level (unlessLeft direction level n turn)
+  safe-unless safe = by (leaves (spotOf direction level .position +ℤ n)) refl
+    where
+      by : (t : Bool) → leaves (spotOf direction level .position +ℤ n) ≡ t → Safe level (cond t Turn.Leave turn)
+      by true e = tt
+      by false e = safe e
 
-suits-unless : (kind : Kind) (turn : Turn) (t : Bool) → keepsDepth kind ≡ true → Suits kind turn → Suits kind (cond t Turn.Leave turn)
-suits-unless kind turn true keeps suits = keeps
-suits-unless kind turn false keeps suits = suits
-
--- a turn that keeps the depth suits each kind that keeps it
-pub plain-suits : (kind : Kind) (turn : Turn) → keepsDepth kind ≡ true → Plain turn → Suits kind turn
-plain-suits kind Turn.Stay keeps plain = keeps
-plain-suits kind (Turn.Sideways level n) keeps plain = keeps
-plain-suits kind (Turn.Down level n) keeps plain = keeps
-plain-suits kind (Turn.PastCharacter width escapement) keeps plain = keeps
-plain-suits kind (Turn.PastRule width) keeps plain = keeps
-plain-suits kind Turn.Push keeps plain = absurd plain
-plain-suits kind Turn.Pop keeps plain = absurd plain
-plain-suits kind (Turn.Select font) keeps plain = keeps
-plain-suits kind Turn.End keeps plain = absurd plain
-plain-suits kind Turn.Leave keeps plain = keeps
-
-plain-unless : (turn : Turn) (t : Bool) → Plain turn → Plain (cond t Turn.Leave turn)
-plain-unless turn true plain = tt
-plain-unless turn false plain = plain
+  pub inside-unless : turnFrame turn ≡ inside → turnFrame (unlessLeft direction level n turn) ≡ inside
+  inside-unless is-inside = by (leaves (spotOf direction level .position +ℤ n))
+    where
+      by : (t : Bool) → turnFrame (cond t Turn.Leave turn) ≡ inside
+      by true = refl
+      by false = is-inside
 
 -- ---- commands that add nothing but a turn
 
@@ -99,8 +92,14 @@ module _ (setting : Setting) (level : Level) (saved : List Level) (font : Font) 
   abbrev s : State
   s = stateWith level saved font
 
-  moves : (turn : Turn) (t : Bool) → did (setting .ruler) s (cond t Turn.Leave turn) Adds.Nothing ≡ cond t leavesRange (did (setting .ruler) s turn Adds.Nothing)
-  moves turn t = did-unless (setting .ruler) s turn Adds.Nothing t
+  plain-does : (direction : Direction) → did (setting .ruler) s (plainTurn direction level (c .params)) Adds.Nothing ≡ plainMove direction setting s (c .params)
+  plain-does direction =
+      let n = distance (c .params) in did-unless (setting .ruler) s (Turn.By direction n) Adds.Nothing (leaves (spotOf direction level .position +ℤ n))
+
+  register-does : (register : Register) → did (setting .ruler) s (registerTurn register level (c .params)) Adds.Nothing ≡ registerMove register setting s (c .params)
+  register-does register =
+      let n = distanceOr (registerOf register level) (c .params) in
+      did-unless (setting .ruler) s (Turn.ByRegister register n) Adds.Nothing (leaves (spotOf (directionOf register) level .position +ℤ n))
 
   -- the turn of a kind comes to what is meant by a command of it
   pub turn-does : (k : Kind) → onlyTurns k ≡ true → did (setting .ruler) s (turnOf k level (c .params)) Adds.Nothing ≡ afterKind k setting s c
@@ -113,12 +112,12 @@ module _ (setting : Setting) (level : Level) (saved : List Level) (font : Font) 
   turn-does Kind.Eop only = refl
   turn-does Kind.Push only = refl
   turn-does Kind.Pop only = refl
-  turn-does Kind.Right only = let n = distance (c .params) in moves (Turn.Sideways level n) (leaves (level .h +ℤ n))
-  turn-does Kind.W only = let n = distanceOr (level .w) (c .params) in moves (Turn.Sideways (withW n level) n) (leaves (level .h +ℤ n))
-  turn-does Kind.X only = let n = distanceOr (level .x) (c .params) in moves (Turn.Sideways (withX n level) n) (leaves (level .h +ℤ n))
-  turn-does Kind.Down only = let n = distance (c .params) in moves (Turn.Down level n) (leaves (level .v +ℤ n))
-  turn-does Kind.Y only = let n = distanceOr (level .y) (c .params) in moves (Turn.Down (withY n level) n) (leaves (level .v +ℤ n))
-  turn-does Kind.Z only = let n = distanceOr (level .z) (c .params) in moves (Turn.Down (withZ n level) n) (leaves (level .v +ℤ n))
+  turn-does Kind.Right only = plain-does Direction.Sideways
+  turn-does Kind.W only = register-does Register.W
+  turn-does Kind.X only = register-does Register.X
+  turn-does Kind.Down only = plain-does Direction.Down
+  turn-does Kind.Y only = register-does Register.Y
+  turn-does Kind.Z only = register-does Register.Z
   turn-does Kind.Select only = absurd (false≢true only)
   turn-does Kind.Special only = absurd (false≢true only)
   turn-does Kind.Define only = refl
@@ -133,6 +132,13 @@ module _ (setting : Setting) (level : Level) (saved : List Level) (font : Font) 
   after-kind k e = sym (ap (λ (kind : Kind). afterKind kind setting s c) e)
 
 module _ (level : Level) (params : List ℕ) where
+  plain-inside : (direction : Direction) → turnFrame (plainTurn direction level params) ≡ inside
+  plain-inside direction = let n = distance params in inside-unless direction level n (Turn.By direction n) refl
+
+  register-inside : (register : Register) → turnFrame (registerTurn register level params) ≡ inside
+  register-inside register =
+      let n = distanceOr (registerOf register level) params in inside-unless (directionOf register) level n (Turn.ByRegister register n) refl
+
   -- the turn of a kind suits it
   pub turn-suits : (k : Kind) → Suits k (turnOf k level params)
   turn-suits Kind.SetCharacter = refl
@@ -144,12 +150,12 @@ module _ (level : Level) (params : List ℕ) where
   turn-suits Kind.Eop = refl
   turn-suits Kind.Push = refl
   turn-suits Kind.Pop = refl
-  turn-suits Kind.Right = let n = distance params in suits-unless Kind.Right (Turn.Sideways level n) (leaves (level .h +ℤ n)) refl refl
-  turn-suits Kind.W = let n = distanceOr (level .w) params in suits-unless Kind.W (Turn.Sideways (withW n level) n) (leaves (level .h +ℤ n)) refl refl
-  turn-suits Kind.X = let n = distanceOr (level .x) params in suits-unless Kind.X (Turn.Sideways (withX n level) n) (leaves (level .h +ℤ n)) refl refl
-  turn-suits Kind.Down = let n = distance params in suits-unless Kind.Down (Turn.Down level n) (leaves (level .v +ℤ n)) refl refl
-  turn-suits Kind.Y = let n = distanceOr (level .y) params in suits-unless Kind.Y (Turn.Down (withY n level) n) (leaves (level .v +ℤ n)) refl refl
-  turn-suits Kind.Z = let n = distanceOr (level .z) params in suits-unless Kind.Z (Turn.Down (withZ n level) n) (leaves (level .v +ℤ n)) refl refl
+  turn-suits Kind.Right = plain-inside Direction.Sideways
+  turn-suits Kind.W = register-inside Register.W
+  turn-suits Kind.X = register-inside Register.X
+  turn-suits Kind.Down = plain-inside Direction.Down
+  turn-suits Kind.Y = register-inside Register.Y
+  turn-suits Kind.Z = register-inside Register.Z
   turn-suits Kind.Select = refl
   turn-suits Kind.Special = refl
   turn-suits Kind.Define = refl
@@ -159,20 +165,6 @@ module _ (level : Level) (params : List ℕ) where
   turn-suits Kind.Undefined = refl
 
 -- ---- what the page's methods need of a turn
-
--- a level with another register stays in its ranges
-module _ (level : Level) (b : Bounded level) {n : ℤ} (small : natAbs n ≤ 2 ^ 31) where
-  bounded-w : Bounded (withW n level)
-  bounded-w = record { h-in = b .h-in; v-in = b .v-in; w-in = small; x-in = b .x-in; y-in = b .y-in; z-in = b .z-in; hh-in = b .hh-in; vv-in = b .vv-in }
-
-  bounded-x : Bounded (withX n level)
-  bounded-x = record { h-in = b .h-in; v-in = b .v-in; w-in = b .w-in; x-in = small; y-in = b .y-in; z-in = b .z-in; hh-in = b .hh-in; vv-in = b .vv-in }
-
-  bounded-y : Bounded (withY n level)
-  bounded-y = record { h-in = b .h-in; v-in = b .v-in; w-in = b .w-in; x-in = b .x-in; y-in = small; z-in = b .z-in; hh-in = b .hh-in; vv-in = b .vv-in }
-
-  bounded-z : Bounded (withZ n level)
-  bounded-z = record { h-in = b .h-in; v-in = b .v-in; w-in = b .w-in; x-in = b .x-in; y-in = b .y-in; z-in = small; hh-in = b .hh-in; vv-in = b .vv-in }
 
 module _ (params : List ℕ) (bytes : (i : ℕ) → getD params i 0 < 256) where
   -- a distance of at most four bytes is one of 32 bits
@@ -184,11 +176,13 @@ module _ (params : List ℕ) (bytes : (i : ℕ) → getD params i 0 < 256) where
   or-small register r h = omega (arith, abs-cond (eqb (length params) 0) register (distance params), r, distance-small h)
 
   module _ (level : Level) (bounded : Bounded level) where
-    sideways-safe : (from : Level) (n : ℤ) → Bounded from → natAbs n ≤ 2 ^ 31 → Safe level (sidewaysTurn from n)
-    sideways-safe from n b small = safe-unless level (Turn.Sideways from n) (from .h +ℤ n) (λ stays. (b, small, stays))
+    plain-safe : (direction : Direction) → length params ≤ 4 → Safe level (plainTurn direction level params)
+    plain-safe direction fits = let n = distance params in safe-unless direction level n (Turn.By direction n) (λ stays. (distance-small fits, stays))
 
-    down-safe : (from : Level) (n : ℤ) → Bounded from → natAbs n ≤ 2 ^ 31 → Safe level (downTurn from n)
-    down-safe from n b small = safe-unless level (Turn.Down from n) (from .v +ℤ n) (λ stays. (b, small, stays))
+    register-safe : (register : Register) → length params ≤ 4 → Safe level (registerTurn register level params)
+    register-safe register fits =
+        let n = distanceOr (registerOf register level) params in
+        safe-unless (directionOf register) level n (Turn.ByRegister register n) (λ stays. (or-small (registerOf register level) (register-in register level bounded) fits, stays))
 
     -- the turn of a kind is one that the page's methods take
     pub turn-safe : (k : Kind) → MoveFits k params → Safe level (turnOf k level params)
@@ -201,20 +195,12 @@ module _ (params : List ℕ) (bytes : (i : ℕ) → getD params i 0 < 256) where
     turn-safe Kind.Eop fits = tt
     turn-safe Kind.Push fits = tt
     turn-safe Kind.Pop fits = tt
-    turn-safe Kind.Right fits = sideways-safe level (distance params) bounded (distance-small (fits refl))
-    turn-safe Kind.W fits =
-        let small = or-small (level .w) (bounded .w-in) (fits refl) in
-        sideways-safe (withW (distanceOr (level .w) params) level) (distanceOr (level .w) params) (bounded-w level bounded small) small
-    turn-safe Kind.X fits =
-        let small = or-small (level .x) (bounded .x-in) (fits refl) in
-        sideways-safe (withX (distanceOr (level .x) params) level) (distanceOr (level .x) params) (bounded-x level bounded small) small
-    turn-safe Kind.Down fits = down-safe level (distance params) bounded (distance-small (fits refl))
-    turn-safe Kind.Y fits =
-        let small = or-small (level .y) (bounded .y-in) (fits refl) in
-        down-safe (withY (distanceOr (level .y) params) level) (distanceOr (level .y) params) (bounded-y level bounded small) small
-    turn-safe Kind.Z fits =
-        let small = or-small (level .z) (bounded .z-in) (fits refl) in
-        down-safe (withZ (distanceOr (level .z) params) level) (distanceOr (level .z) params) (bounded-z level bounded small) small
+    turn-safe Kind.Right fits = plain-safe Direction.Sideways (fits refl)
+    turn-safe Kind.W fits = register-safe Register.W (fits refl)
+    turn-safe Kind.X fits = register-safe Register.X (fits refl)
+    turn-safe Kind.Down fits = plain-safe Direction.Down (fits refl)
+    turn-safe Kind.Y fits = register-safe Register.Y (fits refl)
+    turn-safe Kind.Z fits = register-safe Register.Z (fits refl)
     turn-safe Kind.Select fits = tt
     turn-safe Kind.Special fits = tt
     turn-safe Kind.Define fits = tt
@@ -248,35 +234,40 @@ module _ (setting : Setting) (level : Level) (font : Font) (c : Command) (r : As
   )
 
 module _ (terms : Terms) (table : List ℕ) (volume : List Command) (level : Level) (font : Font) (params : List ℕ) (bounded : Bounded level) (bytes : (i : ℕ) → getD params i 0 < 256) where
-  -- what a rule comes to, set or put
-  rule-does : (saved : List Level) (turn : Turn) (adds : Adds) → addedOf adds ≡ ruleBy terms level (ruleHeight params) (ruleWidth params)
-      → did (terms .ruler) (stateWith level saved font) (ruleTurn level (ruleWidth params)) adds
+  abbrev past : Turn
+  past = Turn.PastRule (ruleWidth params)
+
+  -- what a rule comes to that is set
+  rule-does : (saved : List Level) (adds : Adds) → addedOf adds ≡ ruleBy terms level (ruleHeight params) (ruleWidth params)
+      → did (terms .ruler) (stateWith level saved font) (unlessLeft Direction.Sideways level (ruleWidth params) past) adds
       ≡ setRule (termsSetting terms table volume) (stateWith level saved font) (ruleHeight params) (ruleWidth params)
-  rule-does saved turn adds e =
-      did-unless (terms .ruler) (stateWith level saved font) (Turn.PastRule (ruleWidth params)) adds (leaves (level .h +ℤ ruleWidth params))
-      ∙ ap (λ (added : Added). cond (leaves (level .h +ℤ ruleWidth params)) leavesRange (continues (withNumbers (stateWith level saved font) (ruleMoved (terms .ruler) (font .scale) (ruleWidth params) level)) added)) e
+  rule-does saved adds e =
+      let s = stateWith level saved font in
+      let leads : Added → Outcome = movesTo Direction.Sideways s (ruleWidth params) (ruleMoved (terms .ruler) (font .scale) (ruleWidth params) level) in
+      did-unless (terms .ruler) s past adds (leaves (level .h +ℤ ruleWidth params)) ∙ ap leads e
 
   width-small : natAbs (ruleWidth params) ≤ 2 ^ 31
   width-small = omega (arith, from-small (256 ^ 4) (unsignedAt params 4 4) (unsigned-below params 4 4 (λ i h. bytes (4 + i))))
 
   pub rule-sets : (r : Asked) → RuleAsks terms level true params r
-      → Comes (terms .ruler) level font (λ s. setRule (termsSetting terms table volume) s (ruleHeight params) (ruleWidth params)) (r .turn) (r .adds) × Plain (r .turn)
+      → Comes (terms .ruler) level font (λ s. setRule (termsSetting terms table volume) s (ruleHeight params) (ruleWidth params)) (r .turn) (r .adds) × (turnFrame (r .turn) ≡ inside)
   rule-sets r asks = (
     record {
-      does = λ saved. ap (λ (turn : Turn). did (terms .ruler) (stateWith level saved font) turn (r .adds)) (asks .turn-is) ∙ rule-does saved (r .turn) (r .adds) (asks .adds-are);
-      safe = subst (Safe level) (sym (asks .turn-is)) (safe-unless level (Turn.PastRule (ruleWidth params)) (level .h +ℤ ruleWidth params) (λ stays. (width-small, stays)));
+      does = λ saved. ap (λ (turn : Turn). did (terms .ruler) (stateWith level saved font) turn (r .adds)) (asks .turn-is) ∙ rule-does saved (r .adds) (asks .adds-are);
+      safe = subst (Safe level) (sym (asks .turn-is)) (safe-unless Direction.Sideways level (ruleWidth params) past (λ stays. (width-small, stays)));
       words = asks .words;
     },
-    subst Plain (sym (asks .turn-is)) (plain-unless (Turn.PastRule (ruleWidth params)) (leaves (level .h +ℤ ruleWidth params)) tt),
+    ap turnFrame (asks .turn-is) ∙ inside-unless Direction.Sideways level (ruleWidth params) past refl,
   )
 
   pub rule-puts : (r : Asked) → RuleAsks terms level false params r
-      → Comes (terms .ruler) level font (λ s. continues s (ruleAdded (termsSetting terms table volume) s (ruleHeight params) (ruleWidth params))) (r .turn) (r .adds) × Plain (r .turn)
+      → Comes (terms .ruler) level font (λ s. continues s (ruleAdded (termsSetting terms table volume) s (ruleHeight params) (ruleWidth params))) (r .turn) (r .adds)
+      × (turnFrame (r .turn) ≡ inside)
   rule-puts r asks = (
     record {
       does = λ saved. ap (λ (turn : Turn). did (terms .ruler) (stateWith level saved font) turn (r .adds)) (asks .turn-is) ∙ ap (continues (stateWith level saved font)) (asks .adds-are);
       safe = subst (Safe level) (sym (asks .turn-is)) tt;
       words = asks .words;
     },
-    subst Plain (sym (asks .turn-is)) tt,
+    ap turnFrame (asks .turn-is),
   )

@@ -1,8 +1,8 @@
 -- One turn of the walk over a page: what is still to come ends as the whole page does, before a command and after it. Assumes nothing.
 use mathlib.Core.Path.{_≡_, refl, sym, ap, ap₂, _∙_, subst}
-use mathlib.Core.Bool.{Bool, true, false, cond, _||_, true≢false, false≢true}
+use mathlib.Core.Bool.{Bool, true, false, _||_, true≢false}
 use mathlib.Core.List.{List, [], _∷_}
-use Prim.Native.Nat.{ℕ, _+_, _-_, _<_, _≤_}
+use Prim.Native.Nat.{ℕ, _+_, _<_, _≤_}
 use native.Mathlib.Nat.{add-zero}
 use native.Mathlib.Omega.{arith}
 use lib.Dec.{leb, eqb}
@@ -12,7 +12,6 @@ use Rattle.refusals.specs.Numbers.{positionOutOfRange}
 use Rattle.refusals.specs.Answer.{Answer, refused, given, andThen}
 use Rattle.commands.specs.declared.Kind.{Kind}
 use Rattle.commands.specs.declared.Kind.the-variants.{Eop, Push, Pop}
-use Rattle.commands.specs.Kinds.{is}
 use Rattle.commands.specs.Commands.{Command, kindOfCommand, whole, front}
 use Rattle.volume.specs.Past.{isA, depthAfter}
 use Rattle.volume.specs.Rules.{wrongAtDepth}
@@ -30,11 +29,13 @@ use Rattle.page.specs.declared.Turn.{Turn}
 use Rattle.page.specs.declared.Turn.the-variants as Turn
 use Rattle.page.specs.declared.Step.{Step}
 use Rattle.page.specs.PageList.{Located, pageOf}
+use Rattle.page.specs.Blocks.{Frame, inside}
 use Rattle.page.specs.Placing.{Setting, Added, nothing, placed, missing, special, Outcome, continues, leavesRange, withNumbers, adding, onOutcome, after, placing}
-use Rattle.page.specs.Steps.{addedOf, AddsInWords, areaNoted, countNoted, finish, stopped, through, zeroCounts, did, Safe, keepsDepth, Suits, termsSetting, StepAsks, Known, Runs, ends, onward, Ready}
+use Rattle.page.specs.Steps.{addedOf, AddsInWords, areaNoted, countNoted, finish, stopped, through, zeroCounts, did, Safe, turnFrame, Suits, termsSetting, StepAsks, Known, Runs, ends, onward, Ready}
 use Rattle.page.proofs.Areas.{noted-length, finish-adding}
 use Rattle.page.proofs.FontLaws.{unselected-known}
 use Rattle.page.proofs.TurnLaws.{after-kind}
+use Rattle.page.proofs.Frames.{isEnding, opening-push, closing-pop, ending-eop, depthBy, frame-depth}
 
 -- ---- the code's page
 
@@ -100,77 +101,7 @@ starting {file} {fonts} {table} {terms} {start} ready out page fresh flat full =
       long = refl;
     }
 
--- ---- kinds
-
--- a kind that keeps the depth is no eop
-keeps-open : (kind : Kind) → keepsDepth kind ≡ true → is kind Eop ≡ false
-keeps-open kind = by (is kind Push) (is kind Pop) (is kind Eop)
-  where
-    by : (push pop eop : Bool) → cond push false (cond pop false (cond eop false true)) ≡ true → eop ≡ false
-    by true pop eop e = absurd (false≢true e)
-    by false true eop e = absurd (false≢true e)
-    by false false true e = absurd (false≢true e)
-    by false false false e = refl
-
-keeps-depth : (kind : Kind) (depth : ℕ) → keepsDepth kind ≡ true → depthAfter kind depth ≡ depth
-keeps-depth kind depth = by (is kind Push) (is kind Pop) (is kind Eop)
-  where
-    by : (push pop eop : Bool) → cond push false (cond pop false (cond eop false true)) ≡ true → cond push (depth + 1) (cond pop (depth - 1) depth) ≡ depth
-    by true pop eop e = absurd (false≢true e)
-    by false true eop e = absurd (false≢true e)
-    by false false eop e = refl
-
--- what a turn does to the depth
-abbrev pub turnedDepth : Turn → ℕ → ℕ
-turnedDepth Turn.Stay depth = depth
-turnedDepth (Turn.Sideways level n) depth = depth
-turnedDepth (Turn.Down level n) depth = depth
-turnedDepth (Turn.PastCharacter width escapement) depth = depth
-turnedDepth (Turn.PastRule width) depth = depth
-turnedDepth Turn.Push depth = depth + 1
-turnedDepth Turn.Pop depth = depth - 1
-turnedDepth (Turn.Select font) depth = depth
-turnedDepth Turn.End depth = depth
-turnedDepth Turn.Leave depth = depth
-
--- a turn that goes on
-abbrev pub GoesOn : Turn → Type 0
-GoesOn Turn.Stay = Unit {0}
-GoesOn (Turn.Sideways level n) = Unit {0}
-GoesOn (Turn.Down level n) = Unit {0}
-GoesOn (Turn.PastCharacter width escapement) = Unit {0}
-GoesOn (Turn.PastRule width) = Unit {0}
-GoesOn Turn.Push = Unit {0}
-GoesOn Turn.Pop = Unit {0}
-GoesOn (Turn.Select font) = Unit {0}
-GoesOn Turn.End = ⊥
-GoesOn Turn.Leave = Unit {0}
-
--- what suits a kind is an eop exactly if the kind is, and changes the depth as the kind does
-module _ (kind : Kind) (depth : ℕ) where
-  suits-open : (turn : Turn) → GoesOn turn → Suits kind turn → is kind Eop ≡ false
-  suits-open Turn.Stay on suits = keeps-open kind suits
-  suits-open (Turn.Sideways level n) on suits = keeps-open kind suits
-  suits-open (Turn.Down level n) on suits = keeps-open kind suits
-  suits-open (Turn.PastCharacter width escapement) on suits = keeps-open kind suits
-  suits-open (Turn.PastRule width) on suits = keeps-open kind suits
-  suits-open Turn.Push on suits = ap (λ (k : Kind). is k Eop) suits
-  suits-open Turn.Pop on suits = ap (λ (k : Kind). is k Eop) suits
-  suits-open (Turn.Select font) on suits = keeps-open kind suits
-  suits-open Turn.End on suits = absurd on
-  suits-open Turn.Leave on suits = keeps-open kind suits
-
-  suits-depth : (turn : Turn) → GoesOn turn → Suits kind turn → turnedDepth turn depth ≡ depthAfter kind depth
-  suits-depth Turn.Stay on suits = sym (keeps-depth kind depth suits)
-  suits-depth (Turn.Sideways level n) on suits = sym (keeps-depth kind depth suits)
-  suits-depth (Turn.Down level n) on suits = sym (keeps-depth kind depth suits)
-  suits-depth (Turn.PastCharacter width escapement) on suits = sym (keeps-depth kind depth suits)
-  suits-depth (Turn.PastRule width) on suits = sym (keeps-depth kind depth suits)
-  suits-depth Turn.Push on suits = ap (λ (k : Kind). depthAfter k depth) (sym suits)
-  suits-depth Turn.Pop on suits = ap (λ (k : Kind). depthAfter k depth) (sym suits)
-  suits-depth (Turn.Select font) on suits = sym (keeps-depth kind depth suits)
-  suits-depth Turn.End on suits = absurd on
-  suits-depth Turn.Leave on suits = sym (keeps-depth kind depth suits)
+-- ---- what a turn adds
 
 -- what is added counts for one at most
 module _ (counts : Counts) (at next : ℕ) (forward : at < next) where
@@ -234,6 +165,14 @@ module _ {file fonts table : List ℕ} {terms : Terms} {start : ℕ} {out₀ out
     suits : Suits (kindOfCommand c) turn
     suits = subst (Suits (kindOfCommand c)) turn-is (asks c rest stands .0 .1)
 
+    -- one that does not end the page is no eop's
+    no-eop : isEnding (turnFrame turn) ≡ false → isA Eop c ≡ false
+    no-eop on = sym (ap isEnding suits ∙ ending-eop (kindOfCommand c)) ∙ on
+
+    -- the depth is as after the command
+    turned-depth : depthBy (turnFrame turn) (page .depth) ≡ depthAfter (kindOfCommand c) (page .depth)
+    turned-depth = ap (λ (frame : Frame). depthBy frame (page .depth)) suits ∙ frame-depth (kindOfCommand c) (page .depth)
+
     does : did (terms .ruler) s turn (r .asked .adds) ≡ after setting s c
     does =
         ap (λ (t : Turn). did (terms .ruler) s t (r .asked .adds)) (sym turn-is) ∙ asks c rest stands .0 .0 .does (savedOf (page .depth) (page .stack))
@@ -256,8 +195,8 @@ module _ {file fonts table : List ℕ} {terms : Terms} {start : ℕ} {out₀ out
 
   module _ (turn : Turn) (turn-is : r .asked .turn ≡ turn) where
     -- a command that leads to a next state
-    pub onwards : GoesOn turn → (s′ : State) → did (terms .ruler) s turn (r .asked .adds) ≡ continues s′ (addedOf (r .asked .adds))
-        → (page′ : Page) → pageState page′ ≡ s′ → page′ .depth ≡ turnedDepth turn (page .depth) → Sound page′
+    pub onwards : isEnding (turnFrame turn) ≡ false → (s′ : State) → did (terms .ruler) s turn (r .asked .adds) ≡ continues s′ (addedOf (r .asked .adds))
+        → (page′ : Page) → pageState page′ ≡ s′ → page′ .depth ≡ depthBy (turnFrame turn) (page .depth) → Sound page′
         → (out′ : List ℕ) → out′ ≡ areaNoted out (counts .records) (addedOf (r .asked .adds))
         → (counts′ : Counts) → counts′ ≡ countNoted counts (addedOf (r .asked .adds))
         → Walking file fonts table terms start out₀ out′ page′ counts′ (r .next)
@@ -268,7 +207,7 @@ module _ {file fonts table : List ℕ} {terms : Terms} {start : ℕ} {out₀ out
         added = addedOf (r .asked .adds)
 
         by : Here → Walking file fonts table terms start out₀ out′ page′ counts′ (r .next)
-        by (last c rest stands eop e) = absurd (true≢false (sym eop ∙ suits-open (kindOfCommand c) (page .depth) turn on (suits stands turn turn-is)))
+        by (last c rest stands eop e) = absurd (true≢false (sym eop ∙ no-eop stands turn turn-is on))
         by (next c rest later stands goes-on right e runs) =
             let outcome : after setting s c ≡ continues s′ added = sym (does stands turn turn-is) ∙ led in
             let step : placing setting s (w .rest) ≡ andThen (placing setting s′ later) (λ p. given (adding added p)) =
@@ -279,7 +218,7 @@ module _ {file fonts table : List ℕ} {terms : Terms} {start : ℕ} {out₀ out
               rest = later;
               runs =
                   subst (λ (place : ℕ). Runs file place (page′ .depth) later) (sym (asks c rest stands .1))
-                  (subst (λ (depth : ℕ). Runs file (at + (1 + length (c .params))) depth later) (sym (depth-is ∙ suits-depth (kindOfCommand c) (page .depth) turn on (suits stands turn turn-is))) runs);
+                  (subst (λ (depth : ℕ). Runs file (at + (1 + length (c .params))) depth later) (sym (depth-is ∙ turned-depth stands turn turn-is)) runs);
               same =
                   ap (λ (x : State). finish out′ counts′ (placing setting x later)) state-is
                   ∙ ap₂ (λ (o : List ℕ) (n : Counts). finish o n (placing setting s′ later)) out-is counts-are
@@ -294,14 +233,14 @@ module _ {file fonts table : List ℕ} {terms : Terms} {start : ℕ} {out₀ out
             }
 
     -- one that leads to another level only
-    pub leveled : GoesOn turn → (l : Level) → did (terms .ruler) s turn (r .asked .adds) ≡ continues (withNumbers s l) (addedOf (r .asked .adds)) → turnedDepth turn (page .depth) ≡ page .depth
+    pub leveled : turnFrame turn ≡ inside → (l : Level) → did (terms .ruler) s turn (r .asked .adds) ≡ continues (withNumbers s l) (addedOf (r .asked .adds))
         → (page′ : Page) → page′ ≡ withLevel page l → Bounded l
         → (out′ : List ℕ) → out′ ≡ areaNoted out (counts .records) (addedOf (r .asked .adds))
         → (counts′ : Counts) → counts′ ≡ countNoted counts (addedOf (r .asked .adds))
         → Walking file fonts table terms start out₀ out′ page′ counts′ (r .next)
-    leveled on l led flat page′ page-is bounded out′ out-is counts′ counts-are =
+    leveled is-inside l led page′ page-is bounded out′ out-is counts′ counts-are =
         let sound = w .sound in
-        onwards on (withNumbers s l) led page′ (ap pageState page-is) (ap (λ (p : Page). p .depth) page-is ∙ sym flat)
+        onwards (ap isEnding is-inside) (withNumbers s l) led page′ (ap pageState page-is) (ap (λ (p : Page). p .depth) page-is ∙ sym (ap (λ (frame : Frame). depthBy frame (page .depth)) is-inside))
         (subst Sound (sym page-is) (record { bounded = bounded; kept = sound .kept; known = sound .known; shallow = sound .shallow; full = sound .full }))
         out′ out-is counts′ counts-are
 
@@ -310,18 +249,18 @@ module _ {file fonts table : List ℕ} {terms : Terms} {start : ℕ} {out₀ out
   push-room turn-is = by here
     where
       by : Here → page .depth < 100
-      by (last c rest stands eop e) = absurd (true≢false (sym eop ∙ ap (λ (k : Kind). is k Eop) (suits stands Turn.Push turn-is)))
+      by (last c rest stands eop e) = absurd (true≢false (sym eop ∙ no-eop stands Turn.Push turn-is refl))
       by (next c rest later stands goes-on right e runs) =
-          let pushes : wrongAtDepth Push (page .depth) ≡ false = subst (λ (k : Kind). wrongAtDepth k (page .depth) ≡ false) (suits stands Turn.Push turn-is) right in
+          let pushes : wrongAtDepth Push (page .depth) ≡ false = subst (λ (k : Kind). wrongAtDepth k (page .depth) ≡ false) (opening-push (kindOfCommand c) (suits stands Turn.Push turn-is)) right in
           leb-false 100 (page .depth) (neither (leb 100 (page .depth)) false pushes)
 
   pub pop-room : r .asked .turn ≡ Turn.Pop → 0 < page .depth
   pop-room turn-is = by here
     where
       by : Here → 0 < page .depth
-      by (last c rest stands eop e) = absurd (true≢false (sym eop ∙ ap (λ (k : Kind). is k Eop) (suits stands Turn.Pop turn-is)))
+      by (last c rest stands eop e) = absurd (true≢false (sym eop ∙ no-eop stands Turn.Pop turn-is refl))
       by (next c rest later stands goes-on right e runs) =
-          let pops : wrongAtDepth Pop (page .depth) ≡ false = subst (λ (k : Kind). wrongAtDepth k (page .depth) ≡ false) (suits stands Turn.Pop turn-is) right in
+          let pops : wrongAtDepth Pop (page .depth) ≡ false = subst (λ (k : Kind). wrongAtDepth k (page .depth) ≡ false) (closing-pop (kindOfCommand c) (suits stands Turn.Pop turn-is)) right in
           omega (arith, eqb-false (page .depth) 0 (neither (eqb (page .depth) 0) false pops))
 
   -- at eop all has been walked over
@@ -340,7 +279,7 @@ module _ {file fonts table : List ℕ} {terms : Terms} {start : ℕ} {out₀ out
           ∙ finish-none out counts
           ∙ ap (λ (cs : List Located). finish out counts (placing setting s cs)) (sym e)
           ∙ w .same
-      by (next c rest later stands goes-on right e runs) = absurd (true≢false (sym (ap (λ (k : Kind). is k Eop) (suits stands Turn.End turn-is)) ∙ goes-on))
+      by (next c rest later stands goes-on right e runs) = absurd (true≢false (ap isEnding (suits stands Turn.End turn-is) ∙ ending-eop (kindOfCommand c) ∙ goes-on))
 
   -- where h or v would leave its range, the page is refused there
   pub left : r .asked .turn ≡ Turn.Leave → stopped positionOutOfRange at ≡ finish out₀ zeroCounts (placing setting freshState (pageOf (terms .page) (history file)))
@@ -348,7 +287,7 @@ module _ {file fonts table : List ℕ} {terms : Terms} {start : ℕ} {out₀ out
   left turn-is = by here
     where
       by : Here → stopped positionOutOfRange at ≡ finish out₀ zeroCounts (placing setting freshState (pageOf (terms .page) (history file)))
-      by (last c rest stands eop e) = absurd (true≢false (sym eop ∙ keeps-open (kindOfCommand c) (suits stands Turn.Leave turn-is)))
+      by (last c rest stands eop e) = absurd (true≢false (sym eop ∙ no-eop stands Turn.Leave turn-is refl))
       by (next c rest later stands goes-on right e runs) =
           let outcome : after setting s c ≡ leavesRange = sym (does stands Turn.Leave turn-is) in
           let step : placing setting s (w .rest) ≡ refused positionOutOfRange at =

@@ -19,12 +19,14 @@ pub record Seen : Type 0 where
   pub font : Font
   pub command : Command
 
--- each command of a page with its font, from a font on: a selection holds until the next one
+-- the font that is current after a command: a selection holds until the next one
+abbrev pub fontAfter : Setting → Font → Command → Font
+fontAfter setting font c = cond (isA Select c) (fontOf setting (selectedFont (c .opcode) (c .params))) font
+
+-- each command of a page with its font, from a font on
 abbrev pub withFonts : Setting → Font → List Located → List Seen
 withFonts setting font [] = []
-withFonts setting font (c ∷ rest) =
-    record { font = font; command = c .command }
-    ∷ withFonts setting (cond (isA Select (c .command)) (fontOf setting (selectedFont (c .command .opcode) (c .command .params))) font) rest
+withFonts setting font (c ∷ rest) = record { font = font; command = c .command } ∷ withFonts setting (fontAfter setting font (c .command)) rest
 
 -- ---- which commands count
 

@@ -22,7 +22,9 @@ use Rattle.state.specs.declared.moving.Direction.{Direction}
 use Rattle.state.specs.declared.moving.Direction.the-variants as Direction
 use Rattle.state.specs.declared.moving.Ruler.{Ruler}
 use Rattle.state.specs.Moving.{leaves}
-use Rattle.state.specs.Registers.{State, unselected, pushed, popped, spotOf, movedBy, characterMoved, ruleMoved}
+use Rattle.state.specs.declared.registers.Register.{Register}
+use Rattle.state.specs.declared.registers.Register.the-variants as Register
+use Rattle.state.specs.Registers.{State, unselected, pushed, popped, spotOf, movedBy, characterMoved, ruleMoved, registerOf, directionOf, movedByRegister}
 use Rattle.page.specs.declared.Record.{Record}
 use Rattle.page.specs.Records.{characterRecord, ruleRecord}
 use Rattle.page.specs.PageList.{Located}
@@ -68,15 +70,19 @@ pub data Outcome : Type 0 where
 abbrev pub withNumbers : State → Level → State
 withNumbers s level = record { level = level; saved = s .saved; font = s .font }
 
--- "A character absent from the table gives no record, moves nothing and is counted as missing"
+-- the outcome of a move by n in a direction that leads to a level: the position it would reach must be in range
+abbrev pub movesTo : Direction → State → ℤ → Level → Added → Outcome
+movesTo direction s n level added = cond (leaves (spotOf direction (s .level) .position +ℤ n)) leavesRange (continues (withNumbers s level) added)
+
+-- a character that is set: its record, and a move past it; one that the table lacks moves nothing and is missing
 abbrev pub setCharacter : Setting → State → ℤ → LookUp → Outcome
 setCharacter setting s code absent = continues s missing
 setCharacter setting s code (found m) =
-    cond (leaves (s .level .h +ℤ scaledBy (s .font .scale) (m .width))) leavesRange
-    (continues (withNumbers s (characterMoved (setting .ruler) (scaledBy (s .font .scale) (m .width)) (m .escapement) (s .level)))
-    (placed (characterRecord (setting .page) (s .level) (s .font) code (m .escapement))))
+    let width = scaledBy (s .font .scale) (m .width) in
+    movesTo Direction.Sideways s width (characterMoved (setting .ruler) width (m .escapement) (s .level))
+    (placed (characterRecord (setting .page) (s .level) (s .font) code (m .escapement)))
 
--- "put forms move nothing"
+-- a character that is put: its record, and no move
 abbrev pub putCharacter : Setting → State → ℤ → LookUp → Outcome
 putCharacter setting s code absent = continues s missing
 putCharacter setting s code (found m) = continues s (placed (characterRecord (setting .page) (s .level) (s .font) code (m .escapement)))
@@ -92,37 +98,25 @@ ruleAdded setting s height width =
     (placed (ruleRecord (setting .page) (s .level) (roundedUp (setting .ruler .k) height) (roundedUp (setting .ruler .k) width)))
     nothing
 
--- "yet set_rule moves"
+-- a rule that is set moves by its width, whether it gives a record or not
 abbrev pub setRule : Setting → State → ℤ → ℤ → Outcome
 setRule setting s height width =
-    cond (leaves (s .level .h +ℤ width)) leavesRange
-    (continues (withNumbers s (ruleMoved (setting .ruler) (s .font .scale) width (s .level))) (ruleAdded setting s height width))
+    movesTo Direction.Sideways s width (ruleMoved (setting .ruler) (s .font .scale) width (s .level)) (ruleAdded setting s height width)
 
--- a move sideways or down
-abbrev pub move : Direction → Setting → State → ℤ → Outcome
-move direction setting s n =
-    cond (leaves (spotOf direction (s .level) .position +ℤ n)) leavesRange
-    (continues (withNumbers s (movedBy direction (setting .ruler) (s .font .scale) n (s .level))) nothing)
+-- a move sideways or down by its own distance
+abbrev pub plainMove : Direction → Setting → State → List ℕ → Outcome
+plainMove direction setting s params =
+    let n = distance params in movesTo direction s n (movedBy direction (setting .ruler) (s .font .scale) n (s .level)) nothing
 
--- w0, x0, y0, z0 move by the register, the others set it first
+-- w0, x0, y0, z0 have no distance of their own and take the register's
 abbrev pub distanceOr : ℤ → List ℕ → ℤ
 distanceOr register params = cond (eqb (length params) 0) register (distance params)
 
--- a level with another w
-abbrev pub withW : ℤ → Level → Level
-withW n l = record { h = l .h; v = l .v; w = n; x = l .x; y = l .y; z = l .z; hh = l .hh; vv = l .vv }
-
--- with another x
-abbrev pub withX : ℤ → Level → Level
-withX n l = record { h = l .h; v = l .v; w = l .w; x = n; y = l .y; z = l .z; hh = l .hh; vv = l .vv }
-
--- with another y
-abbrev pub withY : ℤ → Level → Level
-withY n l = record { h = l .h; v = l .v; w = l .w; x = l .x; y = n; z = l .z; hh = l .hh; vv = l .vv }
-
--- with another z
-abbrev pub withZ : ℤ → Level → Level
-withZ n l = record { h = l .h; v = l .v; w = l .w; x = l .x; y = l .y; z = n; hh = l .hh; vv = l .vv }
+-- a move by a register, which is set to the distance
+abbrev pub registerMove : Register → Setting → State → List ℕ → Outcome
+registerMove register setting s params =
+    let n = distanceOr (registerOf register (s .level)) params in
+    movesTo (directionOf register) s n (movedByRegister register (setting .ruler) (s .font .scale) n (s .level)) nothing
 
 -- by its kind, in appendix A's order; bop, eop and what stands outside pages are none of a page's own commands
 abbrev pub afterKind : Kind → Setting → State → Command → Outcome
@@ -137,16 +131,12 @@ afterKind Bop setting s c = continues s nothing
 afterKind Eop setting s c = continues s nothing
 afterKind Push setting s c = continues (pushed s) nothing
 afterKind Pop setting s c = continues (popped s) nothing
-afterKind Right setting s c = move Direction.Sideways setting s (distance (c .params))
-afterKind W setting s c =
-    let n = distanceOr (s .level .w) (c .params) in move Direction.Sideways setting (withNumbers s (withW n (s .level))) n
-afterKind X setting s c =
-    let n = distanceOr (s .level .x) (c .params) in move Direction.Sideways setting (withNumbers s (withX n (s .level))) n
-afterKind Down setting s c = move Direction.Down setting s (distance (c .params))
-afterKind Y setting s c =
-    let n = distanceOr (s .level .y) (c .params) in move Direction.Down setting (withNumbers s (withY n (s .level))) n
-afterKind Z setting s c =
-    let n = distanceOr (s .level .z) (c .params) in move Direction.Down setting (withNumbers s (withZ n (s .level))) n
+afterKind Right setting s c = plainMove Direction.Sideways setting s (c .params)
+afterKind W setting s c = registerMove Register.W setting s (c .params)
+afterKind X setting s c = registerMove Register.X setting s (c .params)
+afterKind Down setting s c = plainMove Direction.Down setting s (c .params)
+afterKind Y setting s c = registerMove Register.Y setting s (c .params)
+afterKind Z setting s c = registerMove Register.Z setting s (c .params)
 afterKind Select setting s c =
     continues (record { level = s .level; saved = s .saved; font = fontOf setting (selectedFont (c .opcode) (c .params)) }) nothing
 afterKind Special setting s c = continues s special

@@ -27,10 +27,13 @@ use Rattle.volume.specs.History.{history}
 use Rattle.volume.specs.Steps.{Tells, AllStanding, Lawfully, summaryOf, ScanKeeps}
 use Rattle.state.specs.declared.Level.{Level}
 use Rattle.state.specs.declared.Font.{Font}
+use Rattle.state.specs.declared.moving.Direction.{Direction}
 use Rattle.state.specs.declared.moving.Direction.the-variants as Direction
 use Rattle.state.specs.declared.moving.Ruler.{Ruler}
+use Rattle.state.specs.declared.registers.Register.{Register}
+use Rattle.state.specs.declared.registers.Register.the-variants as Register
 use Rattle.state.specs.Moving.{leaves}
-use Rattle.state.specs.Registers.{State, freshState, pushed, popped, movedBy, characterMoved, ruleMoved}
+use Rattle.state.specs.Registers.{State, freshState, pushed, popped, spotOf, movedBy, characterMoved, ruleMoved, registerOf, directionOf, movedByRegister}
 use Rattle.state.specs.Steps.{Bounded}
 use Rattle.page.specs.declared.Record.{Record}
 use Rattle.page.specs.declared.Counts.{Counts}
@@ -47,7 +50,8 @@ use Rattle.page.specs.declared.PagePlaced.{PagePlaced}
 use Rattle.page.specs.declared.PagePlaced.the-variants as PagePlaced
 use Rattle.page.specs.Records.{placementRecordSize, recordBytes, ruleRecord}
 use Rattle.page.specs.PageList.{Located, pageOf}
-use Rattle.page.specs.Placing.{Setting, Added, nothing, placed, missing, special, Outcome, continues, leavesRange, withNumbers, fontBy, lookedFor, setCharacter, putCharacter, isVisible, distanceOr, withW, withX, withY, withZ, after, Contents, placing}
+use Rattle.page.specs.Blocks.{Frame, opening, closing, ending, inside, frameOf}
+use Rattle.page.specs.Placing.{Setting, Added, nothing, placed, missing, special, Outcome, continues, leavesRange, withNumbers, fontBy, lookedFor, setCharacter, putCharacter, isVisible, distanceOr, after, Contents, placing}
 
 -- ---- records
 
@@ -138,8 +142,8 @@ stateWith level saved font = record { level = level; saved = saved; font = font 
 -- the outcome of what the code says that a command does and adds
 abbrev pub did : Ruler → State → Turn → Adds → Outcome
 did ruler s Turn.Stay adds = continues s (addedOf adds)
-did ruler s (Turn.Sideways level n) adds = continues (withNumbers s (movedBy Direction.Sideways ruler (s .font .scale) n level)) (addedOf adds)
-did ruler s (Turn.Down level n) adds = continues (withNumbers s (movedBy Direction.Down ruler (s .font .scale) n level)) (addedOf adds)
+did ruler s (Turn.By direction n) adds = continues (withNumbers s (movedBy direction ruler (s .font .scale) n (s .level))) (addedOf adds)
+did ruler s (Turn.ByRegister register n) adds = continues (withNumbers s (movedByRegister register ruler (s .font .scale) n (s .level))) (addedOf adds)
 did ruler s (Turn.PastCharacter width escapement) adds = continues (withNumbers s (characterMoved ruler width escapement (s .level))) (addedOf adds)
 did ruler s (Turn.PastRule width) adds = continues (withNumbers s (ruleMoved ruler (s .font .scale) width (s .level))) (addedOf adds)
 did ruler s Turn.Push adds = continues (pushed s) (addedOf adds)
@@ -148,48 +152,39 @@ did ruler s (Turn.Select font) adds = continues (record { level = s .level; save
 did ruler s Turn.End adds = continues s (addedOf adds)
 did ruler s Turn.Leave adds = leavesRange
 
+-- a move by n in a direction from a level stays in range
+abbrev pub Stays : Direction → Level → ℤ → Type 0
+Stays direction level n = (natAbs n ≤ 2 ^ 31) × (leaves (spotOf direction level .position +ℤ n) ≡ false)
+
 -- what the page's methods need of a turn
 abbrev pub Safe : Level → Turn → Type 0
 Safe now Turn.Stay = Unit {0}
-Safe now (Turn.Sideways level n) = Bounded level × (natAbs n ≤ 2 ^ 31) × (leaves (level .h +ℤ n) ≡ false)
-Safe now (Turn.Down level n) = Bounded level × (natAbs n ≤ 2 ^ 31) × (leaves (level .v +ℤ n) ≡ false)
-Safe now (Turn.PastCharacter width escapement) = (natAbs width ≤ 2 ^ 31) × (natAbs escapement ≤ 2 ^ 31) × (leaves (now .h +ℤ width) ≡ false)
-Safe now (Turn.PastRule width) = (natAbs width ≤ 2 ^ 31) × (leaves (now .h +ℤ width) ≡ false)
+Safe now (Turn.By direction n) = Stays direction now n
+Safe now (Turn.ByRegister register n) = Stays (directionOf register) now n
+Safe now (Turn.PastCharacter width escapement) = Stays Direction.Sideways now width × (natAbs escapement ≤ 2 ^ 31)
+Safe now (Turn.PastRule width) = Stays Direction.Sideways now width
 Safe now Turn.Push = Unit {0}
 Safe now Turn.Pop = Unit {0}
 Safe now (Turn.Select font) = Known font
 Safe now Turn.End = Unit {0}
 Safe now Turn.Leave = Unit {0}
 
--- a turn that neither changes the depth nor ends the page
-abbrev pub Plain : Turn → Type 0
-Plain Turn.Stay = Unit {0}
-Plain (Turn.Sideways level n) = Unit {0}
-Plain (Turn.Down level n) = Unit {0}
-Plain (Turn.PastCharacter width escapement) = Unit {0}
-Plain (Turn.PastRule width) = Unit {0}
-Plain Turn.Push = ⊥
-Plain Turn.Pop = ⊥
-Plain (Turn.Select font) = Unit {0}
-Plain Turn.End = ⊥
-Plain Turn.Leave = Unit {0}
+-- what a turn is to the blocks of its page
+abbrev pub turnFrame : Turn → Frame
+turnFrame Turn.Stay = inside
+turnFrame (Turn.By direction n) = inside
+turnFrame (Turn.ByRegister register n) = inside
+turnFrame (Turn.PastCharacter width escapement) = inside
+turnFrame (Turn.PastRule width) = inside
+turnFrame Turn.Push = opening
+turnFrame Turn.Pop = closing
+turnFrame (Turn.Select font) = inside
+turnFrame Turn.End = ending
+turnFrame Turn.Leave = inside
 
--- whether a kind changes the depth or ends the page
-abbrev pub keepsDepth : Kind → Bool
-keepsDepth kind = cond (is kind Kind.Push) false (cond (is kind Kind.Pop) false (cond (is kind Kind.Eop) false true))
-
--- a turn is one of its command's kind
+-- a turn is to the blocks what its command's kind is
 abbrev pub Suits : Kind → Turn → Type 0
-Suits kind Turn.Stay = keepsDepth kind ≡ true
-Suits kind (Turn.Sideways level n) = keepsDepth kind ≡ true
-Suits kind (Turn.Down level n) = keepsDepth kind ≡ true
-Suits kind (Turn.PastCharacter width escapement) = keepsDepth kind ≡ true
-Suits kind (Turn.PastRule width) = keepsDepth kind ≡ true
-Suits kind Turn.Push = kind ≡ Kind.Push
-Suits kind Turn.Pop = kind ≡ Kind.Pop
-Suits kind (Turn.Select font) = keepsDepth kind ≡ true
-Suits kind Turn.End = kind ≡ Kind.Eop
-Suits kind Turn.Leave = keepsDepth kind ≡ true
+Suits kind turn = turnFrame turn ≡ frameOf kind
 
 -- what the code holds, as the setting of the meaning
 abbrev pub termsSetting : Terms → List ℕ → List Command → Setting
@@ -208,7 +203,7 @@ CharacterAsks terms table level font sets code r =
     → let setting = termsSetting terms table volume in
     Comes (terms .ruler) level font
     (λ s. cond sets (setCharacter setting s code (lookedFor setting font code)) (putCharacter setting s code (lookedFor setting font code))) (r .turn) (r .adds)
-    × Plain (r .turn)
+    × (turnFrame (r .turn) ≡ inside)
 
 -- what a command asks
 abbrev pub CommandAsks : Setting → Level → Font → Command → Asked → Type 0
@@ -221,21 +216,22 @@ ruleBy terms level height width =
     (placed (ruleRecord (terms .page) level (roundedUp (terms .ruler .k) height) (roundedUp (terms .ruler .k) width)))
     nothing
 
--- the turn of a move from a level, and of a move past a rule
-abbrev pub sidewaysTurn : Level → ℤ → Turn
-sidewaysTurn level n = cond (leaves (level .h +ℤ n)) Turn.Leave (Turn.Sideways level n)
+-- a turn that moves by n in a direction from a level, unless h or v would leave its range
+abbrev pub unlessLeft : Direction → Level → ℤ → Turn → Turn
+unlessLeft direction level n turn = cond (leaves (spotOf direction level .position +ℤ n)) Turn.Leave turn
 
--- down
-abbrev pub downTurn : Level → ℤ → Turn
-downTurn level n = cond (leaves (level .v +ℤ n)) Turn.Leave (Turn.Down level n)
+-- the turn of a move by its own distance
+abbrev pub plainTurn : Direction → Level → List ℕ → Turn
+plainTurn direction level params = let n = distance params in unlessLeft direction level n (Turn.By direction n)
 
--- past a rule
-abbrev pub ruleTurn : Level → ℤ → Turn
-ruleTurn level width = cond (leaves (level .h +ℤ width)) Turn.Leave (Turn.PastRule width)
+-- the turn of a move by a register
+abbrev pub registerTurn : Register → Level → List ℕ → Turn
+registerTurn register level params =
+    let n = distanceOr (registerOf register level) params in unlessLeft (directionOf register) level n (Turn.ByRegister register n)
 
 -- what a rule asks, set or put
 pub record RuleAsks (terms : Terms) (level : Level) (sets : Bool) (params : List ℕ) (r : Asked) : Type 0 where
-  pub turn-is : r .turn ≡ cond sets (ruleTurn level (ruleWidth params)) Turn.Stay
+  pub turn-is : r .turn ≡ cond sets (unlessLeft Direction.Sideways level (ruleWidth params) (Turn.PastRule (ruleWidth params))) Turn.Stay
   pub adds-are : addedOf (r .adds) ≡ ruleBy terms level (ruleHeight params) (ruleWidth params)
   pub words : AddsInWords (r .adds)
 
@@ -250,12 +246,12 @@ turnOf Kind.Bop level params = Turn.Stay
 turnOf Kind.Eop level params = Turn.End
 turnOf Kind.Push level params = Turn.Push
 turnOf Kind.Pop level params = Turn.Pop
-turnOf Kind.Right level params = sidewaysTurn level (distance params)
-turnOf Kind.W level params = sidewaysTurn (withW (distanceOr (level .w) params) level) (distanceOr (level .w) params)
-turnOf Kind.X level params = sidewaysTurn (withX (distanceOr (level .x) params) level) (distanceOr (level .x) params)
-turnOf Kind.Down level params = downTurn level (distance params)
-turnOf Kind.Y level params = downTurn (withY (distanceOr (level .y) params) level) (distanceOr (level .y) params)
-turnOf Kind.Z level params = downTurn (withZ (distanceOr (level .z) params) level) (distanceOr (level .z) params)
+turnOf Kind.Right level params = plainTurn Direction.Sideways level params
+turnOf Kind.W level params = registerTurn Register.W level params
+turnOf Kind.X level params = registerTurn Register.X level params
+turnOf Kind.Down level params = plainTurn Direction.Down level params
+turnOf Kind.Y level params = registerTurn Register.Y level params
+turnOf Kind.Z level params = registerTurn Register.Z level params
 turnOf Kind.Select level params = Turn.Stay
 turnOf Kind.Special level params = Turn.Stay
 turnOf Kind.Define level params = Turn.Stay

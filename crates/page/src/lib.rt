@@ -1,8 +1,9 @@
 // Placing one page: the records of its commands, their counts, and the output area.
 use refusals::Refusal;
 use state::Font;
-use state::Level;
+use state::moving::Direction;
 use state::moving::Ruler;
+use state::registers::Register;
 
 pub mod fonts;
 pub mod placing;
@@ -46,13 +47,16 @@ pub enum Adds {
     Special,
 }
 
-// What a command does to the page's state: a move has the level that it starts from and the distance
+// What a command does to the page's state
 pub enum Turn {
     Stay,
-    Sideways(Level, i64),
-    Down(Level, i64),
-    // by the width, and the escapement in pixels
+    // by a distance in a direction
+    By(Direction, i64),
+    // by a distance that a register is set to
+    ByRegister(Register, i64),
+    // by the width of a character that is set, and its escapement in pixels
     PastCharacter(i64, i64),
+    // by the width of a rule that is set
     PastRule(i64),
     Push,
     Pop,

@@ -12,6 +12,9 @@ use commands::parameters;
 use state::Font;
 use state::Level;
 use state::moving;
+use state::moving::Direction;
+use state::registers;
+use state::registers::Register;
 use widths::scaling;
 use widths::table;
 use widths::table::Place;
@@ -26,9 +29,8 @@ ghost use Rattle.commands.specs.Lengths.{lengths};
 ghost use Rattle.commands.specs.Commands.{Whole};
 ghost use Rattle.volume.specs.History.{history};
 ghost use Rattle.state.specs.Steps.{Bounded};
-ghost use Rattle.commands.specs.declared.Kind.the-variants.{W, X, Y, Z};
 ghost use Rattle.page.specs.Placing.{distanceOr};
-ghost use Rattle.page.specs.Steps.{addedOf, AddsInWords, Known, Told, termsSetting, CharacterAsks, ruleBy, sidewaysTurn, downTurn, ruleTurn, turnOf, command, MoveFits, RuleAsks, CommandAsks, StepAsks};
+ghost use Rattle.page.specs.Steps.{addedOf, AddsInWords, Known, Told, termsSetting, CharacterAsks, ruleBy, unlessLeft, plainTurn, registerTurn, turnOf, command, MoveFits, RuleAsks, CommandAsks, StepAsks};
 
 // Where the search for a character starts: records of one font whose codes follow each other are as far apart as their codes.
 fn guess(hint: usize, byte: u64) -> usize
@@ -87,15 +89,9 @@ fn character(
                 };
             }
             let width = scaling::scale_width(font.scale, metric.width);
-            if moving::leaves_range(level.h, width) {
-                return Asked {
-                    turn: Turn::Leave,
-                    adds: adds,
-                    hint: hint,
-                };
-            }
+            let past = Turn::PastCharacter(width, escapement);
             Asked {
-                turn: Turn::PastCharacter(width, escapement),
+                turn: unless_left(Direction::Sideways, level, width, past),
                 adds: adds,
                 hint: hint,
             }
@@ -126,37 +122,25 @@ fn rule_adds(terms: Terms, level: Level, height: i64, width: i64) -> Adds
     })
 }
 
-// Sideways by n from a level, unless h would leave its range.
-fn sideways_from(level: Level, n: i64) -> Turn
+// A turn that moves by n in a direction, unless h or v would leave its range.
+fn unless_left(direction: Direction, level: Level, n: i64, turn: Turn) -> Turn
     requires { ⌜ Bounded level × (natAbs n ≤ 2 ^ 31) ⌝ }
-    ensures { λ r. ⌜ r ≡ sidewaysTurn level n ⌝ }
+    ensures { λ r. ⌜ r ≡ unlessLeft direction level n turn ⌝ }
 {
-    if moving::leaves_range(level.h, n) {
+    let spot = registers::spot_of(direction, level);
+    if moving::leaves_range(spot.position, n) {
         return Turn::Leave;
     }
-    Turn::Sideways(level, n)
+    turn
 }
 
-// Down by n from a level, unless v would leave its range.
-fn down_from(level: Level, n: i64) -> Turn
-    requires { ⌜ Bounded level × (natAbs n ≤ 2 ^ 31) ⌝ }
-    ensures { λ r. ⌜ r ≡ downTurn level n ⌝ }
+// The turn of a move by its own distance.
+fn plain_turn(direction: Direction, level: Level, params: &[u8]) -> Turn
+    requires { ⌜ Bounded level × (length (now params) ≤ 4) ⌝ }
+    ensures { λ r. ⌜ r ≡ plainTurn direction level (now (params .entry)) ⌝ }
 {
-    if moving::leaves_range(level.v, n) {
-        return Turn::Leave;
-    }
-    Turn::Down(level, n)
-}
-
-// Past a rule of so much width, unless h would leave its range.
-fn past_rule(level: Level, width: i64) -> Turn
-    requires { ⌜ Bounded level × (natAbs width ≤ 2 ^ 31) ⌝ }
-    ensures { λ r. ⌜ r ≡ ruleTurn level width ⌝ }
-{
-    if moving::leaves_range(level.h, width) {
-        return Turn::Leave;
-    }
-    Turn::PastRule(width)
+    let n = parameters::distance_of(params);
+    unless_left(direction, level, n, Turn::By(direction, n))
 }
 
 // The distance of a move: w0, x0, y0 and z0 have none and take the register.
@@ -170,44 +154,14 @@ fn distance_or(register: i64, params: &[u8]) -> i64
     parameters::distance_of(params)
 }
 
-fn w_turn(level: Level, params: &[u8]) -> Turn
+// The turn of a move by a register.
+fn register_turn(register: Register, level: Level, params: &[u8]) -> Turn
     requires { ⌜ Bounded level × (length (now params) ≤ 4) ⌝ }
-    ensures { λ r. ⌜ r ≡ turnOf W level (now (params .entry)) ⌝ }
+    ensures { λ r. ⌜ r ≡ registerTurn register level (now (params .entry)) ⌝ }
 {
-    let n = distance_or(level.w, params);
-    let mut next = level;
-    next.w = n;
-    sideways_from(next, n)
-}
-
-fn x_turn(level: Level, params: &[u8]) -> Turn
-    requires { ⌜ Bounded level × (length (now params) ≤ 4) ⌝ }
-    ensures { λ r. ⌜ r ≡ turnOf X level (now (params .entry)) ⌝ }
-{
-    let n = distance_or(level.x, params);
-    let mut next = level;
-    next.x = n;
-    sideways_from(next, n)
-}
-
-fn y_turn(level: Level, params: &[u8]) -> Turn
-    requires { ⌜ Bounded level × (length (now params) ≤ 4) ⌝ }
-    ensures { λ r. ⌜ r ≡ turnOf Y level (now (params .entry)) ⌝ }
-{
-    let n = distance_or(level.y, params);
-    let mut next = level;
-    next.y = n;
-    down_from(next, n)
-}
-
-fn z_turn(level: Level, params: &[u8]) -> Turn
-    requires { ⌜ Bounded level × (length (now params) ≤ 4) ⌝ }
-    ensures { λ r. ⌜ r ≡ turnOf Z level (now (params .entry)) ⌝ }
-{
-    let n = distance_or(level.z, params);
-    let mut next = level;
-    next.z = n;
-    down_from(next, n)
+    let n = distance_or(registers::register_of(register, level), params);
+    let direction = registers::direction_of(register);
+    unless_left(direction, level, n, Turn::ByRegister(register, n))
 }
 
 // The turn of a command that adds nothing else, by its kind.
@@ -216,12 +170,12 @@ fn turn_of(kind: Kind, level: Level, params: &[u8]) -> Turn
     ensures { λ r. ⌜ r ≡ turnOf kind level (now (params .entry)) ⌝ }
 {
     match kind {
-        Kind::Right => sideways_from(level, parameters::distance_of(params)),
-        Kind::W => w_turn(level, params),
-        Kind::X => x_turn(level, params),
-        Kind::Down => down_from(level, parameters::distance_of(params)),
-        Kind::Y => y_turn(level, params),
-        Kind::Z => z_turn(level, params),
+        Kind::Right => plain_turn(Direction::Sideways, level, params),
+        Kind::W => register_turn(Register::W, level, params),
+        Kind::X => register_turn(Register::X, level, params),
+        Kind::Down => plain_turn(Direction::Down, level, params),
+        Kind::Y => register_turn(Register::Y, level, params),
+        Kind::Z => register_turn(Register::Z, level, params),
         Kind::Push => Turn::Push,
         Kind::Pop => Turn::Pop,
         Kind::Eop => Turn::End,
@@ -238,8 +192,9 @@ fn rule(terms: Terms, level: Level, sets: bool, params: &[u8], hint: usize) -> A
     let width = parameters::rule_width(params);
     let adds = rule_adds(terms, level, height, width);
     if sets {
+        let past = Turn::PastRule(width);
         return Asked {
-            turn: past_rule(level, width),
+            turn: unless_left(Direction::Sideways, level, width, past),
             adds: adds,
             hint: hint,
         };

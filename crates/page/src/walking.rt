@@ -6,6 +6,8 @@ use crate::Walked;
 use crate::records;
 use crate::steps;
 use state::Page;
+use state::moving::Direction;
+use state::registers;
 ghost use mathlib.Core.Path.{_≡_};
 ghost use lib.ListN.{length};
 ghost use Rattle.volume.specs.History.{history};
@@ -57,13 +59,14 @@ pub fn walk(
         counts = records::note(&mut *out, counts, adds);
         match turn {
             Turn::Stay => {}
-            Turn::Sideways(from, n) => {
-                page.now = from;
-                page = page.sideways(ruler, n);
-            }
-            Turn::Down(from, n) => {
-                page.now = from;
-                page = page.down(ruler, n);
+            Turn::By(direction, n) => match direction {
+                Direction::Sideways => page = page.sideways(ruler, n),
+                Direction::Down => page = page.down(ruler, n),
+            },
+            Turn::ByRegister(register, n) => {
+                let scale = page.font.scale;
+                let next = registers::moved_by_register(register, ruler, scale, n, now);
+                page = page.moved_to(next);
             }
             Turn::PastCharacter(width, escapement) => {
                 page = page.past_character(ruler, width, escapement);
@@ -79,7 +82,7 @@ pub fn walk(
             }
             Turn::Select(font) => {
                 hint = exchanged(&mut hints, page.font.number, font.number, hint);
-                page.font = font;
+                page = page.select(font);
             }
             Turn::End => return Walked::Through(counts),
             Turn::Leave => return Walked::Left(place),

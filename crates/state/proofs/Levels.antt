@@ -1,6 +1,6 @@
 -- Levels stay in their ranges, and push and pop give back what they saved. Assumes nothing.
 use Prim.Native.Nat.{ℕ, zero, suc, _+_, _-_, _≤_, _<_, _^_}
-use mathlib.Core.Path.{_≡_, refl, ap, ap₂, subst}
+use mathlib.Core.Path.{_≡_, refl, sym, ap, ap₂, subst}
 use mathlib.Core.Bool.{false, cond}
 use mathlib.Core.List.{List, _∷_}
 use native.Mathlib.Numerals.{add-one, sub-one}
@@ -18,7 +18,9 @@ use Rattle.state.specs.declared.moving.Direction.the-variants.{Sideways,
 use Rattle.state.specs.declared.moving.Ruler.{Ruler}
 use Rattle.state.specs.declared.moving.Spot.{Spot}
 use Rattle.state.specs.Moving.{leaves, near, settled}
-use Rattle.state.specs.Registers.{State, zeroLevel, pushed, popped, spotOf, atSpot, movedBy, characterMoved, ruleMoved}
+use Rattle.state.specs.declared.registers.Register.{Register}
+use Rattle.state.specs.declared.registers.Register.the-variants.{W, X, Y, Z}
+use Rattle.state.specs.Registers.{State, zeroLevel, pushed, popped, spotOf, atSpot, movedBy, characterMoved, ruleMoved, registerOf, withRegister, directionOf, movedByRegister}
 use Rattle.state.specs.Steps.{savedOf, pageState, Ruled, Bounded, AllBounded}
 use Rattle.state.proofs.Nearness.{settled-small}
 
@@ -38,6 +40,11 @@ pub pixel-in : (ruler : Ruler) (scale : ℕ) (position pixel : ℤ) → Ruled ru
 pixel-in ruler scale position pixel ruled stays =
     omega (arith, settled-small ruler (ruled .unit) position pixel, position-in position stays, ruled .drift-small)
 
+-- the spot of a level in its ranges is small in either direction
+pub spot-in : (direction : Direction) (l : Level) → Bounded l → (natAbs (spotOf direction l .position) ≤ 2 ^ 31) × (natAbs (spotOf direction l .pixel) ≤ 2 ^ 31)
+spot-in Sideways l b = (omega (arith, b .h-in), b .hh-in)
+spot-in Down l b = (omega (arith, b .v-in), b .vv-in)
+
 -- a level is in its ranges where what moved in it is
 bounded-at : (direction : Direction) (spot : Spot) (l : Level) → Bounded l
     → natAbs (spot .position) ≤ 2147483647 → natAbs (spot .pixel) ≤ 2 ^ 31 → Bounded (atSpot direction spot l)
@@ -52,17 +59,14 @@ bounded-settled : (direction : Direction) (ruler : Ruler) (scale : ℕ) (positio
 bounded-settled direction ruler scale position pixel l ruled b stays =
     bounded-at direction (settled ruler position pixel) l b (position-in position stays) (pixel-in ruler scale position pixel ruled stays)
 
--- the pixel that moves along with a position, before it is held near the centre
-abbrev pub along : Direction → Ruler → ℕ → ℤ → ℤ → ℤ → ℤ
-along direction ruler scale position pixel n = cond (near direction n scale) (pixel +ℤ rounded (ruler .k) n) (rounded (ruler .k) (position +ℤ n))
-
 -- a move keeps a level in its ranges, in either direction
 pub bounded-moved : (direction : Direction) (ruler : Ruler) (scale : ℕ) (n : ℤ) (l : Level) → Ruled ruler scale → Bounded l
     → leaves (spotOf direction l .position +ℤ n) ≡ false
     → Bounded (movedBy direction ruler scale n l)
 bounded-moved direction ruler scale n l ruled b stays =
     let spot = spotOf direction l in
-    bounded-settled direction ruler scale (spot .position +ℤ n) (along direction ruler scale (spot .position) (spot .pixel) n) l ruled b stays
+    let pixel = cond (near direction n scale) (spot .pixel +ℤ rounded (ruler .k) n) (rounded (ruler .k) (spot .position +ℤ n)) in
+    bounded-settled direction ruler scale (spot .position +ℤ n) pixel l ruled b stays
 
 -- so does the move after a rule
 pub bounded-rule : (ruler : Ruler) (scale : ℕ) (width : ℤ) (l : Level) → Ruled ruler scale → Bounded l → leaves (l .h +ℤ width) ≡ false → Bounded (ruleMoved ruler scale width l)
@@ -73,6 +77,50 @@ pub bounded-character : (ruler : Ruler) (scale : ℕ) (width escapement : ℤ) (
     → Bounded (characterMoved ruler width escapement l)
 bounded-character ruler scale width escapement l ruled b stays =
     bounded-settled Sideways ruler scale (l .h +ℤ width) (l .hh +ℤ escapement) l ruled b stays
+
+-- ---- registers
+
+-- what a register of such a level holds
+pub register-in : (register : Register) (l : Level) → Bounded l → natAbs (registerOf register l) ≤ 2 ^ 31
+register-in W l b = b .w-in
+register-in X l b = b .x-in
+register-in Y l b = b .y-in
+register-in Z l b = b .z-in
+
+-- the level with another number in a register is in its ranges too
+pub bounded-register : (register : Register) (n : ℤ) (l : Level) → Bounded l → natAbs n ≤ 2 ^ 31 → Bounded (withRegister register n l)
+bounded-register W n l b small =
+    record { h-in = b .h-in; v-in = b .v-in; w-in = small; x-in = b .x-in; y-in = b .y-in; z-in = b .z-in; hh-in = b .hh-in; vv-in = b .vv-in }
+bounded-register X n l b small =
+    record { h-in = b .h-in; v-in = b .v-in; w-in = b .w-in; x-in = small; y-in = b .y-in; z-in = b .z-in; hh-in = b .hh-in; vv-in = b .vv-in }
+bounded-register Y n l b small =
+    record { h-in = b .h-in; v-in = b .v-in; w-in = b .w-in; x-in = b .x-in; y-in = small; z-in = b .z-in; hh-in = b .hh-in; vv-in = b .vv-in }
+bounded-register Z n l b small =
+    record { h-in = b .h-in; v-in = b .v-in; w-in = b .w-in; x-in = b .x-in; y-in = b .y-in; z-in = small; hh-in = b .hh-in; vv-in = b .vv-in }
+
+-- and stands where the level stands
+pub register-spot : (register : Register) (direction : Direction) (n : ℤ) (l : Level) → spotOf direction (withRegister register n l) ≡ spotOf direction l
+register-spot W Sideways n l = refl
+register-spot W Down n l = refl
+register-spot X Sideways n l = refl
+register-spot X Down n l = refl
+register-spot Y Sideways n l = refl
+register-spot Y Down n l = refl
+register-spot Z Sideways n l = refl
+register-spot Z Down n l = refl
+
+-- so a move by it stays in range where one from the level does
+pub register-stays : (register : Register) (n : ℤ) (l : Level) → leaves (spotOf (directionOf register) l .position +ℤ n) ≡ false
+    → leaves (spotOf (directionOf register) (withRegister register n l) .position +ℤ n) ≡ false
+register-stays register n l stays =
+    subst (λ (spot : Spot). leaves (spot .position +ℤ n) ≡ false) (sym (register-spot register (directionOf register) n l)) stays
+
+-- and keeps the level in its ranges
+pub bounded-by-register : (register : Register) (ruler : Ruler) (scale : ℕ) (n : ℤ) (l : Level) → Ruled ruler scale → Bounded l → natAbs n ≤ 2 ^ 31
+    → leaves (spotOf (directionOf register) l .position +ℤ n) ≡ false
+    → Bounded (movedByRegister register ruler scale n l)
+bounded-by-register register ruler scale n l ruled b small stays =
+    bounded-moved (directionOf register) ruler scale n (withRegister register n l) ruled (bounded-register register n l b small) (register-stays register n l stays)
 
 -- ---- the levels that are saved
 

@@ -1,3 +1,3 @@
 pub mod Levels
 pub mod Nearness
-pub mod Spots
+pub mod Words

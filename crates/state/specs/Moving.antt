@@ -27,7 +27,7 @@ drifted drift centre pixel = cond (ltb drift (natAbs (pixel -ℤ centre))) (cond
 abbrev pub settled : Ruler → ℤ → ℤ → Spot
 settled ruler position pixel = record { position = position; pixel = drifted (ruler .drift) (rounded (ruler .k) position) pixel }
 
--- "h grows by n. If [near], hh grows by rounded n; else hh is the rounded new h"; "Down by n: the same with v and vv"
-abbrev pub moved : Direction → Ruler → ℕ → ℤ → ℤ → ℤ → Spot
-moved direction ruler scale position pixel n =
-    settled ruler (position +ℤ n) (cond (near direction n scale) (pixel +ℤ rounded (ruler .k) n) (rounded (ruler .k) (position +ℤ n)))
+-- a move by n: the position grows by n, and the pixel by rounded n where the move is near, else the pixel is the rounded new position
+abbrev pub moved : Direction → Ruler → ℕ → ℤ → Spot → Spot
+moved direction ruler scale n spot =
+    settled ruler (spot .position +ℤ n) (cond (near direction n scale) (spot .pixel +ℤ rounded (ruler .k) n) (rounded (ruler .k) (spot .position +ℤ n)))

@@ -8,6 +8,8 @@ use Rattle.state.specs.declared.moving.Direction.{Direction}
 use Rattle.state.specs.declared.moving.Direction.the-variants.{Sideways, Down}
 use Rattle.state.specs.declared.moving.Ruler.{Ruler}
 use Rattle.state.specs.declared.moving.Spot.{Spot}
+use Rattle.state.specs.declared.registers.Register.{Register}
+use Rattle.state.specs.declared.registers.Register.the-variants.{W, X, Y, Z}
 use Rattle.state.specs.Moving.{settled, moved}
 
 -- the eight numbers, the levels that push saved, the newest first, and the font
@@ -47,24 +49,51 @@ popped s = poppedTo s (s .saved)
 
 -- ---- moves
 
--- h and hh, or v and vv
+-- the position and its pixel in a direction
 abbrev pub spotOf : Direction → Level → Spot
 spotOf Sideways l = record { position = l .h; pixel = l .hh }
 spotOf Down l = record { position = l .v; pixel = l .vv }
 
--- a level with another h and hh, or v and vv
+-- a level with another position and pixel in a direction
 abbrev pub atSpot : Direction → Spot → Level → Level
 atSpot Sideways spot l = record { h = spot .position; v = l .v; w = l .w; x = l .x; y = l .y; z = l .z; hh = spot .pixel; vv = l .vv }
 atSpot Down spot l = record { h = l .h; v = spot .position; w = l .w; x = l .x; y = l .y; z = l .z; hh = l .hh; vv = spot .pixel }
 
--- "Sideways by n", "Down by n: the same with v and vv"
+-- a level moved by n in a direction
 abbrev pub movedBy : Direction → Ruler → ℕ → ℤ → Level → Level
-movedBy direction ruler scale n l = atSpot direction (moved direction ruler scale (spotOf direction l .position) (spotOf direction l .pixel) n) l
+movedBy direction ruler scale n l = atSpot direction (moved direction ruler scale n (spotOf direction l)) l
 
--- "the set forms then add the width to h and the table's escapement to hh", and the check against D follows
+-- past a character that was set: h grows by the width, hh by the table's escapement, and hh is held near
 abbrev pub characterMoved : Ruler → ℤ → ℤ → Level → Level
 characterMoved ruler width escapement l = atSpot Sideways (settled ruler (l .h +ℤ width) (l .hh +ℤ escapement)) l
 
--- "Sideways by n, for any other command, set_rule included": the move after a rule of so much width
+-- past a rule that was set: a move sideways by its width
 abbrev pub ruleMoved : Ruler → ℕ → ℤ → Level → Level
 ruleMoved ruler scale width l = movedBy Sideways ruler scale width l
+
+-- ---- the registers w, x, y, z
+
+-- what a register holds
+abbrev pub registerOf : Register → Level → ℤ
+registerOf W l = l .w
+registerOf X l = l .x
+registerOf Y l = l .y
+registerOf Z l = l .z
+
+-- a level with n in a register
+abbrev pub withRegister : Register → ℤ → Level → Level
+withRegister W n l = record { h = l .h; v = l .v; w = n; x = l .x; y = l .y; z = l .z; hh = l .hh; vv = l .vv }
+withRegister X n l = record { h = l .h; v = l .v; w = l .w; x = n; y = l .y; z = l .z; hh = l .hh; vv = l .vv }
+withRegister Y n l = record { h = l .h; v = l .v; w = l .w; x = l .x; y = n; z = l .z; hh = l .hh; vv = l .vv }
+withRegister Z n l = record { h = l .h; v = l .v; w = l .w; x = l .x; y = l .y; z = n; hh = l .hh; vv = l .vv }
+
+-- the direction in which a register moves
+abbrev pub directionOf : Register → Direction
+directionOf W = Sideways
+directionOf X = Sideways
+directionOf Y = Down
+directionOf Z = Down
+
+-- a level with n in a register, moved by n in the register's direction
+abbrev pub movedByRegister : Register → Ruler → ℕ → ℤ → Level → Level
+movedByRegister register ruler scale n l = movedBy (directionOf register) ruler scale n (withRegister register n l)

@@ -22,7 +22,7 @@ ruler = record { k = record { p = 3; q = 10 }; drift = 2 }
 -- the same move so many times
 abbrev pub repeated : ℕ → ℤ → Spot → Spot
 repeated zero n spot = spot
-repeated (suc times) n spot = repeated times n (moved Sideways ruler 100 (spot .position) (spot .pixel) n)
+repeated (suc times) n spot = repeated times n (moved Sideways ruler 100 n spot)
 
 -- "*right 5 six times gives h 30, hh 11; −5 six times, hh −11"
 abbrev pub moveExamples : List MoveExample

@@ -4,6 +4,7 @@ use mathlib.Core.List.{List, [], _∷_}
 use lib.ListN.{getD}
 use lib.IntN.{natAbs}
 use Rattle.units.specs.Steps.{Accepted}
+use Rattle.state.specs.declared.Font.{Font}
 use Rattle.state.specs.declared.Level.{Level}
 use Rattle.state.specs.declared.Page.{Page}
 use Rattle.state.specs.declared.moving.Ruler.{Ruler}
@@ -21,6 +22,10 @@ pageState p = record { level = p .now; saved = savedOf (p .depth) (p .stack); fo
 -- a page with another current level
 abbrev pub withLevel : Page → Level → Page
 withLevel p l = record { now = l; depth = p .depth; font = p .font; stack = p .stack }
+
+-- a page with another font
+abbrev pub withFont : Page → Font → Page
+withFont p font = record { now = p .now; depth = p .depth; font = font; stack = p .stack }
 
 -- K and D of a resolution, and a font's scale or 0
 pub record Ruled (ruler : Ruler) (scale : ℕ) : Type 0 where

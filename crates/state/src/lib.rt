@@ -9,9 +9,10 @@ ghost use lib.IntN.{natAbs, _+ℤ_};
 ghost use Rattle.state.specs.declared.moving.Direction.the-variants.{Sideways, Down};
 ghost use Rattle.state.specs.Moving.{leaves};
 ghost use Rattle.state.specs.Registers.{zeroLevel, freshState, pushed, popped, movedBy, characterMoved, ruleMoved};
-ghost use Rattle.state.specs.Steps.{pageState, withLevel, Ruled, Bounded};
+ghost use Rattle.state.specs.Steps.{pageState, withLevel, withFont, Ruled, Bounded};
 
 pub mod moving;
+pub mod registers;
 
 // h, v, w, x, y, z and the pixel pair hh, vv
 pub struct Level {
@@ -80,11 +81,9 @@ impl Page {
         ensures { λ r. ⌜ r ≡ withLevel self (movedBy Sideways ruler (self .font .scale) n (self .now)) ⌝ }
     {
         let scale = self.font.scale;
-        let mut level = self.now;
-        let spot = moving::move_by(Direction::Sideways, ruler, scale, level.h, level.hh, n);
-        level.h = spot.position;
-        level.hh = spot.pixel;
-        self.now = level;
+        let level = self.now;
+        let next = registers::moved_by(Direction::Sideways, ruler, scale, n, level);
+        self.now = next;
         self
     }
 
@@ -95,11 +94,9 @@ impl Page {
         ensures { λ r. ⌜ r ≡ withLevel self (movedBy Down ruler (self .font .scale) n (self .now)) ⌝ }
     {
         let scale = self.font.scale;
-        let mut level = self.now;
-        let spot = moving::move_by(Direction::Down, ruler, scale, level.v, level.vv, n);
-        level.v = spot.position;
-        level.vv = spot.pixel;
-        self.now = level;
+        let level = self.now;
+        let next = registers::moved_by(Direction::Down, ruler, scale, n, level);
+        self.now = next;
         self
     }
 
@@ -109,11 +106,10 @@ impl Page {
         requires { ⌜ (natAbs width ≤ 2 ^ 31) × (natAbs escapement ≤ 2 ^ 31) × (leaves (self .now .h +ℤ width) ≡ false) ⌝ }
         ensures { λ r. ⌜ r ≡ withLevel self (characterMoved ruler width escapement (self .now)) ⌝ }
     {
-        let mut level = self.now;
+        let level = self.now;
         let spot = moving::settle(ruler, level.h + width, level.hh + escapement);
-        level.h = spot.position;
-        level.hh = spot.pixel;
-        self.now = level;
+        let next = registers::at_spot(Direction::Sideways, spot, level);
+        self.now = next;
         self
     }
 
@@ -124,6 +120,22 @@ impl Page {
         ensures { λ r. ⌜ r ≡ withLevel self (ruleMoved ruler (self .font .scale) width (self .now)) ⌝ }
     {
         self.sideways(ruler, width)
+    }
+
+    // At a level that a register has moved: the loop over a page finds it first, where its branches copy no array.
+    pub fn moved_to(mut self, level: Level) -> Self
+        ensures { λ r. ⌜ r ≡ withLevel self level ⌝ }
+    {
+        self.now = level;
+        self
+    }
+
+    // With another font.
+    pub fn select(mut self, font: Font) -> Self
+        ensures { λ r. ⌜ r ≡ withFont self font ⌝ }
+    {
+        self.font = font;
+        self
     }
 
     // One level deeper: the caller has stored the current level above the saved ones, where it copies no array.

@@ -1,10 +1,12 @@
 // Moving a position and its pixel: one move for both directions.
 use units::Ratio;
 ghost use mathlib.Core.Path.{_≡_};
+ghost use mathlib.Core.Bool.{false};
 ghost use Prim.Native.Nat.{_≤_, _^_};
 ghost use lib.IntN.{natAbs, _+ℤ_};
 ghost use Rattle.units.specs.Steps.{Accepted};
 ghost use Rattle.state.specs.Moving.{leaves, near, drifted, settled, moved};
+ghost use Rattle.state.specs.Steps.{Ruled};
 
 pub enum Direction {
     Sideways,
@@ -78,19 +80,13 @@ pub fn settle(ruler: Ruler, position: i64, pixel: i64) -> Spot
 }
 
 // A move by n in a direction.
-pub fn move_by(
-    direction: Direction,
-    ruler: Ruler,
-    scale: u64,
-    position: i64,
-    pixel: i64,
-    n: i64,
-) -> Spot
-    requires { ⌜ Accepted (ruler .k) × (ruler .drift ≤ 2) × (scale ≤ 134217727) ⌝ }
-    requires { ⌜ (natAbs position ≤ 2 ^ 31) × (natAbs pixel ≤ 2 ^ 31) × (natAbs n ≤ 2 ^ 31) × (natAbs (position +ℤ n) ≤ 2 ^ 31) ⌝ }
-    ensures { λ r. ⌜ r ≡ moved direction ruler scale position pixel n ⌝ }
+pub fn move_by(direction: Direction, ruler: Ruler, scale: u64, n: i64, spot: Spot) -> Spot
+    requires { ⌜ Ruled ruler scale × (natAbs (spot .position) ≤ 2 ^ 31) × (natAbs (spot .pixel) ≤ 2 ^ 31) ⌝ }
+    requires { ⌜ (natAbs n ≤ 2 ^ 31) × (leaves (spot .position +ℤ n) ≡ false) ⌝ }
+    ensures { λ r. ⌜ r ≡ moved direction ruler scale n spot ⌝ }
 {
-    let after = position + n;
+    let pixel = spot.pixel;
+    let after = spot.position + n;
     if is_near(direction, n, scale) {
         settle(ruler, after, pixel + units::round(ruler.k, n))
     } else {

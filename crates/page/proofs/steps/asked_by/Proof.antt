@@ -31,7 +31,7 @@ use Rattle.page.specs.declared.Turn.the-variants as Turn
 use Rattle.page.specs.declared.Asked.{Asked}
 use Rattle.page.specs.Placing.{Setting, Outcome, nothing, continues, fontOf, afterKind}
 use Rattle.page.specs.Steps.{stateWith, did, Safe, Suits, termsSetting, Comes, CharacterAsks, command, MoveFits, CommandAsks, FontIs}
-use Rattle.page.proofs.TurnLaws.{plain-suits, onlyTurns, move-fits, turn-does, turn-suits, turn-safe, asks-by-kind, rule-sets, rule-puts}
+use Rattle.page.proofs.TurnLaws.{onlyTurns, move-fits, turn-does, turn-suits, turn-safe, asks-by-kind, rule-sets, rule-puts}
 use Rattle.page.proofs.steps.asked_by.Statement.{statement}
 use Rattle.page.proofs.steps.asked_by.Tie as tie
 
@@ -146,13 +146,13 @@ module _ (c : tie.After-character) where
   sets told =
       let both = asked true (lt-ltb (begun .args .opcode) 132 (omega (arith, range told .1))) (history (now (begun .args .file))) in
       let comes = both .0 in
-      asks kinded told (c .character .result) (record { does = comes .does; safe = comes .safe; words = comes .words }) (plain-suits Kind.SetCharacter (c .character .result .turn) refl (both .1))
+      asks kinded told (c .character .result) (record { does = comes .does; safe = comes .safe; words = comes .words }) (both .1)
 
   puts : kinded .kind-of .result ≡ Kind.PutCharacter → Answered
   puts told =
       let both = asked false (le-ltb (begun .args .opcode) 132 (omega (arith, range told .0))) (history (now (begun .args .file))) in
       let comes = both .0 in
-      asks kinded told (c .character .result) (record { does = comes .does; safe = comes .safe; words = comes .words }) (plain-suits Kind.PutCharacter (c .character .result .turn) refl (both .1))
+      asks kinded told (c .character .result) (record { does = comes .does; safe = comes .safe; words = comes .words }) (both .1)
 
 returns : tie.Need-returns
 returns c = ⊎-elim (sets c) (puts c) (characters (c .before .before))
@@ -163,7 +163,7 @@ returns-2 c =
     let s = start k .args in
     let both = rule-sets (s .terms) (now (s .widths)) (history (now (s .file))) (s .level) (s .font) (now (s .params)) (start k .pre .1 .3) (bytes k) (c .rule .result) (c .rule .ensures) in
     let comes = both .0 in
-    asks k (c .before .enum-told .given .1) (c .rule .result) (record { does = comes .does; safe = comes .safe; words = comes .words }) (plain-suits Kind.SetRule (c .rule .result .turn) refl (both .1))
+    asks k (c .before .enum-told .given .1) (c .rule .result) (record { does = comes .does; safe = comes .safe; words = comes .words }) (both .1)
 
 returns-3 : tie.Need-returns-3
 returns-3 c =
@@ -171,7 +171,7 @@ returns-3 c =
     let s = start k .args in
     let both = rule-puts (s .terms) (now (s .widths)) (history (now (s .file))) (s .level) (s .font) (now (s .params)) (start k .pre .1 .3) (bytes k) (c .rule2 .result) (c .rule2 .ensures) in
     let comes = both .0 in
-    asks k (c .before .enum-told2 .given .1) (c .rule2 .result) (record { does = comes .does; safe = comes .safe; words = comes .words }) (plain-suits Kind.PutRule (c .rule2 .result .turn) refl (both .1))
+    asks k (c .before .enum-told2 .given .1) (c .rule2 .result) (record { does = comes .does; safe = comes .safe; words = comes .words }) (both .1)
 
 returns-4 : tie.Need-returns-4
 returns-4 c =

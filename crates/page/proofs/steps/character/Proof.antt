@@ -5,21 +5,25 @@ use Prim.Native.Nat.{ℕ, _≤_, _<_, _^_}
 use native.Mathlib.Omega.{arith}
 use borrow.Author.Needs.{needs, sfits-of}
 use borrow.Author.Tests.{not-true, not-false}
-use lib.IntN.{ℤ, natAbs, _+ℤ_}
+use lib.IntN.{ℤ, natAbs}
 use lib.ListN.{getD}
 use denote.Ref.{now}
 use mir.Syntax.{w64}
 use mir.Val.{toZ, ofZ}
 use mir.Facts.{toZ-ofZ}
 use Rattle.numbers.specs.Signs.{toTwos}
-use Rattle.numbers.proofs.Signed.{to-below, read}
+use Rattle.numbers.proofs.Signed.{to-below}
 use Rattle.widths.specs.Scaling.{scaledBy}
 use Rattle.widths.specs.LookUp.{found, codeByte, walk}
 use Rattle.widths.specs.Steps.{foundAt, Among}
 use Rattle.widths.proofs.TableLaws.{record-inside}
-use Rattle.state.specs.Moving.{leaves}
+use Rattle.state.specs.declared.moving.Direction.the-variants as Direction
+use Rattle.page.specs.declared.Turn.{Turn}
+use Rattle.page.specs.declared.Turn.the-variants as Turn
+use Rattle.page.specs.Steps.{unlessLeft}
 use Rattle.page.proofs.Found.{Hit, walk-found, found-scale, found-first, found-width, found-escapement}
-use Rattle.page.proofs.CharacterLaws.{absent-asks, Present, put-asks, leave-asks, set-asks}
+use Rattle.page.proofs.CharacterLaws.{absent-asks, Present, put-asks, set-asks}
+use Rattle.page.proofs.Words.{word}
 use Rattle.page.proofs.steps.character.Statement.{statement}
 use Rattle.page.proofs.steps.character.Tie as tie
 
@@ -119,43 +123,27 @@ width-is : (c : tie.After-scale-width) → let m = c .before .before .before .be
     toZ w64 (ofZ w64 (c .scale-width .result)) ≡ scaledBy (start m .args .font .scale) (m .metric-of .result .width)
 width-is c = toZ-ofZ (sfits-of (c .scale-width .ok)) ∙ c .scale-width .ensures
 
-h-is : (s : tie.Start) → toZ w64 (ofZ w64 (s .args .level .h)) ≡ s .args .level .h
-h-is s = read (s .args .level .h) (omega (arith, s .pre .1 .0 .h-in))
-
-leaves-range-requires : tie.Need-leaves-range-requires
-leaves-range-requires c κs =
-    let m = c .before .before .before .before .before in
-    let s = start m in (
-      subst (λ (z : ℤ). natAbs z ≤ 2 ^ 31) (sym (h-is s)) (omega (arith, s .pre .1 .0 .h-in)),
-      subst (λ (z : ℤ). natAbs z ≤ 2 ^ 31) (sym (width-is (c .before))) (present m .width-small),
-    )
-
-leaves-is : (c : tie.After-leaves-range) → let m = c .before .before .before .before .before .before in
-    c .leaves-range .result ≡ leaves (start m .args .level .h +ℤ scaledBy (start m .args .font .scale) (m .metric-of .result .width))
-leaves-is c =
-    c .leaves-range .ensures
-    ∙ ap₂ (λ (a b : ℤ). leaves (a +ℤ b)) (h-is (start (c .before .before .before .before .before .before))) (width-is (c .before .before))
+unless-left-requires : tie.Need-unless-left-requires
+unless-left-requires c κs =
+    let m = c .before .before .before .before in
+    (start m .pre .1 .0, subst (λ (z : ℤ). natAbs z ≤ 2 ^ 31) (sym (width-is c)) (present m .width-small))
 
 set : (c : tie.Else1) → start (c .before .before .before) .args .sets ≡ true
 set c = not-false (start (c .before .before .before) .args .sets) (c .if1 .left)
 
 returns-2 : tie.Need-returns-2
 returns-2 c =
-    leave-asks (present (c .before .before .before .before .before .before .before)) (set (c .before .before .before .before)) (sym (leaves-is (c .before)) ∙ c .if2 .taken)
-
-returns-3 : tie.Need-returns-3
-returns-3 c =
     let f = c .before .before in
     let s = f .before .before .before .before in
     absent-asks (s .args .terms) (now (s .args .widths)) (s .args .level) (s .args .font) (s .args .sets) (s .args .code)
     (sym (looked-is f) ∙ ap (foundAt (now (s .args .widths))) (c .enum-told .given .1))
 
-returns-4 : tie.Need-returns-4
-returns-4 c =
-    set-asks (present (c .before .before .before .before .before .before .before))
-    (width-is (c .before .before .before))
-    (set (c .before .before .before .before))
-    (sym (leaves-is (c .before)) ∙ c .if2 .left)
+returns-3 : tie.Need-returns-3
+returns-3 c =
+    let m = c .before .before .before .before .before in
+    let past : ℤ → ℤ → Turn = λ width escapement. unlessLeft Direction.Sideways (start m .args .level) width (Turn.PastCharacter width escapement) in
+    set-asks (present m) (set (c .before .before))
+    (c .unless-left .ensures ∙ ap₂ past (width-is (c .before)) (word (m .metric-of .result .escapement) (present m .escapement-small)))
 
 pub character-spec : {M : Type 1} → statement M
 character-spec =
@@ -171,7 +159,6 @@ character-spec =
     sub-hint
     returns
     scale-width-requires
-    leaves-range-requires
+    unless-left-requires
     returns-2
-    returns-3
-    returns-4)
+    returns-3)

@@ -1,12 +1,15 @@
 -- `page::steps::rule` meets its contract: what the rule adds, and set_rule's turn past it. Assumes nothing.
 use mathlib.Core.Path.{_≡_, ap, ap₂, _∙_}
 use borrow.Author.Needs.{needs, sfits-of}
+use lib.IntN.{ℤ}
 use denote.Ref.{now}
 use mir.Syntax.{w64}
 use mir.Val.{toZ, ofZ}
 use mir.Facts.{toZ-ofZ}
 use Rattle.commands.specs.Parameters.{ruleHeight, ruleWidth}
-use Rattle.page.specs.Steps.{addedOf, ruleBy, ruleTurn}
+use Rattle.state.specs.declared.moving.Direction.the-variants as Direction
+use Rattle.page.specs.declared.Turn.the-variants as Turn
+use Rattle.page.specs.Steps.{addedOf, ruleBy, unlessLeft}
 use Rattle.page.proofs.steps.rule.Statement.{statement}
 use Rattle.page.proofs.steps.rule.Tie as tie
 
@@ -19,8 +22,8 @@ rule-width-requires c κs = search needs
 rule-adds-requires : tie.Need-rule-adds-requires
 rule-adds-requires c κs = search needs
 
-past-rule-requires : tie.Need-past-rule-requires
-past-rule-requires c κs = search needs
+unless-left-requires : tie.Need-unless-left-requires
+unless-left-requires c κs = search needs
 
 width-is : (c : tie.After-rule-width) → toZ w64 (ofZ w64 (c .rule-width .result)) ≡ ruleWidth (now (c .before .before .before .args .params))
 width-is c = toZ-ofZ (sfits-of (c .rule-width .ok)) ∙ c .rule-width .ensures .0
@@ -36,7 +39,7 @@ returns : tie.Need-returns
 returns c =
     let s = c .before .before .before .before .before .before in
     record {
-      turn-is = c .past-rule .ensures ∙ ap (ruleTurn (s .args .level)) (width-is (c .before .before .before)) ∙ simp (c .before .if1 .taken);
+      turn-is = c .unless-left .ensures ∙ ap (λ (n : ℤ). unlessLeft Direction.Sideways (s .args .level) n (Turn.PastRule n)) (width-is (c .before .before .before)) ∙ simp (c .before .if1 .taken);
       adds-are = adds-are (c .before .before);
       words = c .before .before .rule-adds .ensures .1;
     }
@@ -56,6 +59,6 @@ rule-spec =
     rule-height-requires
     rule-width-requires
     rule-adds-requires
-    past-rule-requires
+    unless-left-requires
     returns
     returns-2)

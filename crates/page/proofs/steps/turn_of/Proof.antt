@@ -1,16 +1,14 @@
 -- `page::steps::turn_of` meets its contract: the turn of each kind that adds nothing else. Assumes nothing.
 use mathlib.Core.Path.{_≡_, refl, sym, ap, _∙_}
 use mathlib.Core.List.{List, [], _∷_}
-use lib.IntN.{ℤ}
-use borrow.Author.Needs.{needs, sfits-of}
+use borrow.Author.Needs.{needs}
 use denote.Ref.{now}
-use mir.Facts.{toZ-ofZ}
 use Rattle.commands.specs.declared.Kind.{Kind}
 use Rattle.commands.specs.declared.Kind.the-variants as Kind
 use Rattle.volume.proofs.Arms.{kind-others}
 use Rattle.page.specs.declared.Turn.{Turn}
 use Rattle.page.specs.declared.Turn.the-variants as Turn
-use Rattle.page.specs.Steps.{sidewaysTurn, downTurn, turnOf, isMove}
+use Rattle.page.specs.Steps.{turnOf, isMove}
 use Rattle.page.proofs.steps.turn_of.Statement.{statement}
 use Rattle.page.proofs.steps.turn_of.Tie as tie
 
@@ -21,44 +19,38 @@ by-kind s k turn is-k e = e ∙ ap (λ (kind : Kind). turnOf kind (s .args .leve
 enum-told : tie.Need-enum-told
 enum-told c = search needs
 
-distance-of-requires : tie.Need-distance-of-requires
-distance-of-requires c κs = c .before .before .before .pre .1 (ap isMove (c .enum-told .given .1))
-
-sideways-from-requires : tie.Need-sideways-from-requires
-sideways-from-requires c κs = search needs
+plain-turn-requires : tie.Need-plain-turn-requires
+plain-turn-requires c κs = let s = c .before .before .before in (s .pre .0, s .pre .1 (ap isMove (c .enum-told .given .1)))
 
 enum-told-2 : tie.Need-enum-told-2
 enum-told-2 c = search needs
 
-w-turn-requires : tie.Need-w-turn-requires
-w-turn-requires c κs = let s = c .before .before .before in (s .pre .0, s .pre .1 (ap isMove (c .enum-told2 .given .1)))
+register-turn-requires : tie.Need-register-turn-requires
+register-turn-requires c κs = let s = c .before .before .before in (s .pre .0, s .pre .1 (ap isMove (c .enum-told2 .given .1)))
 
 enum-told-3 : tie.Need-enum-told-3
 enum-told-3 c = search needs
 
-x-turn-requires : tie.Need-x-turn-requires
-x-turn-requires c κs = let s = c .before .before .before in (s .pre .0, s .pre .1 (ap isMove (c .enum-told3 .given .1)))
+register-turn-requires-2 : tie.Need-register-turn-requires-2
+register-turn-requires-2 c κs = let s = c .before .before .before in (s .pre .0, s .pre .1 (ap isMove (c .enum-told3 .given .1)))
 
 enum-told-4 : tie.Need-enum-told-4
 enum-told-4 c = search needs
 
-distance-of-requires-2 : tie.Need-distance-of-requires-2
-distance-of-requires-2 c κs = c .before .before .before .pre .1 (ap isMove (c .enum-told4 .given .1))
-
-down-from-requires : tie.Need-down-from-requires
-down-from-requires c κs = search needs
+plain-turn-requires-2 : tie.Need-plain-turn-requires-2
+plain-turn-requires-2 c κs = let s = c .before .before .before in (s .pre .0, s .pre .1 (ap isMove (c .enum-told4 .given .1)))
 
 enum-told-5 : tie.Need-enum-told-5
 enum-told-5 c = search needs
 
-y-turn-requires : tie.Need-y-turn-requires
-y-turn-requires c κs = let s = c .before .before .before in (s .pre .0, s .pre .1 (ap isMove (c .enum-told5 .given .1)))
+register-turn-requires-3 : tie.Need-register-turn-requires-3
+register-turn-requires-3 c κs = let s = c .before .before .before in (s .pre .0, s .pre .1 (ap isMove (c .enum-told5 .given .1)))
 
 enum-told-6 : tie.Need-enum-told-6
 enum-told-6 c = search needs
 
-z-turn-requires : tie.Need-z-turn-requires
-z-turn-requires c κs = let s = c .before .before .before in (s .pre .0, s .pre .1 (ap isMove (c .enum-told6 .given .1)))
+register-turn-requires-4 : tie.Need-register-turn-requires-4
+register-turn-requires-4 c κs = let s = c .before .before .before in (s .pre .0, s .pre .1 (ap isMove (c .enum-told6 .given .1)))
 
 enum-told-7 : tie.Need-enum-told-7
 enum-told-7 c = search needs
@@ -70,28 +62,22 @@ enum-told-9 : tie.Need-enum-told-9
 enum-told-9 c = search needs
 
 returns : tie.Need-returns
-returns c =
-    let s = c .before .before .before .before .before in
-    by-kind s Kind.Right _ (c .before .before .enum-told .given .1)
-    (c .sideways-from .ensures ∙ ap (λ (n : ℤ). sidewaysTurn (s .args .level) n) (toZ-ofZ (sfits-of (c .before .distance-of .ok)) ∙ c .before .distance-of .ensures .0))
+returns c = by-kind (c .before .before .before .before) Kind.Right _ (c .before .enum-told .given .1) (c .plain-turn .ensures)
 
 returns-2 : tie.Need-returns-2
-returns-2 c = by-kind (c .before .before .before .before) Kind.W _ (c .before .enum-told2 .given .1) (c .w-turn .ensures)
+returns-2 c = by-kind (c .before .before .before .before) Kind.W _ (c .before .enum-told2 .given .1) (c .register-turn .ensures)
 
 returns-3 : tie.Need-returns-3
-returns-3 c = by-kind (c .before .before .before .before) Kind.X _ (c .before .enum-told3 .given .1) (c .x-turn .ensures)
+returns-3 c = by-kind (c .before .before .before .before) Kind.X _ (c .before .enum-told3 .given .1) (c .register-turn2 .ensures)
 
 returns-4 : tie.Need-returns-4
-returns-4 c =
-    let s = c .before .before .before .before .before in
-    by-kind s Kind.Down _ (c .before .before .enum-told4 .given .1)
-    (c .down-from .ensures ∙ ap (λ (n : ℤ). downTurn (s .args .level) n) (toZ-ofZ (sfits-of (c .before .distance-of2 .ok)) ∙ c .before .distance-of2 .ensures .0))
+returns-4 c = by-kind (c .before .before .before .before) Kind.Down _ (c .before .enum-told4 .given .1) (c .plain-turn2 .ensures)
 
 returns-5 : tie.Need-returns-5
-returns-5 c = by-kind (c .before .before .before .before) Kind.Y _ (c .before .enum-told5 .given .1) (c .y-turn .ensures)
+returns-5 c = by-kind (c .before .before .before .before) Kind.Y _ (c .before .enum-told5 .given .1) (c .register-turn3 .ensures)
 
 returns-6 : tie.Need-returns-6
-returns-6 c = by-kind (c .before .before .before .before) Kind.Z _ (c .before .enum-told6 .given .1) (c .z-turn .ensures)
+returns-6 c = by-kind (c .before .before .before .before) Kind.Z _ (c .before .enum-told6 .given .1) (c .register-turn4 .ensures)
 
 returns-7 : tie.Need-returns-7
 returns-7 c = by-kind (c .before .before .before) Kind.Push _ (c .enum-told7 .given .1) refl
@@ -113,19 +99,17 @@ turn-of-spec =
     tie.close
     (tie.spec
     enum-told
-    distance-of-requires
-    sideways-from-requires
+    plain-turn-requires
     enum-told-2
-    w-turn-requires
+    register-turn-requires
     enum-told-3
-    x-turn-requires
+    register-turn-requires-2
     enum-told-4
-    distance-of-requires-2
-    down-from-requires
+    plain-turn-requires-2
     enum-told-5
-    y-turn-requires
+    register-turn-requires-3
     enum-told-6
-    z-turn-requires
+    register-turn-requires-4
     enum-told-7
     enum-told-8
     enum-told-9

@@ -14,19 +14,22 @@ use Rattle.volume.specs.History.{history}
 use Rattle.state.specs.declared.Level.{Level}
 use Rattle.state.specs.declared.Font.{Font}
 use Rattle.state.specs.declared.Page.{Page}
+use Rattle.state.specs.declared.moving.Direction.{Direction}
 use Rattle.state.specs.declared.moving.Direction.the-variants as Direction
-use Rattle.state.specs.Moving.{leaves}
-use Rattle.state.specs.Registers.{State, zeroLevel, pushed, popped, movedBy, characterMoved, ruleMoved}
+use Rattle.state.specs.declared.moving.Ruler.{Ruler}
+use Rattle.state.specs.Registers.{State, zeroLevel, pushed, popped, movedBy, characterMoved, ruleMoved, directionOf, movedByRegister}
 use Rattle.state.specs.Steps.{pageState, savedOf, withLevel, Ruled, Bounded}
-use Rattle.state.proofs.Levels.{bounded-moved, bounded-rule, bounded-character, stored}
+use Rattle.state.proofs.Levels.{bounded-moved, bounded-by-register, bounded-rule, bounded-character, stored}
 use Rattle.page.specs.declared.Counts.{Counts}
 use Rattle.page.specs.declared.Turn.{Turn}
 use Rattle.page.specs.declared.Turn.the-variants as Turn
 use Rattle.page.specs.declared.Step.{Step}
 use Rattle.page.specs.Placing.{continues, withNumbers}
-use Rattle.page.specs.Steps.{addedOf, did, termsSetting, StepAsks, Safe}
+use Rattle.page.specs.Blocks.{inside}
+use Rattle.page.specs.Steps.{addedOf, did, termsSetting, StepAsks, Stays, Safe, turnFrame}
+use Rattle.page.proofs.Frames.{isEnding, depthBy}
 use Rattle.page.proofs.PageRuns.{runs-inside}
-use Rattle.page.proofs.WalkLaws.{Sound, state-sound, popped-bounded, popped-known, turnedDepth, GoesOn, Walking, starting, advances, few, in-ranges, onwards, leveled, push-room, pop-room, ended, left}
+use Rattle.page.proofs.WalkLaws.{Sound, state-sound, popped-bounded, popped-known, Walking, starting, advances, few, in-ranges, onwards, leveled, push-room, pop-room, ended, left}
 use Rattle.page.proofs.Words.{word, small-word}
 use Rattle.page.proofs.walking.walk.Statement.{statement}
 use Rattle.page.proofs.walking.walk.Tie as tie
@@ -103,23 +106,43 @@ module _ (n : tie.After-note Inv-loop μ-loop) where
   abbrev before : Page
   before = head read .loop .page
 
+  abbrev ruler : Ruler
+  ruler = entry read .args .terms .ruler
+
+  abbrev scale : ℕ
+  scale = before .font .scale
+
+  bounded : Bounded (before .now)
+  bounded = here read .sound .bounded
+
   -- to another level only
-  to-level : (turn : Turn) → step read .asked .turn ≡ turn → GoesOn turn → (l : Level)
-      → did (entry read .args .terms .ruler) (pageState before) turn (step read .asked .adds) ≡ continues (withNumbers (pageState before) l) (addedOf (step read .asked .adds))
-      → turnedDepth turn (before .depth) ≡ before .depth → (page : Page) → page ≡ withLevel before l → Bounded l → Next page
-  to-level turn turn-is on l led flat page page-is bounded =
-      leveled (here read) (step read) (asks read) turn turn-is on l led flat page page-is bounded (n .note .last .0) (n .note .ensures .1) (n .note .result) (n .note .ensures .0)
+  to-level : (turn : Turn) → step read .asked .turn ≡ turn → turnFrame turn ≡ inside → (l : Level)
+      → did ruler (pageState before) turn (step read .asked .adds) ≡ continues (withNumbers (pageState before) l) (addedOf (step read .asked .adds))
+      → (page : Page) → page ≡ withLevel before l → Bounded l → Next page
+  to-level turn turn-is is-inside l led page page-is bounded =
+      leveled (here read) (step read) (asks read) turn turn-is is-inside l led page page-is bounded (n .note .last .0) (n .note .ensures .1) (n .note .result) (n .note .ensures .0)
 
   -- to another state
-  to-state : (turn : Turn) → step read .asked .turn ≡ turn → GoesOn turn → (s : State)
-      → did (entry read .args .terms .ruler) (pageState before) turn (step read .asked .adds) ≡ continues s (addedOf (step read .asked .adds))
-      → (page : Page) → pageState page ≡ s → page .depth ≡ turnedDepth turn (before .depth) → Sound page → Next page
+  to-state : (turn : Turn) → step read .asked .turn ≡ turn → isEnding (turnFrame turn) ≡ false → (s : State)
+      → did ruler (pageState before) turn (step read .asked .adds) ≡ continues s (addedOf (step read .asked .adds))
+      → (page : Page) → pageState page ≡ s → page .depth ≡ depthBy (turnFrame turn) (before .depth) → Sound page → Next page
   to-state turn turn-is on s led page state-is depth-is sound =
       onwards (here read) (step read) (asks read) turn turn-is on s led page state-is depth-is sound (n .note .last .0) (n .note .ensures .1) (n .note .result) (n .note .ensures .0)
 
   -- a distance that is handed on
-  handed : (position z : ℤ) → natAbs z ≤ 2 ^ 31 → leaves (position +ℤ z) ≡ false → leaves (position +ℤ toZ w64 (ofZ w64 z)) ≡ false
-  handed position z small-z stays = subst (λ (y : ℤ). leaves (position +ℤ y) ≡ false) (sym (word z small-z)) stays
+  handed : (direction : Direction) (z : ℤ) → Stays direction (before .now) z → Stays direction (before .now) (toZ w64 (ofZ w64 z))
+  handed direction z ok = subst (Stays direction (before .now)) (sym (word z (ok .0))) ok
+
+  -- by a distance, in either direction
+  module _ (direction : Direction) (z : ℤ) (turn-is : step read .asked .turn ≡ Turn.By direction z) where
+    by-safe : Stays direction (before .now) z
+    by-safe = safe read (Turn.By direction z) turn-is
+
+    to-moved : (page : Page) → page ≡ withLevel before (movedBy direction ruler scale (toZ w64 (ofZ w64 z)) (before .now)) → Next page
+    to-moved page page-is =
+        to-level (Turn.By direction z) turn-is refl (movedBy direction ruler scale z (before .now)) refl page
+        (page-is ∙ ap (λ (y : ℤ). withLevel before (movedBy direction ruler scale y (before .now))) (word z (by-safe .0)))
+        (bounded-moved direction ruler scale z (before .now) (ruled read) bounded (by-safe .1))
 
 enum-told : tie.Need-enum-told Inv-loop μ-loop
 enum-told c = search needs
@@ -130,55 +153,77 @@ loop-less c = less (read (c .before .before .before .before))
 loop-again : tie.Need-loop-again Inv-loop μ-loop
 loop-again c =
     let n = c .before .before .before .before in
-    to-state n Turn.Stay (c .enum-told .given .1) tt (pageState (before n)) refl (before n) refl refl (here (read n) .sound)
+    to-state n Turn.Stay (c .enum-told .given .1) refl (pageState (before n)) refl (before n) refl refl (here (read n) .sound)
 
 enum-known-turn : tie.Need-enum-known-turn Inv-loop μ-loop
 enum-known-turn c = search needs
 
+enum-told-2 : tie.Need-enum-told-2 Inv-loop μ-loop
+enum-told-2 c = search needs
+
+-- the turn of a direction that was told
+told : {turn : Turn} {direction known : Direction} {z : ℤ} → turn ≡ Turn.By direction z → direction ≡ known → turn ≡ Turn.By known z
+told {z = z} turn-is is-known = turn-is ∙ ap (λ (direction : Direction). Turn.By direction z) is-known
+
 sideways-requires : tie.Need-sideways-requires Inv-loop μ-loop
 sideways-requires c κs =
-    let n = c .before .before .before .before .before in
-    let v = c .before .turn .given in
-    let ok = safe (read n) (Turn.Sideways (v .0 .0) (v .0 .1 .0)) (v .1) in
-    ((ruled (read n), ok .0), (small-word (v .0 .1 .0) (ok .1), handed n (v .0 .0 .h) (v .0 .1 .0) (ok .1) (ok .2)))
+    let n = c .before .before .before .before .before .before .before in
+    let v = c .before .before .before .turn .given in
+    ((ruled (read n), bounded n), handed n Direction.Sideways (v .0 .1 .0) (by-safe n Direction.Sideways (v .0 .1 .0) (told (v .1) (c .enum-told2 .given .1))))
 
 loop-less-2 : tie.Need-loop-less-2 Inv-loop μ-loop
-loop-less-2 c = less (read (c .before .before .before .before .before .before))
+loop-less-2 c = less (read (c .before .before .before .before .before .before .before .before))
 
 loop-again-2 : tie.Need-loop-again-2 Inv-loop μ-loop
 loop-again-2 c =
-    let n = c .before .before .before .before .before .before in
-    let v = c .before .before .turn .given in
-    let ok = safe (read n) (Turn.Sideways (v .0 .0) (v .0 .1 .0)) (v .1) in
-    let ruler = entry (read n) .args .terms .ruler in
-    let scale = before n .font .scale in
-    to-level n (Turn.Sideways (v .0 .0) (v .0 .1 .0)) (v .1) tt (movedBy Direction.Sideways ruler scale (v .0 .1 .0) (v .0 .0)) refl refl (c .sideways .result)
-    (c .sideways .ensures ∙ ap (λ (z : ℤ). withLevel (before n) (movedBy Direction.Sideways ruler scale z (v .0 .0))) (word (v .0 .1 .0) (ok .1)))
-    (bounded-moved Direction.Sideways ruler scale (v .0 .1 .0) (v .0 .0) (ruled (read n)) (ok .0) (ok .2))
+    let n = c .before .before .before .before .before .before .before .before in
+    let v = c .before .before .before .before .turn .given in
+    to-moved n Direction.Sideways (v .0 .1 .0) (told (v .1) (c .before .enum-told2 .given .1)) (c .sideways .result) (c .sideways .ensures)
+
+enum-told-3 : tie.Need-enum-told-3 Inv-loop μ-loop
+enum-told-3 c = search needs
+
+down-requires : tie.Need-down-requires Inv-loop μ-loop
+down-requires c κs =
+    let n = c .before .before .before .before .before .before .before in
+    let v = c .before .before .before .turn .given in
+    ((ruled (read n), bounded n), handed n Direction.Down (v .0 .1 .0) (by-safe n Direction.Down (v .0 .1 .0) (told (v .1) (c .enum-told3 .given .1))))
+
+loop-less-3 : tie.Need-loop-less-3 Inv-loop μ-loop
+loop-less-3 c = less (read (c .before .before .before .before .before .before .before .before))
+
+loop-again-3 : tie.Need-loop-again-3 Inv-loop μ-loop
+loop-again-3 c =
+    let n = c .before .before .before .before .before .before .before .before in
+    let v = c .before .before .before .before .turn .given in
+    to-moved n Direction.Down (v .0 .1 .0) (told (v .1) (c .before .enum-told3 .given .1)) (c .down .result) (c .down .ensures)
 
 enum-known-turn-2 : tie.Need-enum-known-turn-2 Inv-loop μ-loop
 enum-known-turn-2 c = search needs
 
-down-requires : tie.Need-down-requires Inv-loop μ-loop
-down-requires c κs =
+moved-by-register-requires : tie.Need-moved-by-register-requires Inv-loop μ-loop
+moved-by-register-requires c κs =
     let n = c .before .before .before .before .before in
     let v = c .before .turn2 .given in
-    let ok = safe (read n) (Turn.Down (v .0 .0) (v .0 .1 .0)) (v .1) in
-    ((ruled (read n), ok .0), (small-word (v .0 .1 .0) (ok .1), handed n (v .0 .0 .v) (v .0 .1 .0) (ok .1) (ok .2)))
+    ((ruled (read n), bounded n), handed n (directionOf (v .0 .0)) (v .0 .1 .0) (safe (read n) (Turn.ByRegister (v .0 .0) (v .0 .1 .0)) (v .1)))
 
-loop-less-3 : tie.Need-loop-less-3 Inv-loop μ-loop
-loop-less-3 c = less (read (c .before .before .before .before .before .before))
+moved-to-requires : tie.Need-moved-to-requires Inv-loop μ-loop
+moved-to-requires c κs = tt
 
-loop-again-3 : tie.Need-loop-again-3 Inv-loop μ-loop
-loop-again-3 c =
-    let n = c .before .before .before .before .before .before in
-    let v = c .before .before .turn2 .given in
-    let ok = safe (read n) (Turn.Down (v .0 .0) (v .0 .1 .0)) (v .1) in
-    let ruler = entry (read n) .args .terms .ruler in
-    let scale = before n .font .scale in
-    to-level n (Turn.Down (v .0 .0) (v .0 .1 .0)) (v .1) tt (movedBy Direction.Down ruler scale (v .0 .1 .0) (v .0 .0)) refl refl (c .down .result)
-    (c .down .ensures ∙ ap (λ (z : ℤ). withLevel (before n) (movedBy Direction.Down ruler scale z (v .0 .0))) (word (v .0 .1 .0) (ok .1)))
-    (bounded-moved Direction.Down ruler scale (v .0 .1 .0) (v .0 .0) (ruled (read n)) (ok .0) (ok .2))
+loop-less-4 : tie.Need-loop-less-4 Inv-loop μ-loop
+loop-less-4 c = less (read (c .before .before .before .before .before .before .before))
+
+loop-again-4 : tie.Need-loop-again-4 Inv-loop μ-loop
+loop-again-4 c =
+    let n = c .before .before .before .before .before .before .before in
+    let v = c .before .before .before .turn2 .given in
+    let register = v .0 .0 in
+    let z = v .0 .1 .0 in
+    let ok = safe (read n) (Turn.ByRegister register z) (v .1) in
+    to-level n (Turn.ByRegister register z) (v .1) refl (movedByRegister register (ruler n) (scale n) z (before n .now)) refl (c .moved-to .result)
+    (c .moved-to .ensures
+    ∙ ap (withLevel (before n)) (c .before .moved-by-register .ensures ∙ ap (λ (y : ℤ). movedByRegister register (ruler n) (scale n) y (before n .now)) (word z (ok .0))))
+    (bounded-by-register register (ruler n) (scale n) z (before n .now) (ruled (read n)) (bounded n) (ok .0) (ok .1))
 
 enum-known-turn-3 : tie.Need-enum-known-turn-3 Inv-loop μ-loop
 enum-known-turn-3 c = search needs
@@ -188,21 +233,21 @@ past-character-requires c κs =
     let n = c .before .before .before .before .before in
     let v = c .before .turn3 .given in
     let ok = safe (read n) (Turn.PastCharacter (v .0 .0) (v .0 .1 .0)) (v .1) in
-    ((ruled (read n), here (read n) .sound .bounded), (small-word (v .0 .0) (ok .0), small-word (v .0 .1 .0) (ok .1), handed n (before n .now .h) (v .0 .0) (ok .0) (ok .2)))
+    let by = handed n Direction.Sideways (v .0 .0) (ok .0) in
+    ((ruled (read n), bounded n), (by .0, small-word (v .0 .1 .0) (ok .1), by .1))
 
-loop-less-4 : tie.Need-loop-less-4 Inv-loop μ-loop
-loop-less-4 c = less (read (c .before .before .before .before .before .before))
+loop-less-5 : tie.Need-loop-less-5 Inv-loop μ-loop
+loop-less-5 c = less (read (c .before .before .before .before .before .before))
 
-loop-again-4 : tie.Need-loop-again-4 Inv-loop μ-loop
-loop-again-4 c =
+loop-again-5 : tie.Need-loop-again-5 Inv-loop μ-loop
+loop-again-5 c =
     let n = c .before .before .before .before .before .before in
     let v = c .before .before .turn3 .given in
     let ok = safe (read n) (Turn.PastCharacter (v .0 .0) (v .0 .1 .0)) (v .1) in
-    let ruler = entry (read n) .args .terms .ruler in
-    let sound = here (read n) .sound in
-    to-level n (Turn.PastCharacter (v .0 .0) (v .0 .1 .0)) (v .1) tt (characterMoved ruler (v .0 .0) (v .0 .1 .0) (before n .now)) refl refl (c .past-character .result)
-    (c .past-character .ensures ∙ ap₂ (λ (width escapement : ℤ). withLevel (before n) (characterMoved ruler width escapement (before n .now))) (word (v .0 .0) (ok .0)) (word (v .0 .1 .0) (ok .1)))
-    (bounded-character ruler (before n .font .scale) (v .0 .0) (v .0 .1 .0) (before n .now) (ruled (read n)) (sound .bounded) (ok .2))
+    to-level n (Turn.PastCharacter (v .0 .0) (v .0 .1 .0)) (v .1) refl (characterMoved (ruler n) (v .0 .0) (v .0 .1 .0) (before n .now)) refl (c .past-character .result)
+    (c .past-character .ensures
+    ∙ ap₂ (λ (width escapement : ℤ). withLevel (before n) (characterMoved (ruler n) width escapement (before n .now))) (word (v .0 .0) (ok .0 .0)) (word (v .0 .1 .0) (ok .1)))
+    (bounded-character (ruler n) (scale n) (v .0 .0) (v .0 .1 .0) (before n .now) (ruled (read n)) (bounded n) (ok .0 .1))
 
 enum-known-turn-4 : tie.Need-enum-known-turn-4 Inv-loop μ-loop
 enum-known-turn-4 c = search needs
@@ -211,25 +256,22 @@ past-rule-requires : tie.Need-past-rule-requires Inv-loop μ-loop
 past-rule-requires c κs =
     let n = c .before .before .before .before .before in
     let v = c .before .turn4 .given in
-    let ok = safe (read n) (Turn.PastRule (v .0 .0)) (v .1) in
-    ((ruled (read n), here (read n) .sound .bounded), (small-word (v .0 .0) (ok .0), handed n (before n .now .h) (v .0 .0) (ok .0) (ok .1)))
+    ((ruled (read n), bounded n), handed n Direction.Sideways (v .0 .0) (safe (read n) (Turn.PastRule (v .0 .0)) (v .1)))
 
-loop-less-5 : tie.Need-loop-less-5 Inv-loop μ-loop
-loop-less-5 c = less (read (c .before .before .before .before .before .before))
+loop-less-6 : tie.Need-loop-less-6 Inv-loop μ-loop
+loop-less-6 c = less (read (c .before .before .before .before .before .before))
 
-loop-again-5 : tie.Need-loop-again-5 Inv-loop μ-loop
-loop-again-5 c =
+loop-again-6 : tie.Need-loop-again-6 Inv-loop μ-loop
+loop-again-6 c =
     let n = c .before .before .before .before .before .before in
     let v = c .before .before .turn4 .given in
     let ok = safe (read n) (Turn.PastRule (v .0 .0)) (v .1) in
-    let ruler = entry (read n) .args .terms .ruler in
-    let scale = before n .font .scale in
-    to-level n (Turn.PastRule (v .0 .0)) (v .1) tt (ruleMoved ruler scale (v .0 .0) (before n .now)) refl refl (c .past-rule .result)
-    (c .past-rule .ensures ∙ ap (λ (width : ℤ). withLevel (before n) (ruleMoved ruler scale width (before n .now))) (word (v .0 .0) (ok .0)))
-    (bounded-rule ruler scale (v .0 .0) (before n .now) (ruled (read n)) (here (read n) .sound .bounded) (ok .1))
+    to-level n (Turn.PastRule (v .0 .0)) (v .1) refl (ruleMoved (ruler n) (scale n) (v .0 .0) (before n .now)) refl (c .past-rule .result)
+    (c .past-rule .ensures ∙ ap (λ (width : ℤ). withLevel (before n) (ruleMoved (ruler n) (scale n) width (before n .now))) (word (v .0 .0) (ok .0)))
+    (bounded-rule (ruler n) (scale n) (v .0 .0) (before n .now) (ruled (read n)) (bounded n) (ok .1))
 
-enum-told-2 : tie.Need-enum-told-2 Inv-loop μ-loop
-enum-told-2 c = search needs
+enum-told-4 : tie.Need-enum-told-4 Inv-loop μ-loop
+enum-told-4 c = search needs
 
 -- a push finds room
 room : (n : tie.After-note Inv-loop μ-loop) → step (read n) .asked .turn ≡ Turn.Push → before n .depth < 100
@@ -242,58 +284,58 @@ kept : (n : tie.After-note Inv-loop μ-loop) → step (read n) .asked .turn ≡ 
 kept n turn-is = stored (before n) (omega (arith, room n turn-is, here (read n) .sound .full))
 
 mul-now : tie.Need-mul-now Inv-loop μ-loop
-mul-now c = let n = c .before .before .before .before in omega (arith, room n (c .enum-told2 .given .1))
+mul-now c = let n = c .before .before .before .before in omega (arith, room n (c .enum-told4 .given .1))
 
 element-set-from-now : tie.Need-element-set-from-now Inv-loop μ-loop
-element-set-from-now c = let n = c .before .before .before .before in room n (c .enum-told2 .given .1)
+element-set-from-now c = let n = c .before .before .before .before in room n (c .enum-told4 .given .1)
 
 push-requires : tie.Need-push-requires Inv-loop μ-loop
-push-requires c κs = let n = c .before .before .before .before in (room n (c .enum-told2 .given .1), kept n (c .enum-told2 .given .1) .1)
+push-requires c κs = let n = c .before .before .before .before in (room n (c .enum-told4 .given .1), kept n (c .enum-told4 .given .1) .1)
 
-loop-less-6 : tie.Need-loop-less-6 Inv-loop μ-loop
-loop-less-6 c = less (read (c .before .before .before .before .before))
+loop-less-7 : tie.Need-loop-less-7 Inv-loop μ-loop
+loop-less-7 c = less (read (c .before .before .before .before .before))
 
-loop-again-6 : tie.Need-loop-again-6 Inv-loop μ-loop
-loop-again-6 c =
+loop-again-7 : tie.Need-loop-again-7 Inv-loop μ-loop
+loop-again-7 c =
     let n = c .before .before .before .before .before in
-    let turn-is = c .before .enum-told2 .given .1 in
+    let turn-is = c .before .enum-told4 .given .1 in
     let sound = here (read n) .sound in
     let state-is = c .push .ensures .0 ∙ ap pushed (kept n turn-is .0) in
-    to-state n Turn.Push turn-is tt (pushed (pageState (before n))) refl (c .push .result) state-is (c .push .ensures .1)
+    to-state n Turn.Push turn-is refl (pushed (pageState (before n))) refl (c .push .result) state-is (c .push .ensures .1)
     (state-sound (c .push .result) (pushed (pageState (before n))) state-is (sound .bounded) (sound .bounded, sound .kept) (sound .known)
     (omega (arith, c .push .ensures .1, room n turn-is))
     (ap length (c .push .ensures .2) ∙ length-set (before n .stack) (before n .depth) (before n .now) ∙ sound .full))
 
-enum-told-3 : tie.Need-enum-told-3 Inv-loop μ-loop
-enum-told-3 c = search needs
+enum-told-5 : tie.Need-enum-told-5 Inv-loop μ-loop
+enum-told-5 c = search needs
 
 -- a pop finds a level
 below : (n : tie.After-note Inv-loop μ-loop) → step (read n) .asked .turn ≡ Turn.Pop → 0 < before n .depth
 below n turn-is = pop-room (here (read n)) (step (read n)) (asks (read n)) turn-is
 
 sub-last : tie.Need-sub-last Inv-loop μ-loop
-sub-last c = let n = c .before .before .before .before in below n (c .enum-told3 .given .1)
+sub-last c = let n = c .before .before .before .before in below n (c .enum-told5 .given .1)
 
 mul-last : tie.Need-mul-last Inv-loop μ-loop
 mul-last c = let n = c .before .before .before .before in omega (arith, here (read n) .sound .shallow)
 
 element-copy-out-last : tie.Need-element-copy-out-last Inv-loop μ-loop
-element-copy-out-last c = let n = c .before .before .before .before in omega (arith, below n (c .enum-told3 .given .1), here (read n) .sound .shallow)
+element-copy-out-last c = let n = c .before .before .before .before in omega (arith, below n (c .enum-told5 .given .1), here (read n) .sound .shallow)
 
 pop-requires : tie.Need-pop-requires Inv-loop μ-loop
-pop-requires c κs = let n = c .before .before .before .before .before in (below n (c .before .enum-told3 .given .1), refl)
+pop-requires c κs = let n = c .before .before .before .before .before in (below n (c .before .enum-told5 .given .1), refl)
 
-loop-less-7 : tie.Need-loop-less-7 Inv-loop μ-loop
-loop-less-7 c = less (read (c .before .before .before .before .before .before))
+loop-less-8 : tie.Need-loop-less-8 Inv-loop μ-loop
+loop-less-8 c = less (read (c .before .before .before .before .before .before))
 
-loop-again-7 : tie.Need-loop-again-7 Inv-loop μ-loop
-loop-again-7 c =
+loop-again-8 : tie.Need-loop-again-8 Inv-loop μ-loop
+loop-again-8 c =
     let n = c .before .before .before .before .before .before in
-    let turn-is = c .before .before .enum-told3 .given .1 in
+    let turn-is = c .before .before .enum-told5 .given .1 in
     let sound = here (read n) .sound in
     let s = pageState (before n) in
     let back = popped-bounded s (s .saved) (sound .kept) (sound .bounded) (sound .kept) in
-    to-state n Turn.Pop turn-is tt (popped s) refl (c .pop .result) (c .pop .ensures .0) (c .pop .ensures .1)
+    to-state n Turn.Pop turn-is refl (popped s) refl (c .pop .result) (c .pop .ensures .0) (c .pop .ensures .1)
     (state-sound (c .pop .result) (popped s) (c .pop .ensures .0) (back .0) (back .1) (popped-known s (s .saved) (sound .known))
     (omega (arith, c .pop .ensures .1, sound .shallow)) (ap length (c .pop .ensures .2) ∙ sound .full))
 
@@ -303,20 +345,24 @@ enum-known-turn-5 c = search needs
 exchanged-requires : tie.Need-exchanged-requires Inv-loop μ-loop
 exchanged-requires c κs = tt
 
-loop-less-8 : tie.Need-loop-less-8 Inv-loop μ-loop
-loop-less-8 c = less (read (c .before .before .before .before .before .before .before))
+select-requires : tie.Need-select-requires Inv-loop μ-loop
+select-requires c κs = tt
 
-loop-again-8 : tie.Need-loop-again-8 Inv-loop μ-loop
-loop-again-8 c =
-    let n = c .before .before .before .before .before .before .before in
-    let v = c .before .before .before .turn5 .given in
+loop-less-9 : tie.Need-loop-less-9 Inv-loop μ-loop
+loop-less-9 c = less (read (c .before .before .before .before .before .before .before .before))
+
+loop-again-9 : tie.Need-loop-again-9 Inv-loop μ-loop
+loop-again-9 c =
+    let n = c .before .before .before .before .before .before .before .before in
+    let v = c .before .before .before .before .turn5 .given in
     let sound = here (read n) .sound in
-    to-state n (Turn.Select (v .0 .0)) (v .1) tt (record { level = before n .now; saved = savedOf (before n .depth) (before n .stack); font = v .0 .0 }) refl
-    (record { now = before n .now; depth = before n .depth; font = v .0 .0; stack = before n .stack }) refl refl
-    (record { bounded = sound .bounded; kept = sound .kept; known = safe (read n) (Turn.Select (v .0 .0)) (v .1); shallow = sound .shallow; full = sound .full })
+    let is = c .select .ensures in
+    to-state n (Turn.Select (v .0 .0)) (v .1) refl (record { level = before n .now; saved = savedOf (before n .depth) (before n .stack); font = v .0 .0 }) refl
+    (c .select .result) (ap pageState is) (ap (λ (page : Page). page .depth) is)
+    (subst Sound (sym is) (record { bounded = sound .bounded; kept = sound .kept; known = safe (read n) (Turn.Select (v .0 .0)) (v .1); shallow = sound .shallow; full = sound .full }))
 
-enum-told-4 : tie.Need-enum-told-4 Inv-loop μ-loop
-enum-told-4 c = search needs
+enum-told-6 : tie.Need-enum-told-6 Inv-loop μ-loop
+enum-told-6 c = search needs
 
 same-length : tie.Need-same-length Inv-loop μ-loop
 same-length c = let n = c .before .before .before .before in n .note .kept .0 ∙ here (read n) .long
@@ -324,16 +370,16 @@ same-length c = let n = c .before .before .before .before in n .note .kept .0 �
 returns : tie.Need-returns Inv-loop μ-loop
 returns c =
     let n = c .before .before .before .before in
-    (ended (here (read n)) (step (read n)) (asks (read n)) (c .enum-told4 .given .1) (n .note .last .0) (n .note .ensures .1) (n .note .result) (n .note .ensures .0), few (here (read n)) (step (read n)) (asks (read n)) (n .note .result) (n .note .ensures .0))
+    (ended (here (read n)) (step (read n)) (asks (read n)) (c .enum-told6 .given .1) (n .note .last .0) (n .note .ensures .1) (n .note .result) (n .note .ensures .0), few (here (read n)) (step (read n)) (asks (read n)) (n .note .result) (n .note .ensures .0))
 
-enum-told-5 : tie.Need-enum-told-5 Inv-loop μ-loop
-enum-told-5 c = search needs
+enum-told-7 : tie.Need-enum-told-7 Inv-loop μ-loop
+enum-told-7 c = search needs
 
 same-length-2 : tie.Need-same-length-2 Inv-loop μ-loop
 same-length-2 c = let n = c .before .before .before .before in n .note .kept .0 ∙ here (read n) .long
 
 returns-2 : tie.Need-returns-2 Inv-loop μ-loop
-returns-2 c = let n = c .before .before .before .before in (left (here (read n)) (step (read n)) (asks (read n)) (c .enum-told5 .given .1), tt)
+returns-2 c = let n = c .before .before .before .before in (left (here (read n)) (step (read n)) (asks (read n)) (c .enum-told7 .given .1), tt)
 
 pub walk-spec : {M : Type 1} → statement M
 walk-spec =
@@ -350,41 +396,48 @@ walk-spec =
     loop-less
     loop-again
     enum-known-turn
+    enum-told-2
     sideways-requires
     loop-less-2
     loop-again-2
-    enum-known-turn-2
+    enum-told-3
     down-requires
     loop-less-3
     loop-again-3
-    enum-known-turn-3
-    past-character-requires
+    enum-known-turn-2
+    moved-by-register-requires
+    moved-to-requires
     loop-less-4
     loop-again-4
-    enum-known-turn-4
-    past-rule-requires
+    enum-known-turn-3
+    past-character-requires
     loop-less-5
     loop-again-5
-    enum-told-2
+    enum-known-turn-4
+    past-rule-requires
+    loop-less-6
+    loop-again-6
+    enum-told-4
     mul-now
     element-set-from-now
     push-requires
-    loop-less-6
-    loop-again-6
-    enum-told-3
+    loop-less-7
+    loop-again-7
+    enum-told-5
     sub-last
     mul-last
     element-copy-out-last
     pop-requires
-    loop-less-7
-    loop-again-7
-    enum-known-turn-5
-    exchanged-requires
     loop-less-8
     loop-again-8
-    enum-told-4
+    enum-known-turn-5
+    exchanged-requires
+    select-requires
+    loop-less-9
+    loop-again-9
+    enum-told-6
     same-length
     returns
-    enum-told-5
+    enum-told-7
     same-length-2
     returns-2)

@@ -1,16 +1,17 @@
 -- `state::Page::past_character` meets its contract. Assumes nothing.
-use mathlib.Core.Path.{ap}
+use mathlib.Core.Path.{ap, ap₂, _∙_}
 use Prim.Native.Nat.{_^_}
 use native.Mathlib.Omega.{arith}
 use borrow.Author.Needs.{needs}
 use lib.IntN.{_+ℤ_}
 use Rattle.state.specs.declared.moving.Direction.the-variants.{Sideways}
 use Rattle.state.specs.declared.moving.Spot.{Spot}
+use Rattle.state.specs.Moving.{settled}
 use Rattle.state.specs.Registers.{atSpot}
 use Rattle.state.specs.Steps.{withLevel}
 use Rattle.state.proofs.Nearness.{within}
 use Rattle.state.proofs.Levels.{position-in}
-use Rattle.state.proofs.Spots.{word-sum, word-sum-fits, word-sum-small, sums-settled}
+use Rattle.state.proofs.Words.{word-sum, word-sum-fits, word-sum-small}
 use Rattle.state.proofs.Page.past_character.Statement.{statement}
 use Rattle.state.proofs.Page.past_character.Tie as tie
 
@@ -31,14 +32,18 @@ settle-requires c κs =
       ),
     )
 
+at-spot-requires : tie.Need-at-spot-requires
+at-spot-requires c κs = search needs
+
 returns : tie.Need-returns
 returns c =
-    let m = c .before .before in
-    let s = m .before .before .before .before .before .before in
+    let s = c .before .before .before .before .before .before .before in
     let p = s .args .self in
-    ap (λ (spot : Spot). withLevel p (atSpot Sideways spot (p .now)))
-    (sums-settled (s .args .ruler) (p .font .scale) (p .now .h) (s .args .width) (p .now .hh) (s .args .escapement) (m .settle .result)
-    (omega arith) (omega arith) (omega arith) (omega arith) (s .pre .0 .0) (s .pre .1 .2) (m .settle .ensures))
+    ap (withLevel p)
+    (c .at-spot .ensures
+    ∙ ap (λ (spot : Spot). atSpot Sideways spot (p .now))
+    (c .before .settle .ensures
+    ∙ ap₂ (settled (s .args .ruler)) (word-sum (p .now .h) (s .args .width) (omega arith) (omega arith)) (word-sum (p .now .hh) (s .args .escapement) (omega arith) (omega arith))))
 
 pub past-character-spec : {M : Type 1} → statement M
-past-character-spec = tie.close (tie.spec add-settle add-settle-2 settle-requires returns)
+past-character-spec = tie.close (tie.spec add-settle add-settle-2 settle-requires at-spot-requires returns)

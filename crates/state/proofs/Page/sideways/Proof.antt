@@ -1,28 +1,22 @@
 -- `state::Page::sideways` meets its contract. Assumes nothing.
-use mathlib.Core.Path.{ap}
-use native.Mathlib.Omega.{arith}
+use mathlib.Core.Path.{ap, _∙_}
+use borrow.Author.Needs.{needs}
+use lib.IntN.{ℤ}
+use mir.Facts.{toZ-ofZ}
 use Rattle.state.specs.declared.moving.Direction.the-variants.{Sideways}
-use Rattle.state.specs.declared.moving.Spot.{Spot}
-use Rattle.state.specs.Registers.{atSpot}
+use Rattle.state.specs.Registers.{movedBy}
 use Rattle.state.specs.Steps.{withLevel}
-use Rattle.state.proofs.Spots.{move-asks, moved-words}
 use Rattle.state.proofs.Page.sideways.Statement.{statement}
 use Rattle.state.proofs.Page.sideways.Tie as tie
 
-move-by-requires : tie.Need-move-by-requires
-move-by-requires c κs =
-    let s = c .before .before .before in
-    let l = s .args .self .now in
-    move-asks (s .args .ruler) (s .args .self .font .scale) (l .h) (l .hh) (s .args .n) (omega arith) (omega arith) (omega arith) (s .pre .0 .0) (s .pre .1 .1)
+moved-by-requires : tie.Need-moved-by-requires
+moved-by-requires c κs = search needs
 
 returns : tie.Need-returns
 returns c =
-    let m = c .before .before in
-    let s = m .before .before .before .before in
+    let s = c .before .before in
     let p = s .args .self in
-    ap (λ (spot : Spot). withLevel p (atSpot Sideways spot (p .now)))
-    (moved-words Sideways (s .args .ruler) (p .font .scale) (p .now .h) (p .now .hh) (s .args .n) (m .move-by .result)
-    (omega arith) (omega arith) (omega arith) (s .pre .0 .0) (s .pre .1 .1) (m .move-by .ensures))
+    ap (withLevel p) (c .moved-by .ensures ∙ ap (λ (n : ℤ). movedBy Sideways (s .args .ruler) (p .font .scale) n (p .now)) (toZ-ofZ (s .fits .n)))
 
 pub sideways-spec : {M : Type 1} → statement M
-sideways-spec = tie.close (tie.spec move-by-requires returns)
+sideways-spec = tie.close (tie.spec moved-by-requires returns)
