@@ -5,3 +5,4 @@ pub mod Counting
 pub mod Answers
 pub mod Steps
 pub mod Printed
+pub mod Trace

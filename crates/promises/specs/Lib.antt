@@ -1,1 +1,4 @@
 pub mod Starred
+pub mod Calls
+pub mod Standing
+pub mod Fractions
