@@ -2,3 +2,4 @@ pub mod Starred
 pub mod Calls
 pub mod Standing
 pub mod Fractions
+pub mod OfTheList
