@@ -14,39 +14,16 @@ use Rattle.numbers.proofs.Bytes.{unsigned-front, unsigned-drop}
 use Rattle.commands.specs.declared.Kind.{Kind}
 use Rattle.commands.specs.declared.Kind.the-variants.{SetCharacter, SetRule, PutCharacter, PutRule, Nop, Bop, Eop, Push, Pop, Right, W, X, Down, Y, Z, Select, Special, Define, Pre, Post, PostPost, Undefined}
 use Rattle.commands.specs.Kinds.{kindOf}
+use Rattle.commands.specs.ByKind.{first, last, fixedBy}
 use Rattle.commands.specs.declared.fields.UnsignedField.{UnsignedField}
 use Rattle.commands.specs.Fields.{unsignedIn, bopPointer, preCommentLength, postPages, endIdentification, specialLength, definitionNumberSize, definitionAreaLength, definitionNameLength, definitionName}
 use Rattle.commands.specs.Parameters.{definition}
 use Rattle.commands.specs.Lengths.{lengths, fixedLength, innerLength, sizeOf}
 use Rattle.commands.specs.Commands.{Command, Whole, kindOfCommand}
 use Rattle.commands.proofs.Ranges.{below-or-not, constant-on, equal-on, between-on}
-use Rattle.commands.proofs.Opcodes.{first, last, range-kind, kind-from, from-250}
+use Rattle.commands.proofs.Opcodes.{range-kind, kind-from, from-250}
 
--- ---- the table's rule; a difference is 0 where it would be negative
-
-abbrev pub fixedBy : Kind → ℕ → ℕ
-fixedBy SetCharacter opcode = opcode - 127
-fixedBy SetRule opcode = 8
-fixedBy PutCharacter opcode = opcode - 132
-fixedBy PutRule opcode = 8
-fixedBy Nop opcode = 0
-fixedBy Bop opcode = 44
-fixedBy Eop opcode = 0
-fixedBy Push opcode = 0
-fixedBy Pop opcode = 0
-fixedBy Right opcode = opcode - 142
-fixedBy W opcode = opcode - 147
-fixedBy X opcode = opcode - 152
-fixedBy Down opcode = opcode - 156
-fixedBy Y opcode = opcode - 161
-fixedBy Z opcode = opcode - 166
-fixedBy Select opcode = opcode - 234
-fixedBy Special opcode = opcode - 238
-fixedBy Define opcode = opcode - 228
-fixedBy Pre opcode = 14
-fixedBy Post opcode = 28
-fixedBy PostPost opcode = 5
-fixedBy Undefined opcode = 0
+-- ---- the table's rule
 
 fixed-beyond : (opcode : ℕ) → 250 ≤ opcode → fixedLength opcode ≡ 0
 unfolding fixedLength lengths

@@ -10,38 +10,8 @@ use borrow.Author.Tests.{leb-true, le-ltb}
 use Rattle.commands.specs.declared.Kind.{Kind}
 use Rattle.commands.specs.declared.Kind.the-variants.{SetCharacter, SetRule, PutCharacter, PutRule, Nop, Bop, Eop, Push, Pop, Right, W, X, Down, Y, Z, Select, Special, Define, Pre, Post, PostPost, Undefined}
 use Rattle.commands.specs.Kinds.{kindOf}
+use Rattle.commands.specs.ByKind.{first, last}
 use Rattle.commands.proofs.Ranges.{below-or-not, values, constant-on, between-on}
-
--- the first and the last opcode of a kind
-abbrev pub bounds : Kind → ℕ × ℕ
-bounds SetCharacter = (0, 131)
-bounds SetRule = (132, 132)
-bounds PutCharacter = (133, 136)
-bounds PutRule = (137, 137)
-bounds Nop = (138, 138)
-bounds Bop = (139, 139)
-bounds Eop = (140, 140)
-bounds Push = (141, 141)
-bounds Pop = (142, 142)
-bounds Right = (143, 146)
-bounds W = (147, 151)
-bounds X = (152, 156)
-bounds Down = (157, 160)
-bounds Y = (161, 165)
-bounds Z = (166, 170)
-bounds Select = (171, 238)
-bounds Special = (239, 242)
-bounds Define = (243, 246)
-bounds Pre = (247, 247)
-bounds Post = (248, 248)
-bounds PostPost = (249, 249)
-bounds Undefined = (250, 255)
-
-abbrev pub first : Kind → ℕ
-first k = bounds k .0
-
-abbrev pub last : Kind → ℕ
-last k = bounds k .1
 
 -- an opcode lies in the range of its kind
 pub kind-range : {k : Kind} (opcode : ℕ) → opcode < 256 → kindOf opcode ≡ k → (first k ≤ opcode) × (opcode ≤ last k)

@@ -11,7 +11,7 @@ use Rattle.refusals.proofs.RefusedOnly.{if-only}
 use Rattle.commands.specs.Commands.{Front, cut, undefined, whole, front}
 use Rattle.commands.specs.Reading.{reading, readAt, longestFile, commandRead}
 
--- 1 at the file's start, 2 or 3 at the place that is asked
+-- 1 at 0, 2 or 3 at the place that is asked
 pub command-refused-with : (file : List ℕ) (at : ℕ) → RefusedOnly (CommandRefusal at) (commandRead file at)
 command-refused-with file at =
     if-only (CommandRefusal at) (ltb longestFile (length file)) fileTooLong 0 (readAt file at) (inl (refl, refl)) (by (front (drop at file)))

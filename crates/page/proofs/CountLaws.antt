@@ -29,7 +29,7 @@ use Rattle.page.specs.declared.Record.{Record}
 use Rattle.page.specs.Records.{characterRecord, ruleRecord}
 use Rattle.page.specs.PageList.{Located}
 use Rattle.page.specs.Placing.{Setting, lookedFor, Added, nothing, placed, missing, special, Outcome, continues, leavesRange, movesTo, setCharacter, putCharacter, isVisible, plainMove, distanceOr, registerMove, afterKind, after, Contents, adding, onOutcome, placing}
-use Rattle.page.specs.Counting.{Seen, fontAfter, withFonts, isCharacter, isRule, codeOf, characterFound, characterMissing, ruleVisible, isSpecial, makesRecord, countOf, those, saidBy, saidOf}
+use Rattle.page.specs.Counting.{Seen, fontAfter, withFonts, isCharacter, isRule, codeOf, characterFound, characterMissing, ruleVisible, isSpecial, makesRecord, countOf, those, saidBy, saidOf, LeavesAt, now, later}
 
 -- what is given in the end was made from a result that was given
 and-given : {A B : Type 0} (make : A → B) (answer : Answer A) (b : B) → andThen answer (λ a. given (make a)) ≡ given b
@@ -215,33 +215,28 @@ module _ (setting : Setting) where
       by : (o : Outcome) → AsCounted (this s (c .command)) o → onOutcome (c .at) o (λ next. placing setting next rest) ≡ given p
           → ((next : State) (q : Contents) → placing setting next rest ≡ given q → Tied (withFonts setting (next .font) rest) q)
           → Tied (withFonts setting (s .font) (c ∷ rest)) p
-      by leavesRange counted e later = absurd (given-not-refused p positionOutOfRange (c .at) (sym e))
-      by (continues next added) (font, adds) e later =
+      by leavesRange counted e onward = absurd (given-not-refused p positionOutOfRange (c .at) (sym e))
+      by (continues next added) (font, adds) e onward =
           let (q, placed-rest, same) = and-given (adding added) (placing setting next rest) p e in
-          let tied-rest = subst (λ (f : Font). Tied (withFonts setting f rest) q) font (later next q placed-rest) in
+          let tied-rest = subst (λ (f : Font). Tied (withFonts setting f rest) q) font (onward next q placed-rest) in
           subst (Tied _) same (tied-adding (this s (c .command)) added _ q adds tied-rest)
 
-  module _ (s : State) (cs : List Located) where
-    -- the page's commands with the fonts that are current at them
-    abbrev pub seen : List Seen
-    seen = withFonts setting (s .font) cs
+  module _ (s : State) (cs : List Located) (p : Contents) (e : placing setting s cs ≡ given p) where
+    -- there are as many records as visible rules and characters found
+    pub records-counted : length (p .placements) ≡ countOf ruleVisible (withFonts setting (s .font) cs) + countOf (characterFound setting) (withFonts setting (s .font) cs)
+    records-counted = tied s cs p e .record-count
 
-    module _ (p : Contents) (e : placing setting s cs ≡ given p) where
-      -- there are as many records as visible rules and characters found
-      pub records-counted : length (p .placements) ≡ countOf ruleVisible seen + countOf (characterFound setting) seen
-      records-counted = tied s cs p e .record-count
+    -- as many missing characters as characters that the table has not
+    pub missing-counted : p .missing-characters ≡ countOf (characterMissing setting) (withFonts setting (s .font) cs)
+    missing-counted = tied s cs p e .missing-count
 
-      -- as many missing characters as characters that the table has not
-      pub missing-counted : p .missing-characters ≡ countOf (characterMissing setting) seen
-      missing-counted = tied s cs p e .missing-count
+    -- as many specials as special commands
+    pub specials-counted : p .specials ≡ countOf isSpecial (withFonts setting (s .font) cs)
+    specials-counted = tied s cs p e .special-count
 
-      -- as many specials as special commands
-      pub specials-counted : p .specials ≡ countOf isSpecial seen
-      specials-counted = tied s cs p e .special-count
-
-      -- the records say, in order, what the commands that make one say; each names this page
-      pub records-in-order : map saidBy (p .placements) ≡ map (saidOf setting) (those (makesRecord setting) seen)
-      records-in-order = tied s cs p e .record-order
+    -- the records say, in order, what the commands that make one say; each names this page
+    pub records-in-order : map saidBy (p .placements) ≡ map (saidOf setting) (those (makesRecord setting) (withFonts setting (s .font) cs))
+    records-in-order = tied s cs p e .record-order
 
   -- a page without commands has no records
   pub empty-page : (s : State) (p : Contents) → placing setting s [] ≡ given p → p .placements ≡ []
@@ -250,22 +245,15 @@ module _ (setting : Setting) where
 
   -- ---- a refusal
 
-  -- the commands go on up to one, at this place, at which h or v would leave its range
-  pub data LeavesAt (place : ℕ) : State → List Located → Type 0 where
-    now : (s : State) (c : Located) (rest : List Located) → after setting s (c .command) ≡ leavesRange → place ≡ c .at → LeavesAt place s (c ∷ rest)
-    later : (s : State) (c : Located) (rest : List Located) (next : State) (added : Added) → after setting s (c .command) ≡ continues next added
-        → LeavesAt place next rest
-        → LeavesAt place s (c ∷ rest)
-
   -- a page is refused only by 16, with the place of the first of its own commands at which h or v would leave its range
-  pub refused-place : (s : State) (cs : List Located) (n place : ℕ) → placing setting s cs ≡ refused n place → (n ≡ positionOutOfRange) × LeavesAt place s cs
+  pub refused-place : (s : State) (cs : List Located) (n place : ℕ) → placing setting s cs ≡ refused n place → (n ≡ positionOutOfRange) × LeavesAt setting place s cs
   unfolding placing
   refused-place s [] n place e = absurd (given-not-refused _ n place e)
   refused-place s (c ∷ rest) n place e = by (after setting s (c .command)) refl e (λ next. refused-place next rest n place)
     where
       by : (o : Outcome) → after setting s (c .command) ≡ o → onOutcome (c .at) o (λ next. placing setting next rest) ≡ refused n place
-          → ((next : State) → placing setting next rest ≡ refused n place → (n ≡ positionOutOfRange) × LeavesAt place next rest)
-          → (n ≡ positionOutOfRange) × LeavesAt place s (c ∷ rest)
+          → ((next : State) → placing setting next rest ≡ refused n place → (n ≡ positionOutOfRange) × LeavesAt setting place next rest)
+          → (n ≡ positionOutOfRange) × LeavesAt setting place s (c ∷ rest)
       by leavesRange comes e onward = (cc, now s c rest comes (cc))
       by (continues next added) comes e onward =
           let (number, leaving) = onward next (and-refused (adding added) (placing setting next rest) n place e) in

@@ -27,7 +27,8 @@ use Rattle.volume.proofs.History.{history-counts}
 use Rattle.volume.proofs.Going.{after-command}
 use Rattle.page.specs.PageList.{Located, isOnPage, isOn, pageOf}
 use Rattle.page.specs.Steps.{Runs, ends, onward}
-use Rattle.page.proofs.Traces.{Trace, start, more, first-pre, accepted-trace, accepted-end}
+use Rattle.page.specs.Trace.{Trace, start, more}
+use Rattle.page.proofs.Traces.{first-pre, accepted-trace, accepted-end}
 
 -- ---- what may stand, by stage and kind
 

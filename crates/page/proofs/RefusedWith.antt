@@ -27,7 +27,8 @@ use Rattle.page.specs.Records.{placementRecordSize}
 use Rattle.page.specs.PageList.{Located, isOn, pageOf}
 use Rattle.page.specs.Placing.{Setting, Outcome, leavesRange, continues, after, onOutcome, placing}
 use Rattle.page.specs.Answers.{pageOutside, settingOf, placedAccepted, placedPage, placedCounts}
-use Rattle.page.proofs.Traces.{Trace, start, more, accepted-trace}
+use Rattle.page.specs.Trace.{Trace, start, more}
+use Rattle.page.proofs.Traces.{accepted-trace}
 
 -- ---- where a page's own commands stand
 

@@ -37,12 +37,7 @@ use Rattle.volume.proofs.Turns.{judged-short, judged-cut, judged-undefined, jud
 use Rattle.volume.proofs.Accepts.{refused-given, accepts-lawful}
 use Rattle.volume.proofs.Going.{after-command}
 use Rattle.page.specs.Steps.{InScale}
-
--- the commands so far stand in the file, one after the other from its start, and keep the rules
-pub data Trace (file : List ℕ) : List Command → Type 0 where
-  start : Trace file []
-  more : {past : List Command} (c : Command) (rest : List ℕ) → Trace file past → front (drop (place past) file) ≡ whole c rest → Allowed past c
-      → Trace file (c ∷ past)
+use Rattle.page.specs.Trace.{Trace, start, more}
 
 -- ---- the history of an accepted file
 

@@ -16,8 +16,8 @@ use Rattle.commands.specs.declared.Kind.{Kind}
 use Rattle.commands.specs.declared.Kind.the-variants as Kind
 use Rattle.commands.specs.Commands.{Command, Whole, kindOfCommand}
 use Rattle.commands.specs.Parameters.{distance, ruleHeight, ruleWidth}
-use Rattle.commands.proofs.Opcodes.{last}
-use Rattle.commands.proofs.Lengths.{fixedBy, hasInner, whole-at-most}
+use Rattle.commands.specs.ByKind.{last, fixedBy}
+use Rattle.commands.proofs.Lengths.{hasInner, whole-at-most}
 use Rattle.volume.proofs.Arms.{on-kinds}
 use Rattle.state.specs.declared.Level.{Level}
 use Rattle.state.specs.declared.Font.{Font}

@@ -9,6 +9,7 @@ use Rattle.refusals.specs.Answer.{Answer, refused, given, refuseIf, andThen}
 use Rattle.units.specs.declared.Ratio.{Ratio}
 use Rattle.units.specs.Unit.{unitOf, drift}
 use Rattle.widths.specs.Table.{checkedTable}
+use Rattle.commands.specs.Commands.{Command}
 use Rattle.volume.specs.Past.{num, den, mag}
 use Rattle.volume.specs.Judged.{judged}
 use Rattle.volume.specs.History.{history}
@@ -22,22 +23,30 @@ use Rattle.page.specs.Placing.{Setting, Contents, placing}
 abbrev pub pageOutside : ℕ → ℕ → Bool
 pageOutside page pages = not (leb 1 page && leb page pages)
 
--- what the pages of a file are placed by, at a resolution
+-- what the pages of a volume, by its commands, are placed by at a resolution (rule 8.3)
+abbrev pub settingIn : List Command → List ℕ → Ratio → ℕ → ℕ → ℕ → Setting
+settingIn past table k resolution rows page =
+    record { ruler = record { k = k; drift = drift resolution }; table = table; rows = rows; volume = past; page = page }
+
+-- those of a file (rule 8.3)
 abbrev pub settingOf : List ℕ → List ℕ → Ratio → ℕ → ℕ → ℕ → Setting
-settingOf file table k resolution rows page =
-    record { ruler = record { k = k; drift = drift resolution }; table = table; rows = rows; volume = history file; page = page }
+settingOf file = settingIn (history file)
 
 -- 17: "output area shorter than the bytes to be written (in placing, 20 times the records)"; the whole page is walked for 16 before it is judged
 abbrev pub withRoom : ℕ → Contents → Answer Contents
 withRoom room p = refuseIf (ltb room (placementRecordSize * length (p .placements))) areaTooShort 0 (given p)
 
--- "then 12 to 17 in order": one page of an accepted file of so many pages, by a width table, at a resolution, into an area of so many bytes
-abbrev pub placedAccepted : List ℕ → List ℕ → ℕ → ℕ → ℕ → ℕ → Answer Contents
-placedAccepted file table resolution page room pages =
-    andThen (unitOf (num (history file)) (den (history file)) (mag (history file)) resolution) (λ k.
+-- 12 to 17, in this order: one page of a volume of so many pages, by its commands, with a width table, at a resolution, into an area of so many bytes (rule 9.8)
+abbrev pub placedIn : List Command → List ℕ → ℕ → ℕ → ℕ → ℕ → Answer Contents
+placedIn past table resolution page room pages =
+    andThen (unitOf (num past) (den past) (mag past) resolution) (λ k.
     andThen (checkedTable table) (λ rows.
     refuseIf (pageOutside page pages) noSuchPage 0
-    (andThen (placing (settingOf file table k resolution rows page) freshState (pageOf page (history file))) (withRoom room))))
+    (andThen (placing (settingIn past table k resolution rows page) freshState (pageOf page past)) (withRoom room))))
+
+-- one of an accepted file (rule 9.8)
+abbrev pub placedAccepted : List ℕ → List ℕ → ℕ → ℕ → ℕ → ℕ → Answer Contents
+placedAccepted file = placedIn (history file)
 
 -- "Placing judges 1 to 11 first"
 abbrev pub placedPage : List ℕ → List ℕ → ℕ → ℕ → ℕ → Answer Contents

@@ -1,5 +1,6 @@
 -- The commands of a page that make records, are missing characters or specials: what the counts are tied to. Assumes nothing.
 use Prim.Native.Nat.{ℕ, zero, suc}
+use mathlib.Core.Path.{_≡_}
 use mathlib.Core.Bool.{Bool, true, false, cond, not, _&&_, _||_}
 use mathlib.Core.List.{List, [], _∷_}
 use lib.IntN.{ℤ, pos}
@@ -10,9 +11,10 @@ use Rattle.commands.specs.Commands.{Command}
 use Rattle.commands.specs.Parameters.{characterCode, ruleHeight, ruleWidth, selectedFont}
 use Rattle.volume.specs.Past.{isA}
 use Rattle.state.specs.declared.Font.{Font}
+use Rattle.state.specs.Registers.{State}
 use Rattle.page.specs.declared.Record.{Record}
 use Rattle.page.specs.PageList.{Located}
-use Rattle.page.specs.Placing.{Setting, fontOf, lookedFor, isVisible}
+use Rattle.page.specs.Placing.{Setting, fontOf, lookedFor, Added, Outcome, continues, leavesRange, isVisible, after}
 
 -- a command and the font that is current at it
 pub record Seen : Type 0 where
@@ -104,3 +106,12 @@ saidOf setting c =
     cond (isRule (c .command))
     (record { kind = 2; font = 0; page = setting .page; content = roundedUp (setting .ruler .k) (ruleHeight (c .command .params)); extent = roundedUp (setting .ruler .k) (ruleWidth (c .command .params)) })
     (record { kind = 1; font = c .font .number; page = setting .page; content = codeOf (c .command); extent = escapementOf (lookedFor setting (c .font) (codeOf (c .command))) })
+
+-- ---- a refusal
+
+-- from a state on the commands go well up to one, at this place, at which h or v would leave its range (rule 7.5)
+pub data LeavesAt (setting : Setting) (place : ℕ) : State → List Located → Type 0 where
+  now : (s : State) (c : Located) (rest : List Located) → after setting s (c .command) ≡ leavesRange → place ≡ c .at → LeavesAt setting place s (c ∷ rest)
+  later : (s : State) (c : Located) (rest : List Located) (next : State) (added : Added) → after setting s (c .command) ≡ continues next added
+      → LeavesAt setting place next rest
+      → LeavesAt setting place s (c ∷ rest)

@@ -6,3 +6,4 @@ pub mod Blocks
 pub mod Answers
 pub mod Steps
 pub mod Printed
+pub mod Trace

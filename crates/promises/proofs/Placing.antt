@@ -9,38 +9,32 @@ use lib.ListN.{length, take, drop, length-append, length-drop}
 use lib.Seq.{take-at, drop-at}
 use borrow.Author.Tests.{ltb-false}
 use contract.Lifetimes.{Lfts}
-use denote.Ref.{RefT, now}
 use Rattle.refusals.specs.Numbers.{noSuchPage, positionOutOfRange, areaTooShort}
 use Rattle.refusals.specs.Answer.{Answer, refused, given, refuseIf, andThen}
 use Rattle.refusals.specs.RefusedOnly.{FileRefusal, UnitRefusal, TableRefusal}
 use Rattle.refusals.proofs.Answer.{given-not-refused, given-next, given-same}
 use Rattle.refusals.proofs.RefusedOnly.{only-refused, file-numbers, unit-numbers}
-use Rattle.units.specs.declared.Ratio.{Ratio}
-use Rattle.units.specs.Unit.{unitOf}
 use Rattle.units.proofs.RefusedWith.{unit-refused-with}
 use Rattle.widths.specs.Table.{widthRecordSize, checkedTable}
 use Rattle.widths.proofs.RefusedWith.{table-refused-with}
-use Rattle.volume.specs.declared.Summary.{Summary}
-use Rattle.volume.specs.Past.{num, den, mag}
 use Rattle.volume.specs.Judged.{judged}
-use Rattle.volume.specs.History.{history}
 use Rattle.volume.proofs.RefusedWith.{file-refused-with}
-use Rattle.state.specs.Registers.{unselected, freshState}
+use Rattle.state.specs.Registers.{freshState}
 use Rattle.page.specs.declared.Record.{Record}
 use Rattle.page.specs.declared.Counts.{Counts}
 use Rattle.page.specs.Records.{placementRecordSize, recordBytes, allBytes}
-use Rattle.page.specs.PageList.{Located, pageOf}
-use Rattle.page.specs.Placing.{Setting, placing}
+use Rattle.page.specs.Placing.{placing}
 use Rattle.page.specs.Placing as meaning
-use Rattle.page.specs.Counting.{Seen, withFonts, characterFound, characterMissing, ruleVisible, isSpecial, makesRecord, countOf, those, saidBy, saidOf}
-use Rattle.page.specs.Answers.{pageOutside, settingOf, withRoom, placedPage, countsOf, placedCounts, areaAfter}
+use Rattle.page.specs.Counting.{characterFound, characterMissing, ruleVisible, isSpecial, makesRecord, countOf, those, saidBy, saidOf, LeavesAt}
+use Rattle.page.specs.Answers.{pageOutside, withRoom, countsOf, placedCounts, areaAfter}
 use Rattle.page.proofs.Areas.{record-length}
-use Rattle.page.proofs.CountLaws.{LeavesAt, records-counted, missing-counted, specials-counted, refused-place}
+use Rattle.page.proofs.CountLaws.{records-counted, missing-counted, specials-counted, refused-place}
 use Rattle.page.proofs.CountLaws as counting
 use Rattle.reader.specs.declared.Placed.{Placed}
 use Rattle.reader.specs.declared.Placed.the-variants as Placed
 use Rattle.reader.specs.Answers.{Refuses}
 use Rattle.reader.proofs.place_page.Reads as place-page
+use Rattle.promises.specs.Calls.{Arguments, file, table, resolution, page, area, meant, unitHere, own, Grounds, groundsSetting, seenBy}
 use Rattle.promises.proofs.OneToOne.{placed-one-to-one}
 
 -- ---- what an answer was made from
@@ -67,90 +61,38 @@ all-length : (records : List Record) → length (allBytes records) ≡ placement
 all-length [] = refl
 all-length (r ∷ records) = omega (arith, length-append (recordBytes r) (allBytes records), record-length r, all-length records)
 
--- ---- a call
-
--- the arguments, as they are before the call or after it
-abbrev pub Arguments : Type 0
-Arguments = RefT (List ℕ) × (RefT (List ℕ) × (ℕ × (ℕ × (RefT (List ℕ) × Unit {0}))))
+-- ---- what a call was judged by
 
 module _ (a : Arguments) where
-  -- the bytes of the file
-  abbrev pub file : List ℕ
-  file = now (a .0)
-
-  -- of the width table
-  abbrev pub table : List ℕ
-  table = now (a .1 .0)
-
-  abbrev pub resolution : ℕ
-  resolution = a .1 .1 .0
-
-  abbrev pub page : ℕ
-  page = a .1 .1 .1 .0
-
-  -- the bytes of the output area
-  abbrev pub area : List ℕ
-  area = now (a .1 .1 .1 .1 .0)
-
-  -- what the contract says of them
-  abbrev pub meant : Answer meaning.Contents
-  meant = placedPage file table resolution page (length area)
-
-  -- K, by the file's units
-  abbrev pub unitHere : Answer Ratio
-  unitHere = unitOf (num (history file)) (den (history file)) (mag (history file)) resolution
-
-  -- the page's own commands
-  abbrev pub own : List Located
-  own = pageOf page (history file)
-
-  -- what a page is placed by: the file is accepted, K is in range, the table is right, and the page is one of the file's
-  pub record Grounds : Type 0 where
-    pub found : Summary
-    pub unit : Ratio
-    pub rows : ℕ
-    pub accepted : judged file ≡ given found
-    pub unit-is : unitHere ≡ given unit
-    pub table-is : checkedTable table ≡ given rows
-    pub there : pageOutside page (found .pages) ≡ false
-
-  -- K, D, the table, the volume's commands and the page's number
-  abbrev pub groundsSetting : Grounds → Setting
-  groundsSetting g = settingOf file table (g .unit) resolution (g .rows) page
-
-  -- the page's own commands, each with the font that is current at it; at first there is none
-  abbrev pub seenBy : Grounds → List Seen
-  seenBy g = withFonts (groundsSetting g) unselected own
-
   -- a page that is given was placed, and there is room
-  placed-by : (p : meaning.Contents) → meant ≡ given p
-      → (g : Grounds) × (placing (groundsSetting g) freshState own ≡ given p) × (placementRecordSize * length (p .placements) ≤ length area)
+  placed-by : (p : meaning.Contents) → meant a ≡ given p
+      → (g : Grounds a) × (placing (groundsSetting a g) freshState (own a) ≡ given p) × (placementRecordSize * length (p .placements) ≤ length (area a))
   placed-by p e =
-      let (found, accepted, e1) = then-given (judged file) _ p e in
-      let (k, unit-is, e2) = then-given unitHere _ p e1 in
-      let (n, table-is, e3) = then-given (checkedTable table) _ p e2 in
-      let (there, e4) = given-next (pageOutside page (found .pages)) _ _ _ p e3 in
-      let g : Grounds = record { found = found; unit = k; rows = n; accepted = accepted; unit-is = unit-is; table-is = table-is; there = there } in
-      let (q, placing-is, e5) = then-given (placing (groundsSetting g) freshState own) (withRoom (length area)) p e4 in
-      let (fits, e6) = given-next (ltb (length area) (placementRecordSize * length (q .placements))) _ _ _ p e5 in
+      let (found, accepted, e1) = then-given (judged (file a)) _ p e in
+      let (k, unit-is, e2) = then-given (unitHere a) _ p e1 in
+      let (n, table-is, e3) = then-given (checkedTable (table a)) _ p e2 in
+      let (there, e4) = given-next (pageOutside (page a) (found .pages)) _ _ _ p e3 in
+      let g : Grounds a = record { found = found; unit = k; rows = n; accepted = accepted; unit-is = unit-is; table-is = table-is; there = there } in
+      let (q, placing-is, e5) = then-given (placing (groundsSetting a g) freshState (own a)) (withRoom (length (area a))) p e4 in
+      let (fits, e6) = given-next (ltb (length (area a)) (placementRecordSize * length (q .placements))) _ _ _ p e5 in
       let same : q ≡ p = given-same q p e6 in
-      (g, placing-is ∙ ap given same, subst (λ (o : meaning.Contents). placementRecordSize * length (o .placements) ≤ length area) same (ltb-false (length area) _ fits))
+      (g, placing-is ∙ ap given same, subst (λ (o : meaning.Contents). placementRecordSize * length (o .placements) ≤ length (area a)) same (ltb-false (length (area a)) _ fits))
 
   -- a page that is refused by 16 passed all that is judged before
-  left-by : (place : ℕ) → meant ≡ refused positionOutOfRange place
-      → (g : Grounds) × (placing (groundsSetting g) freshState own ≡ refused positionOutOfRange place)
+  left-by : (place : ℕ) → meant a ≡ refused positionOutOfRange place
+      → (g : Grounds a) × (placing (groundsSetting a g) freshState (own a) ≡ refused positionOutOfRange place)
   left-by place e =
-      let (found, accepted, e1) = then-refused (judged file) _ positionOutOfRange place (λ early. omega (arith, file-numbers file (only-refused (FileRefusal file) (judged file) early (file-refused-with file)))) e in
-      let (k, unit-is, e2) = then-refused unitHere _ positionOutOfRange place (λ early. omega (arith, unit-numbers (only-refused UnitRefusal unitHere early (unit-refused-with _ _ _ resolution)))) e1 in
-      let (n, table-is, e3) = then-refused (checkedTable table) _ positionOutOfRange place (λ early. omega (arith, only-refused (TableRefusal widthRecordSize table) (checkedTable table) early (table-refused-with table) .0)) e2 in
-      let (there, e4) = refused-next (pageOutside page (found .pages)) noSuchPage 0 positionOutOfRange place _ (λ z. omega arith) e3 in
-      let g : Grounds = record { found = found; unit = k; rows = n; accepted = accepted; unit-is = unit-is; table-is = table-is; there = there } in
-      (g, before (placing (groundsSetting g) freshState own) e4)
+      let (found, accepted, e1) = then-refused (judged (file a)) _ positionOutOfRange place (λ early. omega (arith, file-numbers (file a) (only-refused (FileRefusal (file a)) (judged (file a)) early (file-refused-with (file a))))) e in
+      let (k, unit-is, e2) = then-refused (unitHere a) _ positionOutOfRange place (λ early. omega (arith, unit-numbers (only-refused UnitRefusal (unitHere a) early (unit-refused-with _ _ _ (resolution a))))) e1 in
+      let (n, table-is, e3) = then-refused (checkedTable (table a)) _ positionOutOfRange place (λ early. omega (arith, only-refused (TableRefusal widthRecordSize (table a)) (checkedTable (table a)) early (table-refused-with (table a)) .0)) e2 in
+      let (there, e4) = refused-next (pageOutside (page a) (found .pages)) noSuchPage 0 positionOutOfRange place _ (λ z. omega arith) e3 in
+      let g : Grounds a = record { found = found; unit = k; rows = n; accepted = accepted; unit-is = unit-is; table-is = table-is; there = there } in
+      (g, before (placing (groundsSetting a g) freshState (own a)) e4)
     where
-      before : (answer : Answer meaning.Contents) → andThen answer (withRoom (length area)) ≡ refused positionOutOfRange place → answer ≡ refused positionOutOfRange place
+      before : (answer : Answer meaning.Contents) → andThen answer (withRoom (length (area a))) ≡ refused positionOutOfRange place → answer ≡ refused positionOutOfRange place
       before (refused n at) e = ap₂ refused (cc) (cc)
       before (given q) e =
-          let (fits, e1) = refused-next (ltb (length area) (placementRecordSize * length (q .placements))) areaTooShort 0 positionOutOfRange place (given q) (λ z. omega arith) e in
+          let (fits, e1) = refused-next (ltb (length (area a)) (placementRecordSize * length (q .placements))) areaTooShort 0 positionOutOfRange place (given q) (λ z. omega arith) e in
           absurd (given-not-refused q positionOutOfRange place e1)
 
 -- ---- what the contract of a call says

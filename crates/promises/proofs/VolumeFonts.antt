@@ -21,7 +21,8 @@ use Rattle.volume.specs.Rules.{lawfulFont, says, Allowed}
 use Rattle.volume.specs.Lawful.{Keeps}
 use Rattle.volume.proofs.SameBytes.{same-true}
 use Rattle.volume.proofs.FontTables.{lawful-in, defines-kind}
-use Rattle.promises.proofs.Volumes.{StandsAmong, PastKeeps, no-more, and-one, kept-there, is-there, Right, right}
+use Rattle.promises.specs.Standing.{StandsAmong}
+use Rattle.promises.proofs.Volumes.{PastKeeps, no-more, and-one, kept-there, is-there, Right, right}
 
 -- ---- how many numbers pass a test
 

@@ -25,11 +25,12 @@ use Rattle.volume.specs.declared.Stage.the-variants.{AtStart, BeforePages, OnPa
 use Rattle.volume.specs.Past.{isA, stage, stageAfter, isAfterPost, depth, greatest, pages, lastBop, postPlace, num, den, mag, fontNumber, body, Definition, none, stands, definitionOf, isDefined, fontCount}
 use Rattle.volume.specs.Rules.{isAtStart, mayStand, wrongAtDepth, lawfulFont, says, lawfulDefinition, lawfulPostamble, Allowed}
 use Rattle.volume.specs.Lawful.{fillers, Follows, ends, goes, Keeps, Lawful}
+use Rattle.volume.specs.OfList.{upToLast, pastOf}
 use Rattle.volume.specs.Starred.{M}
 use Rattle.volume.proofs.Arms.{on-kinds, is-kind}
 use Rattle.volume.proofs.FaultLaws.{all-kept}
-use Rattle.volume.proofs.Accepts.{upToLast}
 use Rattle.page.proofs.Traces.{first-pre}
+use Rattle.promises.specs.Standing.{StandsAfter, first, later, StandsAmong, listOfM}
 
 -- ---- the file's two ends
 
@@ -80,16 +81,6 @@ ends-with-four-223 file (short, (cs, keeps, forms)) =
 
 -- ---- where a command stands
 
--- in a list that follows some commands, c stands after the commands of past, the newest first, with no post_post before it
-pub data StandsAfter (past : List Command) (c : Command) : List Command → List Command → Type 0 where
-  first : {cs : List Command} → StandsAfter past c past (c ∷ cs)
-  later : {before : List Command} {d : Command} {cs : List Command} → isA PostPost d ≡ false → StandsAfter past c (d ∷ before) cs
-      → StandsAfter past c before (d ∷ cs)
-
--- c stands in the list cs, up to and with its post_post, and past are the commands before it, the newest first
-abbrev pub StandsAmong : List Command → List Command → Command → Type 0
-StandsAmong cs past c = StandsAfter past c [] cs
-
 -- the commands of past, the newest first, keep the rules
 pub data PastKeeps : List Command → Type 0 where
   no-more : PastKeeps []
@@ -110,7 +101,7 @@ last-stands (goes w allowed not-last follows) = let (past, c, there, k, e) = las
 
 -- a post_post stands in each list that keeps the rules, after all the others (rule 3.2)
 pub post-post-stands : {cs : List Command} → Keeps cs
-    → (past : List Command) × (c : Command) × StandsAmong cs past c × (kindOfCommand c ≡ PostPost) × (upToLast [] cs ≡ c ∷ past)
+    → (past : List Command) × (c : Command) × StandsAmong cs past c × (kindOfCommand c ≡ PostPost) × (pastOf cs ≡ c ∷ past)
 post-post-stands keeps = last-stands keeps
 
 -- ---- the depth
@@ -179,7 +170,7 @@ whole-kept kept (ends {c = c} n w allowed last enough) = rw last (and-one kept a
 whole-kept kept (goes w allowed not-last follows) = rw not-last (whole-kept (and-one kept allowed) follows)
 
 -- a list that keeps the rules has a page (rule 3.2)
-pub one-page-at-least : {cs : List Command} → Keeps cs → 1 ≤ pages (upToLast [] cs)
+pub one-page-at-least : {cs : List Command} → Keeps cs → 1 ≤ pages (pastOf cs)
 one-page-at-least keeps = let (kept, end) = whole-kept no-more keeps in some-page kept (ap begun end)
 
 -- nothing stands before a pre
@@ -288,16 +279,6 @@ module _ {cs : List Command} (keeps : Keeps cs) {past : List Command} {c : Comma
       )
 
 -- ---- the printed example
-
--- the list of the smallest file: one page without commands
-abbrev pub listOfM : List Command
-listOfM =
-    record { opcode = 247; params = 2 ∷ 0 ∷ 0 ∷ 0 ∷ 254 ∷ 0 ∷ 0 ∷ 0 ∷ 1 ∷ 0 ∷ 0 ∷ 3 ∷ 232 ∷ 0 ∷ [] }
-    ∷ record { opcode = 139; params = replicate 40 0 ++ (255 ∷ 255 ∷ 255 ∷ 255 ∷ []) }
-    ∷ record { opcode = 140; params = [] }
-    ∷ record { opcode = 248; params = (0 ∷ 0 ∷ 0 ∷ 15 ∷ 0 ∷ 0 ∷ 0 ∷ 254 ∷ 0 ∷ 0 ∷ 0 ∷ 1 ∷ 0 ∷ 0 ∷ 3 ∷ 232 ∷ []) ++ replicate 8 0 ++ (0 ∷ 0 ∷ 0 ∷ 1 ∷ []) }
-    ∷ record { opcode = 249; params = 0 ∷ 0 ∷ 0 ∷ 61 ∷ 2 ∷ [] }
-    ∷ fillers 4
 
 -- it keeps the rules, and its written forms are M
 pub M-list : Keeps listOfM × (written listOfM ≡ M)

@@ -10,10 +10,7 @@ use borrow.Author.Tests.{lt-leb}
 use Rattle.widths.specs.declared.FixWord.{FixWord}
 use Rattle.widths.specs.declared.Halved.{Halved}
 use Rattle.widths.specs.Scaling.{halving, halved, share, signedShare, scaledBy}
-
--- the last three bytes of a fix word as one number
-abbrev pub fraction : FixWord → ℕ
-fraction w = w .b1 * 65536 + w .b2 * 256 + w .b3
+use Rattle.promises.specs.Fractions.{fraction}
 
 -- the three divisions of rule 6.6 come to one, by 65536 × (256/α)
 pub chain-is-one-division : (k : Halved) (w : FixWord) → share k w ≡ fraction w * k .z / (65536 * (256 / k .alpha))

@@ -25,7 +25,7 @@ use Rattle.reader.specs.Answers.{Accepts, Refuses}
 use Rattle.reader.proofs.check_file.Reads as check-file
 use Rattle.reader.proofs.place_page.Reads as place-page
 use Rattle.promises.proofs.OneToOne.{placed-one-to-one}
-use Rattle.promises.proofs.Placing.{Arguments, file, table, resolution, page, area, meant}
+use Rattle.promises.specs.Calls.{Arguments, file, table, resolution, page, area, meant, IsPrinted}
 
 -- ---- the check of a file
 
@@ -52,14 +52,6 @@ pub not-constant : (κs κs′ : Lfts 1) → (file empty : _) → (r : FileCheck
 not-constant κs κs′ file empty r x y m e p q = given-not-refused onePage fileEnds 0 (sym M-accepted ∙ ap judged (sym m) ∙ sym (p .0) ∙ q .0 ∙ ap judged e ∙ empty-refused)
 
 -- ---- the placing of a page
-
--- a call for the printed example, with an area that just holds its records
-pub record IsPrinted (a : Arguments) : Type 0 where
-  pub file-is : file a ≡ example
-  pub table-is : table a ≡ []
-  pub resolution-is : resolution a ≡ 300
-  pub page-is : page a ≡ 1
-  pub room-is : length (area a) ≡ 40
 
 -- what the contract says of it, and of the empty file
 example-placed : (a : Arguments) → IsPrinted a → meant a ≡ given printed

@@ -1,1 +1,5 @@
 pub mod Starred
+pub mod Calls
+pub mod Standing
+pub mod Fractions
+pub mod OfTheList

@@ -8,35 +8,35 @@ use lib.ListN.{length}
 use Rattle.refusals.specs.Numbers.{fileTooLong, fileEnds, undefinedOpcode, wrongPreamble, noFont, wrongPostamble, wrongTail, wrongResolution, unitOutOfRange, wrongWidthTable, noSuchPage, positionOutOfRange, areaTooShort}
 use Rattle.refusals.specs.Answer.{Answer, refused, given}
 
--- an answer that is a result, or a refusal whose number and place are allowed (rule 4.3)
+-- an answer is a result, or a refusal whose number and place may be (rule 4.3)
 abbrev pub RefusedOnly : {A : Type 0} → (ℕ → ℕ → Type 0) → Answer A → Type 0
 RefusedOnly May (refused number place) = May number place
 RefusedOnly May (given a) = Unit {0}
 
--- of a file: 1 at its start; 2 where an opcode stands or, at its end, is missed; 3 to 10 where an opcode stands; 11 at a byte or at its end (rules 4.1, 4.2)
+-- of a file: 1 at 0; 2 in the file or at its end; 3 to 10 in the file; 11 in the file or at its end (rules 4.1, 4.2)
 abbrev pub FileRefusal : List ℕ → ℕ → ℕ → Type 0
 FileRefusal file number place =
     ((number ≡ fileTooLong) × (place ≡ 0))
     ⊎ (((number ≡ fileEnds) × (place ≤ length file))
     ⊎ (((undefinedOpcode ≤ number) × (number ≤ wrongPostamble) × (place < length file)) ⊎ ((number ≡ wrongTail) × (place ≤ length file))))
 
--- of one command: 1 at the file's start; 2 or 3 at the place that is asked (rule 9.3)
+-- of one command: 1 at 0; 2 or 3 at the place that is asked (rule 9.3)
 abbrev pub CommandRefusal : ℕ → ℕ → ℕ → Type 0
 CommandRefusal at number place = ((number ≡ fileTooLong) × (place ≡ 0)) ⊎ (((number ≡ fileEnds) ⊎ (number ≡ undefinedOpcode)) × (place ≡ at))
 
--- of a font's name: as of the file; 8 at its start (rule 9.4)
+-- of a font's name: as of the file; 8 at 0 (rule 9.4)
 abbrev pub NameRefusal : List ℕ → ℕ → ℕ → Type 0
 NameRefusal file number place = FileRefusal file number place ⊎ ((number ≡ noFont) × (place ≡ 0))
 
--- of K: 12 or 13, without a place (rule 5.4)
+-- of K: 12 or 13 at 0 (rule 5.4)
 abbrev pub UnitRefusal : ℕ → ℕ → Type 0
 UnitRefusal number place = ((number ≡ wrongResolution) ⊎ (number ≡ unitOutOfRange)) × (place ≡ 0)
 
--- of a distance: 4, as of K, without a place (rule 9.5)
+-- of a distance: 4 at 0; as of K (rule 9.5)
 abbrev pub DistanceRefusal : ℕ → ℕ → Type 0
 DistanceRefusal number place = ((number ≡ wrongPreamble) × (place ≡ 0)) ⊎ UnitRefusal number place
 
--- of one width: 14, without a place (rule 6.7)
+-- of one width: 14 at 0 (rule 6.7)
 abbrev pub WidthRefusal : ℕ → ℕ → Type 0
 WidthRefusal number place = (number ≡ wrongWidthTable) × (place ≡ 0)
 
@@ -44,7 +44,7 @@ WidthRefusal number place = (number ≡ wrongWidthTable) × (place ≡ 0)
 abbrev pub TableRefusal : ℕ → List ℕ → ℕ → ℕ → Type 0
 TableRefusal size table number place = (number ≡ wrongWidthTable) × ((index : ℕ) × (place ≡ index * size)) × (place < length table)
 
--- of a page: as of the file, of K, and of the table; 15 or 17, without a place; 16 where an opcode of the file stands (rule 9.8)
+-- of a page: as of the file, of K, and of the table; 15 or 17 at 0; 16 in the file (rule 9.8)
 abbrev pub PageRefusal : List ℕ → ℕ → List ℕ → ℕ → ℕ → Type 0
 PageRefusal file size table number place =
     FileRefusal file number place

@@ -5,7 +5,8 @@ use native.Mathlib.Nat.{mul-assoc, mul-comm, mul-one, mul-pos, dvd-mul-right, dv
 use lib.Dec.{lit<}
 use Rattle.units.specs.declared.Ratio.{Ratio}
 use Rattle.units.specs.Divisor.{commonDivisor, lowest}
-use Rattle.units.proofs.Divisor.{Apart, apart-sym, apart-down, apart-mul, ratio, lowest-is, lowest-apart, back-num, back-den, gcd-pos}
+use Rattle.units.specs.LowestTerms.{Apart, ratio}
+use Rattle.units.proofs.Divisor.{apart-sym, apart-down, apart-mul, lowest-is, lowest-apart, back-num, back-den, gcd-pos}
 
 -- a / b with the common divisor g taken out is a′ / b′
 pub record Cut (a b a′ b′ : ℕ) : Type 0 where

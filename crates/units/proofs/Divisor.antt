@@ -3,8 +3,8 @@ use mathlib.Core.Path.{_≡_, refl, sym, ap, ap₂, _∙_, subst}
 use Prim.Native.Nat.{ℕ, zero, suc, _-_, _*_, _/_, _%_, _≤_, _<_, _∣_}
 use native.Mathlib.Nat.{dvd-antisymm, eq-of-mul-eq-mul-left, eq-of-mul-eq-mul-right, div-mul-cancel, dvd-mod-iff, dvd-mul-right, dvd-of-mul-dvd-mul-right, dvd-refl, dvd-trans, dvd-zero, eq-one-of-dvd-one, le-refl, mod-def, mod-lt, mul-assoc, mul-comm, mul-div-cancel, mul-div-mul-right, mul-dvd-mul-right, mul-left-comm, mul-pos, mul-sub, not-suc-le-zero, one-mul, pos-of-dvd-of-pos, zero-lt-suc, zero-mul}
 use native.Mathlib.Omega.{arith}
-use Rattle.units.specs.declared.Ratio.{Ratio}
 use Rattle.units.specs.Divisor.{divisorWithin, commonDivisor, lowest}
+use Rattle.units.specs.LowestTerms.{Apart, ratio}
 
 -- ---- the rule
 
@@ -65,9 +65,6 @@ gcd-scale c h = gcd-ind (λ a b. commonDivisor (a * c) (b * c) ≡ commonDivisor
 
 -- ---- no common factor
 
-abbrev pub Apart : ℕ → ℕ → Type 0
-Apart a b = (d : ℕ) → d ∣ a → d ∣ b → d ≡ 1
-
 pub apart-gcd : (a b : ℕ) → Apart a b → commonDivisor a b ≡ 1
 apart-gcd a b p = p (commonDivisor a b) (gcd-divides a b .0) (gcd-divides a b .1)
 
@@ -92,9 +89,6 @@ pub apart-mul : (a b c : ℕ) → Apart a c → Apart b c → Apart (a * b) c
 apart-mul a b c p q d x y = q d (euclid d a b (λ e u v. p e v (dvd-trans e u y)) x) y
 
 -- ---- lowest terms
-
-abbrev pub ratio : ℕ → ℕ → Ratio
-ratio p q = record { p = p; q = q }
 
 -- a fraction whose terms are apart, with both terms times g, has them as its lowest terms
 module _ (p q g : ℕ) (h : 0 < g) (a : Apart p q) where

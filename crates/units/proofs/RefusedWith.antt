@@ -12,14 +12,14 @@ use Rattle.numbers.specs.Signs.{positive}
 use Rattle.units.specs.Unit.{ratioOf, outOfRange, resolutionOutside, inRange, unitOf}
 use Rattle.units.specs.Rounding.{roundedDistance}
 
--- 12 or 13, without a place
+-- 12 or 13 at 0
 pub unit-refused-with : (num den mag resolution : ℕ) → RefusedOnly UnitRefusal (unitOf num den mag resolution)
 unit-refused-with num den mag resolution =
     let k = ratioOf num den mag resolution in
     if-only UnitRefusal (resolutionOutside resolution) wrongResolution 0 (inRange k) (inl refl, refl)
     (if-only UnitRefusal (outOfRange k) unitOutOfRange 0 (given k) (inr refl, refl) tt)
 
--- 4, 12 or 13, without a place
+-- 4, 12 or 13 at 0
 pub distance-refused-with : (num den mag : ℤ) (resolution : ℕ) (n : ℤ) → RefusedOnly DistanceRefusal (roundedDistance num den mag resolution n)
 distance-refused-with num den mag resolution n =
     let k = unitOf (natAbs num) (natAbs den) (natAbs mag) resolution in

@@ -3,3 +3,4 @@ pub mod Unit
 pub mod Rounding
 pub mod Starred
 pub mod Steps
+pub mod LowestTerms

@@ -2,33 +2,23 @@
 -- counts that it gives are this list's own. Assumes nothing.
 use Prim.Native.Nat.{ℕ, zero, suc, _<_, _≤_}
 use mathlib.Core.Path.{_≡_, refl, sym, _∙_}
-use mathlib.Core.Bool.{cond}
 use mathlib.Core.List.{List, [], _∷_}
 use mathlib.Core.Logic.{_↔_, ⊎-elim}
 use native.Mathlib.Omega.{arith}
 use lib.ListN.{length, length-append}
 use Rattle.refusals.specs.Answer.{Answer, refused, given}
-use Rattle.commands.specs.declared.Kind.the-variants.{PostPost}
 use Rattle.commands.specs.Commands.{Command, written}
 use Rattle.commands.specs.Reading.{longestFile}
 use Rattle.commands.proofs.Ranges.{below-or-not}
 use Rattle.commands.proofs.Fronts.{front-written, front-sound}
 use Rattle.volume.specs.declared.Summary.{Summary}
-use Rattle.volume.specs.Past.{isA, place}
+use Rattle.volume.specs.Past.{place}
 use Rattle.volume.specs.Lawful.{fillers, Follows, ends, goes, Keeps, Lawful}
 use Rattle.volume.specs.Judged.{summary, tail, judgedFrom, judged}
+use Rattle.volume.specs.OfList.{upToLast, counts}
 use Rattle.volume.proofs.Turns.{judged-long, judged-short, judged-cut, judged-undefined, judged-faulty, judged-last, judged-onward, Turn, at-cut, at-undefined, at-fault, at-last, onward, turn}
 use Rattle.volume.proofs.Tails.{fillers-few, fillers-enough, fillers-wrong, Ending, ended, other, ending}
 use Rattle.volume.proofs.FaultLaws.{none-broken, all-kept}
-
--- the commands before and those of a list up to post_post, the newest first
-abbrev pub upToLast : List Command → List Command → List Command
-upToLast past [] = past
-upToLast past (c ∷ cs) = cond (isA PostPost c) (c ∷ past) (upToLast (c ∷ past) cs)
-
--- the counts of a list, at its post_post
-abbrev pub counts : List Command → Summary
-counts cs = summary (upToLast [] cs)
 
 -- ---- a list that goes on by the rules is accepted, with its own counts
 

@@ -13,7 +13,8 @@ use Rattle.volume.specs.Lawful.{fillers, Follows, ends, goes, Lawful}
 use Rattle.volume.specs.Judged.{summary, judged}
 use Rattle.volume.specs.History.{historyFrom, history}
 use Rattle.volume.proofs.Turns.{history-start, history-last, history-onward}
-use Rattle.volume.proofs.Accepts.{upToLast, counts, accepts-lawful, lawful-counts}
+use Rattle.volume.specs.OfList.{upToLast, pastOf, counts}
+use Rattle.volume.proofs.Accepts.{accepts-lawful, lawful-counts}
 
 pub history-of : {past cs : List Command} → Follows past cs → (left : ℕ) → length (written cs) < left
     → historyFrom left past (written cs) ≡ upToLast past cs
@@ -26,7 +27,7 @@ history-of (goes {past = past} {c = c} {cs = cs} w allowed not-last follows) (su
     (history-onward left past (written (c ∷ cs)) c (written cs) (front-written c (written cs) w) not-last
     ∙ history-of follows left (omega (arith, length-append (c .params) (written cs))))
 
-pub lawful-history : (file : List ℕ) → (lawful : Lawful file) → history file ≡ upToLast [] (lawful .1 .0)
+pub lawful-history : (file : List ℕ) → (lawful : Lawful file) → history file ≡ pastOf (lawful .1 .0)
 lawful-history file (short, (cs, keeps, forms)) =
     history-start file ∙ rw (← forms) (history-of keeps (suc (length (written cs))) (omega arith))
 

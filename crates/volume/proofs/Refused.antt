@@ -19,30 +19,11 @@ use Rattle.volume.specs.Past.{isA, place}
 use Rattle.volume.specs.Rules.{fault, Allowed}
 use Rattle.volume.specs.Lawful.{fillers}
 use Rattle.volume.specs.Judged.{summary, tail, judgedFrom, judged}
+use Rattle.volume.specs.Refusing.{RefusesAt, ends-early, strange, breaks, other-byte, too-few, later, FileRefuses}
 use Rattle.volume.proofs.Turns.{judged-long, judged-short, judged-cut, judged-undefined, judged-faulty, judged-last, judged-onward, Turn, at-cut, at-undefined, at-fault, at-last, onward, turn}
 use Rattle.volume.proofs.Tails.{fillers-few, fillers-enough, fillers-wrong, Ending, ended, other, ending}
 use Rattle.volume.proofs.FaultLaws.{none-broken, all-kept}
 use Rattle.volume.proofs.Accepts.{refused-given}
-
--- after the commands before, the bytes cannot go on by the rules: the number and the place
-pub data RefusesAt : List Command → List ℕ → ℕ → ℕ → Type 0 where
-  -- 2: no whole command stands there, and no opcode of 250 or more
-  ends-early : {past : List Command} {bytes : List ℕ} → ((c : Command) (rest : List ℕ) → Whole c → bytes ≡ form c ++ rest → ⊥) → getD bytes 0 0 < 250
-      → RefusesAt past bytes fileEnds (place past)
-  -- 3: an opcode of 250 or more
-  strange : {past : List Command} (opcode : ℕ) (rest : List ℕ) → 250 ≤ opcode → RefusesAt past (opcode ∷ rest) undefinedOpcode (place past)
-  -- 4 to 10: a whole command, and the lowest number that applies to it
-  breaks : {past : List Command} {number : ℕ} (c : Command) (rest : List ℕ) → Whole c → fault past c ≡ number → 0 < number
-      → RefusesAt past (form c ++ rest) number (place past)
-  -- 11: after post_post, a byte other than 223; its place
-  other-byte : {past : List Command} (c : Command) (n byte : ℕ) (rest : List ℕ) → Whole c → Allowed past c → isA PostPost c ≡ true → (byte ≡ 223 → ⊥)
-      → RefusesAt past (form c ++ (written (fillers n) ++ (byte ∷ rest))) wrongTail (place (c ∷ past) + n)
-  -- 11: or else fewer than four 223s; the place after them
-  too-few : {past : List Command} (c : Command) (n : ℕ) → Whole c → Allowed past c → isA PostPost c ≡ true → n < 4
-      → RefusesAt past (form c ++ written (fillers n)) wrongTail (place (c ∷ past) + n)
-  -- a whole command that keeps the rules, and the rest refuses
-  later : {past : List Command} {number at : ℕ} (c : Command) (rest : List ℕ) → Whole c → Allowed past c → isA PostPost c ≡ false
-      → RefusesAt (c ∷ past) rest number at → RefusesAt past (form c ++ rest) number at
 
 -- ---- what cannot go on is refused
 
@@ -140,11 +121,6 @@ is-refused (suc left) past bytes number at h e = go (turn past bytes) (λ c rest
         rw forms (later c rest w (all-kept past c kept) not-last (onwards c rest shorter (sym (judged-onward left past bytes c rest f kept not-last) ∙ e)))
 
 -- ---- whole files
-
--- a file that is refused: 1 with place 0 where it is too long, else what the list of its commands meets first
-abbrev pub FileRefuses : List ℕ → ℕ → ℕ → Type 0
-FileRefuses file number at =
-    ((longestFile < length file) × (number ≡ fileTooLong) × (at ≡ 0)) ⊎ ((length file ≤ longestFile) × RefusesAt [] file number at)
 
 module _ (file : List ℕ) (number at : ℕ) where
   pub refuses-file : FileRefuses file number at → judged file ≡ refused number at

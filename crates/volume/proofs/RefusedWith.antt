@@ -101,7 +101,7 @@ module _ (file : List ℕ) where
 
   -- ---- a font's name
 
-  -- 1 to 11, each at its place, or 8 at the file's start
+  -- 1 to 11, each at its place, or 8 at 0
   pub name-refused-with : (font : ℤ) → RefusedOnly (NameRefusal file) (namePlace file font)
   name-refused-with font =
       then-only (NameRefusal file) (judged file) _ (only-wider May (NameRefusal file) (judged file) (λ number place may. inl may) file-refused-with)

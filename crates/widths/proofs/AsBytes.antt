@@ -1,4 +1,4 @@
--- "as bytes": big-endian numbers of equally many bytes are in the order in which the first byte that differs puts them, and so are the table's keys. Assumes nothing.
+-- Numbers of equally many bytes, the highest first, are in the order in which the first byte that differs puts them, and so are the table's keys. Assumes nothing.
 use mathlib.Core.Path.{_≡_, refl, sym, ap, ap₂, _∙_}
 use mathlib.Core.Bool.{Bool, true, false, cond}
 use mathlib.Core.List.{List, [], _∷_}
@@ -13,16 +13,8 @@ use borrow.Author.Tests.{eqb-true, eqb-false}
 use Rattle.numbers.specs.Bytes.{unsignedAt}
 use Rattle.numbers.proofs.Bytes.{unsigned-below}
 use Rattle.widths.specs.Table.{widthRecordSize, recordOf, rises}
+use Rattle.widths.specs.AsBytes.{Bytes, risesAsBytes, keyBytes}
 use Rattle.widths.proofs.Keys.{same-less}
-
--- the first byte that differs decides; of two equal lists none rises
-abbrev pub risesAsBytes : List ℕ → List ℕ → Bool
-risesAsBytes [] ys = false
-risesAsBytes (x ∷ xs) [] = false
-risesAsBytes (x ∷ xs) (y ∷ ys) = cond (eqb x y) (risesAsBytes xs ys) (ltb x y)
-
-abbrev pub Bytes : List ℕ → Type 0
-Bytes xs = (i : ℕ) → i < length xs → getD xs i 0 < 256
 
 -- ---- a number by its first byte
 
@@ -72,9 +64,6 @@ pub as-bytes : (xs ys : List ℕ) → length xs ≡ length ys → Bytes xs → B
 as-bytes xs ys e p q = rises-by xs ys (length xs) refl (sym e) p q ∙ ap (λ (n : ℕ). ltb (unsignedAt xs 0 (length xs)) (unsignedAt ys 0 n)) e
 
 -- ---- the table's keys
-
-abbrev pub keyBytes : List ℕ → ℕ → List ℕ
-keyBytes table index = take 9 (drop (index * widthRecordSize) table)
 
 part-byte : (table : List ℕ) (at count i : ℕ) → i < count → getD (take count (drop at table)) i 0 ≡ getD table (at + i) 0
 part-byte table at count i h = getD-take count (drop at table) i 0 h ∙ getD-drop at table i 0

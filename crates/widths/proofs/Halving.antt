@@ -12,6 +12,7 @@ use Rattle.numbers.proofs.Signed.{abs-gap, abs-cond}
 use Rattle.widths.specs.declared.FixWord.{FixWord}
 use Rattle.widths.specs.declared.Halved.{Halved}
 use Rattle.widths.specs.Scaling.{halving, halved, share, scaledBy}
+use Rattle.widths.specs.AsBytes.{LastBytes}
 use Rattle.widths.specs.Steps.{Narrow}
 
 abbrev pub at : ℕ → ℕ → Halved
@@ -102,12 +103,6 @@ pub sum-bound : (b1 b2 b3 z : ℕ) → b1 < 256 → b2 < 256 → b3 < 256 → (b
 sum-bound b1 b2 b3 z h1 h2 h3 =
     let byte : (b : ℕ) → b < 256 → b * z ≤ 255 * z = λ b h. mul-le-mul-right z (omega arith) in
     omega (arith, byte b1 h1, byte b2 h2, byte b3 h3)
-
--- the last three bytes of a fix word are bytes
-pub record LastBytes (w : FixWord) : Type 0 where
-  pub b1-below : w .b1 < 256
-  pub b2-below : w .b2 < 256
-  pub b3-below : w .b3 < 256
 
 -- 256 / α is exact, so the three bytes come to at most α × z
 pub share-bound : {scale : ℕ} {k : Halved} (w : FixWord) → Settled scale k → LastBytes w → share k w ≤ k .alpha * k .z

@@ -17,7 +17,7 @@ use Rattle.widths.specs.Scaling.{lawfulFirst, scaledBy, scaledWidth}
 use Rattle.widths.specs.Table.{widthRecordSize, rightRecord, checkedFrom, checkedTable}
 use Rattle.widths.specs.LookUp.{lookedUp}
 
--- 14, without a place
+-- 14 at 0
 pub width-refused-with : (scale : ℕ) (w : FixWord) → RefusedOnly WidthRefusal (scaledWidth scale w)
 width-refused-with scale w =
     if-only WidthRefusal (not (lawfulSize scale && lawfulFirst (w .b0))) wrongWidthTable 0 (given (scaledBy scale w)) (refl, refl) tt

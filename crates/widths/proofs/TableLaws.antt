@@ -15,7 +15,7 @@ use Rattle.refusals.specs.Answer.{refused, given, refuseIf}
 use Rattle.refusals.proofs.Answer.{given-next, given-same}
 use Rattle.widths.specs.declared.table.Key.{Key}
 use Rattle.widths.specs.Steps.{keyNumber, KeyAt, lawfulRest}
-use Rattle.widths.proofs.Halving.{LastBytes}
+use Rattle.widths.specs.AsBytes.{LastBytes}
 use Rattle.widths.proofs.Keys.{less-or-not, key-is, low-key}
 use Rattle.numbers.specs.Sizes.{lawfulSize}
 use Rattle.widths.specs.Scaling.{lawfulFirst}

@@ -3,3 +3,4 @@ pub mod Table
 pub mod LookUp
 pub mod Steps
 pub mod Starred
+pub mod AsBytes

@@ -3,7 +3,8 @@ use mathlib.Core.Path.{ap}
 use Prim.Native.Nat.{ℕ, _<_, _/_}
 use borrow.Author.Needs.{needs}
 use Rattle.units.specs.Divisor.{lowest}
-use Rattle.units.proofs.Divisor.{gcd-pos, ratio}
+use Rattle.units.specs.LowestTerms.{ratio}
+use Rattle.units.proofs.Divisor.{gcd-pos}
 use Rattle.units.proofs.lowest_terms.Statement.{statement}
 use Rattle.units.proofs.lowest_terms.Tie as tie
 

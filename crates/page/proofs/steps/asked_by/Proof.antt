@@ -19,8 +19,9 @@ use Rattle.commands.specs.declared.Kind.the-variants as Kind
 use Rattle.commands.specs.Kinds.{is}
 use Rattle.commands.specs.Commands.{Command, kindOfCommand}
 use Rattle.commands.specs.Parameters.{characterCode, selectedFont}
-use Rattle.commands.proofs.Opcodes.{first, last, kind-range}
-use Rattle.commands.proofs.Lengths.{fixedBy, hasInner, whole-at-most, whole-plain}
+use Rattle.commands.specs.ByKind.{first, last, fixedBy}
+use Rattle.commands.proofs.Opcodes.{kind-range}
+use Rattle.commands.proofs.Lengths.{hasInner, whole-at-most, whole-plain}
 use Rattle.volume.specs.History.{history}
 use Rattle.volume.proofs.Arms.{kind-arm, kind-others, is-kind}
 use Rattle.state.specs.declared.Font.{Font}

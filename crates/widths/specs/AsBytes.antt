@@ -1,0 +1,28 @@
+-- Bytes and their order. What the laws on keys and on widths are stated with. Assumes nothing.
+use Prim.Native.Nat.{ℕ, _*_, _<_}
+use mathlib.Core.Bool.{Bool, false, cond}
+use mathlib.Core.List.{List, [], _∷_}
+use lib.Dec.{ltb, eqb}
+use lib.ListN.{length, getD, take, drop}
+use Rattle.widths.specs.declared.FixWord.{FixWord}
+use Rattle.widths.specs.Table.{widthRecordSize}
+
+-- each element is a byte (rule 1.1)
+abbrev pub Bytes : List ℕ → Type 0
+Bytes xs = (i : ℕ) → i < length xs → getD xs i 0 < 256
+
+-- one row of bytes is below another: at the first place where they differ its byte is the smaller one (rule 6.3)
+abbrev pub risesAsBytes : List ℕ → List ℕ → Bool
+risesAsBytes [] ys = false
+risesAsBytes (x ∷ xs) [] = false
+risesAsBytes (x ∷ xs) (y ∷ ys) = cond (eqb x y) (risesAsBytes xs ys) (ltb x y)
+
+-- the bytes of a record's key (rule 6.1)
+abbrev pub keyBytes : List ℕ → ℕ → List ℕ
+keyBytes table index = take 9 (drop (index * widthRecordSize) table)
+
+-- the last three parts of a fix word are bytes (rule 6.1)
+pub record LastBytes (w : FixWord) : Type 0 where
+  pub b1-below : w .b1 < 256
+  pub b2-below : w .b2 < 256
+  pub b3-below : w .b3 < 256
