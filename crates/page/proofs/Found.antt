@@ -12,7 +12,8 @@ use Rattle.refusals.specs.Answer.{given}
 use Rattle.numbers.specs.Bytes.{unsignedAt}
 use Rattle.numbers.proofs.Signed.{from-small}
 use Rattle.widths.specs.declared.Metric.{Metric}
-use Rattle.widths.specs.Scaling.{scaledBy, lawfulScale, lawfulFirst}
+use Rattle.numbers.specs.Sizes.{lawfulSize}
+use Rattle.widths.specs.Scaling.{scaledBy, lawfulFirst}
 use Rattle.widths.specs.Table.{widthRecordSize, recordOf, checkedTable}
 use Rattle.widths.specs.LookUp.{found, metricOf, isFor, walkFrom, walk}
 use Rattle.widths.proofs.Halving.{width-small}
@@ -45,12 +46,12 @@ module _ (table : List ℕ) (rows checksum scale byte : ℕ) (m : Metric) where
 module _ {table : List ℕ} {rows checksum scale byte : ℕ} {m : Metric} (hit : Hit table rows checksum scale byte m) where
   module _ (judged : checkedTable table ≡ given rows) where
     -- the scale that was looked for is that of a record
-    pub found-scale : lawfulScale scale ≡ true
+    pub found-scale : lawfulSize scale ≡ true
     found-scale =
         let r = recordOf table (hit .index) in
         let tests = and-eq-true-iff (eqb (r .checksum) checksum) (eqb (r .scale) scale && eqb (r .code) byte) .0 (hit .is-for) in
         let same : r .scale ≡ scale = eqb-true (r .scale) scale (and-eq-true-iff (eqb (r .scale) scale) (eqb (r .code) byte) .0 (tests .1) .0) in
-        subst (λ (n : ℕ). lawfulScale n ≡ true) same (record-lawful table rows judged (hit .index) (hit .among) .0)
+        subst (λ (n : ℕ). lawfulSize n ≡ true) same (record-lawful table rows judged (hit .index) (hit .among) .0)
 
     pub found-first : lawfulFirst (m .width .b0) ≡ true
     found-first = subst (λ (f : Metric). lawfulFirst (f .width .b0) ≡ true) (sym (hit .metric-is)) (record-lawful table rows judged (hit .index) (hit .among) .1)

@@ -12,10 +12,11 @@ use lib.IntN.{ℤ, pos, _-ℤ_}
 use lib.Signed.{ltZ}
 use borrow.Author.Tests.{ltb-true, leb-true, not-false}
 use Rattle.refusals.specs.Answer.{given}
-use Rattle.numbers.specs.Signs.{sameNumber}
+use Rattle.numbers.specs.Signs.{sameNumber, positive}
 use Rattle.numbers.specs.Bytes.{unsignedAt, signedAt}
 use Rattle.numbers.proofs.Signed.{diff, lt-yes}
 use Rattle.units.specs.Steps.{Units}
+use Rattle.numbers.specs.Sizes.{lawfulSize}
 use Rattle.commands.specs.declared.Kind.the-variants.{Define, Pre, PostPost}
 use Rattle.commands.specs.Fields.{unsignedIn, preIdentification, preNum, preDen, preMag}
 use Rattle.commands.specs.Commands.{Command, kindOfCommand, whole, front}
@@ -26,7 +27,7 @@ use Rattle.volume.specs.declared.Stage.{Stage}
 use Rattle.volume.specs.declared.Stage.the-variants.{AtStart, BeforePages, OnPage, BetweenPages, AfterPost, AfterEnd}
 use Rattle.volume.specs.declared.Summary.{Summary}
 use Rattle.volume.specs.Past.{isA, place, stage, num, den, mag, fontNumber, body, defines, stands, definitionOf}
-use Rattle.volume.specs.Rules.{isAtStart, lawfulPreamble, positiveUnit, mayStand, lawfulSize, lawfulFont, lawfulDefinition, fontLeftOut, Allowed}
+use Rattle.volume.specs.Rules.{isAtStart, lawfulPreamble, positiveUnit, mayStand, lawfulFont, lawfulDefinition, fontLeftOut, Allowed}
 use Rattle.volume.specs.Judged.{judgedFrom, judged}
 use Rattle.volume.specs.History.{historyFrom, history}
 use Rattle.volume.proofs.Arms.{is-kind}
@@ -118,7 +119,7 @@ module _ (params : List ℕ) (bytes : (i : ℕ) → getD params i 0 < 256) where
   four-below at = omega (arith, bytes (at + 0), bytes (at + 1), bytes (at + 2), bytes (at + 3))
 
   -- and where they are positive as a signed number, below 2^31
-  positive-four : (at : ℕ) → ltZ (pos 0) (signedAt params at 4) ≡ true → (0 < unsignedAt params at 4) × (unsignedAt params at 4 < 2 ^ 31)
+  positive-four : (at : ℕ) → positive (signedAt params at 4) ≡ true → (0 < unsignedAt params at 4) × (unsignedAt params at 4 < 2 ^ 31)
   positive-four at e = by (ltb (unsignedAt params at 4 + unsignedAt params at 4) (256 ^ 4)) refl e
     where
       by : (low : Bool) → ltb (unsignedAt params at 4 + unsignedAt params at 4) (256 ^ 4) ≡ low

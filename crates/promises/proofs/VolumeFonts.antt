@@ -10,13 +10,14 @@ use lib.IntN.{ℤ, pos, natAbs}
 use borrow.Author.Tests.{not-false, eqb-true, eqb-false, eq-eqb, ne-eqb, leb-true}
 use Rattle.numbers.specs.Signs.{sameNumber}
 use Rattle.numbers.proofs.Signed.{same-number-refl, same-number-true}
+use Rattle.numbers.specs.Sizes.{lawfulSize}
 use Rattle.commands.specs.declared.Kind.the-variants.{Define, PostPost}
 use Rattle.commands.specs.Kinds.{is}
 use Rattle.commands.specs.Commands.{Command, kindOfCommand}
 use Rattle.commands.specs.Parameters.{fontScale, fontDesignSize}
 use Rattle.commands.proofs.Ranges.{below-or-not}
 use Rattle.volume.specs.Past.{place, stage, isAfterPost, fontNumber, body, defines, Definition, none, stands, definitionOf, isDefined, fontCount}
-use Rattle.volume.specs.Rules.{lawfulFont, lawfulSize, says, Allowed}
+use Rattle.volume.specs.Rules.{lawfulFont, says, Allowed}
 use Rattle.volume.specs.Lawful.{Keeps}
 use Rattle.volume.proofs.SameBytes.{same-true}
 use Rattle.volume.proofs.FontTables.{lawful-in, defines-kind}

@@ -5,12 +5,13 @@ use mathlib.Core.Bool.{Bool, true, false, cond, not, _&&_, _||_, and-eq-true-iff
 use mathlib.Core.List.{List, [], _∷_, _++_}
 use native.Mathlib.Omega.{arith}
 use lib.Dec.{lit<, leb, eqb}
-use lib.ListN.{length, getD, drop, replicate, length-append}
+use lib.ListN.{length, getD, drop, length-append}
 use lib.Seq.{drop-at}
 use lib.IntN.{pos}
 use borrow.Author.Tests.{not-false, eqb-true, leb-false, ltb-true, ltb-false}
 use Rattle.numbers.specs.Bytes.{unsignedAt}
 use Rattle.numbers.proofs.Signed.{same-number-true}
+use Rattle.numbers.specs.Sizes.{lawfulSize}
 use Rattle.commands.specs.declared.Kind.{Kind}
 use Rattle.commands.specs.declared.Kind.the-variants.{Bop, Eop, Push, Pop, Select, Define, Pre, Post, PostPost}
 use Rattle.commands.specs.Kinds.{kindOf, is}
@@ -22,7 +23,7 @@ use Rattle.commands.proofs.Opcodes.{kind-range}
 use Rattle.volume.specs.declared.Stage.{Stage}
 use Rattle.volume.specs.declared.Stage.the-variants.{AtStart, BeforePages, OnPage, BetweenPages, AfterPost, AfterEnd}
 use Rattle.volume.specs.Past.{isA, stage, stageAfter, isAfterPost, depth, greatest, pages, lastBop, postPlace, num, den, mag, fontNumber, body, Definition, none, stands, definitionOf, isDefined, fontCount}
-use Rattle.volume.specs.Rules.{isAtStart, mayStand, wrongAtDepth, lawfulFont, lawfulSize, says, lawfulDefinition, lawfulPostamble, Allowed}
+use Rattle.volume.specs.Rules.{isAtStart, mayStand, wrongAtDepth, lawfulFont, says, lawfulDefinition, lawfulPostamble, Allowed}
 use Rattle.volume.specs.Lawful.{fillers, Follows, ends, goes, Keeps, Lawful}
 use Rattle.volume.specs.OfList.{upToLast, pastOf}
 use Rattle.volume.specs.Starred.{M}

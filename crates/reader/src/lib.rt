@@ -171,7 +171,7 @@ pub fn scale_width(scale: u32, b0: u8, b1: u8, b2: u8, b3: u8) -> Scaled
         number: refusals::WRONG_WIDTH_TABLE,
         place: 0,
     };
-    if !scaling::lawful_scale(scale as u64) {
+    if !numbers::lawful_size(scale as u64) {
         return out;
     }
     if !scaling::lawful_first(b0) {

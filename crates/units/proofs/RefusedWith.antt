@@ -8,8 +8,9 @@ use Rattle.refusals.specs.Numbers.{wrongPreamble, wrongResolution, unitOutOfRan
 use Rattle.refusals.specs.Answer.{given}
 use Rattle.refusals.specs.RefusedOnly.{RefusedOnly, UnitRefusal, DistanceRefusal}
 use Rattle.refusals.proofs.RefusedOnly.{if-only, then-only, only-wider}
+use Rattle.numbers.specs.Signs.{positive}
 use Rattle.units.specs.Unit.{ratioOf, outOfRange, resolutionOutside, inRange, unitOf}
-use Rattle.units.specs.Rounding.{positive, roundedDistance}
+use Rattle.units.specs.Rounding.{roundedDistance}
 
 -- 12 or 13 at 0
 pub unit-refused-with : (num den mag resolution : ℕ) → RefusedOnly UnitRefusal (unitOf num den mag resolution)

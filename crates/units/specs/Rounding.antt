@@ -1,11 +1,10 @@
 -- Distances in pixels: rounded to the nearest, and rounded up. Assumes nothing.
 use Prim.Native.Nat.{ℕ, suc, _+_, _*_, _-_, _/_}
-use mathlib.Core.Bool.{Bool, _&&_, not}
+use mathlib.Core.Bool.{_&&_, not}
 use lib.IntN.{ℤ, pos, negsuc, negℤ, natAbs}
-use lib.Signed.{ltZ}
 use Rattle.refusals.specs.Numbers.{wrongPreamble}
 use Rattle.refusals.specs.Answer.{Answer, given, refuseIf, andThen}
-use Rattle.numbers.specs.Signs.{withSign}
+use Rattle.numbers.specs.Signs.{withSign, positive}
 use Rattle.units.specs.declared.Ratio.{Ratio}
 use Rattle.units.specs.Unit.{unitOf}
 
@@ -21,10 +20,6 @@ rounded k n = withSign n (nearestWhole k (natAbs n))
 abbrev pub roundedUp : Ratio → ℤ → ℤ
 roundedUp k (pos m) = pos ((k .p * m + (k .q - 1)) / k .q)
 roundedUp k (negsuc m) = negℤ (pos (k .p * suc m / k .q))
-
--- "positive as a signed number"
-abbrev pub positive : ℤ → Bool
-positive z = ltZ (pos 0) z
 
 -- what round_distance answers (rule 9.5)
 abbrev pub roundedDistance : ℤ → ℤ → ℤ → ℕ → ℤ → Answer ℤ

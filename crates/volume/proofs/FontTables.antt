@@ -11,6 +11,7 @@ use lib.IntN.{ℤ, pos, negsuc, natAbs}
 use lib.Signed.{nonNeg}
 use borrow.Author.Tests.{ne-eqb, leb-true, le-leb}
 use Rattle.numbers.specs.Signs.{sameNumber}
+use Rattle.numbers.specs.Sizes.{lawfulSize}
 use Rattle.commands.specs.declared.Kind.the-variants.{Define}
 use Rattle.commands.specs.Kinds.{kindOf, is}
 use Rattle.commands.specs.Commands.{Command, kindOfCommand}
@@ -18,7 +19,7 @@ use Rattle.commands.specs.Parameters.{definedFont, definition, fontScale, fontD
 use Rattle.state.specs.Limits.{mostFonts}
 use Rattle.volume.specs.declared.Stage.{Stage}
 use Rattle.volume.specs.Past.{place, stage, isAfterPost, defines, fontNumber, Definition, none, stands, definitionOf, isDefined, fontCount}
-use Rattle.volume.specs.Rules.{lawfulFont, lawfulSize, says, lawfulDefinition}
+use Rattle.volume.specs.Rules.{lawfulFont, says, lawfulDefinition}
 use Rattle.volume.specs.Steps.{command, entryOf, Tells, StandsIn, SayingIs}
 use Rattle.volume.proofs.Arms.{is-kind}
 

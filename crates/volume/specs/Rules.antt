@@ -6,9 +6,10 @@ use mathlib.Core.Bool.{Bool, true, false, cond, not, _&&_, _||_}
 use mathlib.Core.List.{List, [], _∷_}
 use lib.Dec.{ltb, leb, eqb}
 use lib.IntN.{ℤ, pos}
-use lib.Signed.{leZ, ltZ}
+use lib.Signed.{leZ}
 use Rattle.refusals.specs.Numbers.{wrongPreamble, misplacedCommand, wrongDepth, wrongFontDefinition, noFont, wrongPointer, wrongPostamble}
-use Rattle.numbers.specs.Signs.{sameNumber}
+use Rattle.numbers.specs.Signs.{sameNumber, positive}
+use Rattle.numbers.specs.Sizes.{lawfulSize}
 use Rattle.commands.specs.declared.Kind.{Kind}
 use Rattle.commands.specs.declared.Kind.the-variants.{SetCharacter, PutCharacter, Nop, Bop, Eop, Push, Pop, Select, Define, Pre, Post, PostPost}
 use Rattle.commands.specs.Kinds.{is}
@@ -34,7 +35,7 @@ isAtStart AfterEnd = false
 
 -- a unit of pre is above zero, where it is read with a sign
 abbrev pub positiveUnit : UnsignedField → List ℕ → Bool
-positiveUnit field params = ltZ (pos 0) (signedIn (asSigned field) params)
+positiveUnit field params = positive (signedIn (asSigned field) params)
 
 -- pre has identification 2, and its three units are above zero
 abbrev pub lawfulPreamble : List ℕ → Bool
@@ -78,10 +79,6 @@ depthWrong past c = wrongAtDepth (kindOfCommand c) (depth past)
 -- "number 0 to 255"
 abbrev pub lawfulFont : ℤ → Bool
 lawfulFont number = leZ (pos 0) number && leZ number (pos 255)
-
--- "scale s and design size d each 1 to 134,217,727"
-abbrev pub lawfulSize : ℕ → Bool
-lawfulSize size = leb 1 size && leb size 134217727
 
 -- two lists of bytes are the same
 unfoldable pub sameBytes : List ℕ → List ℕ → Bool

@@ -114,10 +114,10 @@ pub fn lawful_definition(
     }
     let from = (opcode - fields::BEFORE_DEFINITION) as usize;
     let said = &params[from..];
-    if !rules::lawful_size(fields::unsigned_in(fields::DEFINITION_SCALE, said)) {
+    if !numbers::lawful_size(fields::unsigned_in(fields::DEFINITION_SCALE, said)) {
         return false;
     }
-    if !rules::lawful_size(fields::unsigned_in(fields::DEFINITION_DESIGN_SIZE, said)) {
+    if !numbers::lawful_size(fields::unsigned_in(fields::DEFINITION_DESIGN_SIZE, said)) {
         return false;
     }
     let early = entry_of(fonts, number);

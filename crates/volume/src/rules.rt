@@ -12,7 +12,7 @@ ghost use Rattle.numbers.specs.Signs.{sameNumber};
 ghost use Rattle.commands.specs.Fields.{signedIn, preMag, postPages};
 ghost use Rattle.volume.specs.Past.{isAfterPost};
 ghost use Rattle.commands.specs.declared.Kind.the-variants.{Nop, Bop, Post, PostPost};
-ghost use Rattle.volume.specs.Rules.{isAtStart, positiveUnit, lawfulPreamble, mayStand, wrongAtDepth, lawfulSize, lawfulPostamble};
+ghost use Rattle.volume.specs.Rules.{isAtStart, positiveUnit, lawfulPreamble, mayStand, wrongAtDepth, lawfulPostamble};
 
 // Whether the list is at its start.
 pub fn at_start(stage: Stage) -> bool
@@ -128,16 +128,6 @@ pub fn wrong_at_depth(kind: Kind, depth: usize) -> bool
         Kind::Eop => 0 < depth,
         _ => false,
     }
-}
-
-// 7: whether a scale or a design size is 1 to 134,217,727.
-pub fn lawful_size(size: u64) -> bool
-    ensures { λ r. ⌜ r ≡ lawfulSize size ⌝ }
-{
-    if size < 1 {
-        return false;
-    }
-    size <= 134217727
 }
 
 // 9: whether a pointer is this one.

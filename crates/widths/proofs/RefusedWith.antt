@@ -11,15 +11,16 @@ use Rattle.refusals.specs.Numbers.{wrongWidthTable}
 use Rattle.refusals.specs.Answer.{given, refuseIf}
 use Rattle.refusals.specs.RefusedOnly.{RefusedOnly, WidthRefusal, TableRefusal}
 use Rattle.refusals.proofs.RefusedOnly.{if-only, then-only}
+use Rattle.numbers.specs.Sizes.{lawfulSize}
 use Rattle.widths.specs.declared.FixWord.{FixWord}
-use Rattle.widths.specs.Scaling.{lawfulScale, lawfulFirst, scaledBy, scaledWidth}
+use Rattle.widths.specs.Scaling.{lawfulFirst, scaledBy, scaledWidth}
 use Rattle.widths.specs.Table.{widthRecordSize, rightRecord, checkedFrom, checkedTable}
 use Rattle.widths.specs.LookUp.{lookedUp}
 
 -- 14 at 0
 pub width-refused-with : (scale : ℕ) (w : FixWord) → RefusedOnly WidthRefusal (scaledWidth scale w)
 width-refused-with scale w =
-    if-only WidthRefusal (not (lawfulScale scale && lawfulFirst (w .b0))) wrongWidthTable 0 (given (scaledBy scale w)) (refl, refl) tt
+    if-only WidthRefusal (not (lawfulSize scale && lawfulFirst (w .b0))) wrongWidthTable 0 (given (scaledBy scale w)) (refl, refl) tt
 
 module _ (table : List ℕ) where
   -- what may be of a table

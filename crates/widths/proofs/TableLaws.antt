@@ -17,7 +17,8 @@ use Rattle.widths.specs.declared.table.Key.{Key}
 use Rattle.widths.specs.Steps.{keyNumber, KeyAt, lawfulRest}
 use Rattle.widths.specs.AsBytes.{LastBytes}
 use Rattle.widths.proofs.Keys.{less-or-not, key-is, low-key}
-use Rattle.widths.specs.Scaling.{lawfulScale, lawfulFirst}
+use Rattle.numbers.specs.Sizes.{lawfulSize}
+use Rattle.widths.specs.Scaling.{lawfulFirst}
 use Rattle.widths.specs.Table.{widthRecordSize, recordAt, recordOf, rises, lawfulFields, wholeRecord, rightRecord, checkedFrom, checkedTable}
 
 -- ---- the loop
@@ -45,7 +46,7 @@ module _ (table : List ℕ) where
   unfolding recordOf
   first-reach true e =
       let none : unsignedAt table 4 4 ≡ 0 = low-key table 0 (ltb-true (unsignedAt table 0 9) 256 e) in
-      ap (λ (scale : ℕ). lawfulScale scale && lawfulRest (recordAt table 0)) none
+      ap (λ (scale : ℕ). lawfulSize scale && lawfulRest (recordAt table 0)) none
   first-reach false e = refl
 
   pub check-starts : Checking table 0 256
@@ -109,7 +110,7 @@ module _ (table : List ℕ) where
 
     -- the key reaches `least`, and its scale is lawful
     abbrev pub keyRight : Bool
-    keyRight = not (ltb here least) && lawfulScale (recordAt table at .scale)
+    keyRight = not (ltb here least) && lawfulSize (recordAt table at .scale)
 
     -- a whole record is right where its key is, and the rest
     right-is : at + widthRecordSize ≤ length table → rightRecord table (c .index) ≡ (keyRight && lawfulRest (recordAt table at))
@@ -117,7 +118,7 @@ module _ (table : List ℕ) where
     right-is h =
         simp (le-leb (c .index * widthRecordSize + widthRecordSize) (length table) (omega (arith, c .place)))
         (c .reach ∙ ap (λ (n : ℕ). not (ltb here least) && lawfulFields (recordAt table n)) (sym (c .place))
-        ∙ sym (and-assoc (not (ltb here least)) (lawfulScale (recordAt table at .scale)) (lawfulRest (recordAt table at))))
+        ∙ sym (and-assoc (not (ltb here least)) (lawfulSize (recordAt table at .scale)) (lawfulRest (recordAt table at))))
 
     pub check-key : at + widthRecordSize ≤ length table → keyRight ≡ false → refused wrongWidthTable at ≡ checkedTable table
     check-key h e = wrong (omega arith) (right-is h ∙ ap (λ (key : Bool). key && lawfulRest (recordAt table at)) e)
@@ -183,10 +184,10 @@ module _ (table : List ℕ) (records : ℕ) where
     record-right index h = right-all .right index (omega arith) h
 
     -- its scale and its width's first byte are lawful
-    pub record-lawful : (index : ℕ) → index < records → (lawfulScale (recordOf table index .scale) ≡ true) × (lawfulFirst (recordOf table index .width .b0) ≡ true)
+    pub record-lawful : (index : ℕ) → index < records → (lawfulSize (recordOf table index .scale) ≡ true) × (lawfulFirst (recordOf table index .width .b0) ≡ true)
     record-lawful index h =
         let r = recordOf table index in
-        let lawful = and-eq-true-iff (lawfulScale (r .scale)) (eqb (r .zero-byte) 0 && lawfulFirst (r .width .b0)) .0 (right-parts table index (record-right index h) .2) in
+        let lawful = and-eq-true-iff (lawfulSize (r .scale)) (eqb (r .zero-byte) 0 && lawfulFirst (r .width .b0)) .0 (right-parts table index (record-right index h) .2) in
         (lawful .0, and-eq-true-iff (eqb (r .zero-byte) 0) (lawfulFirst (r .width .b0)) .0 (lawful .1) .1)
 
     rises-one : (index : ℕ) → suc index < records → recordOf table index .key < recordOf table (suc index) .key

@@ -5,6 +5,7 @@ use lib.Dec.{leb, eqb}
 use lib.IntN.{ℤ, pos, _-ℤ_}
 use Rattle.refusals.specs.Numbers.{wrongWidthTable}
 use Rattle.refusals.specs.Answer.{Answer, given, refuseIf}
+use Rattle.numbers.specs.Sizes.{lawfulSize}
 use Rattle.widths.specs.declared.FixWord.{FixWord}
 use Rattle.widths.specs.declared.Halved.{Halved}
 
@@ -33,14 +34,10 @@ signedShare k w = cond (eqb (w .b0) 255) (pos (share k w) -ℤ pos (k .alpha * k
 abbrev pub scaledBy : ℕ → FixWord → ℤ
 scaledBy scale w = signedShare (halved scale) w
 
--- the range of a scale (rule 1.5)
-abbrev pub lawfulScale : ℕ → Bool
-lawfulScale scale = leb 1 scale && leb scale 134217727
-
 -- the first byte of a fix word (rule 6.5)
 abbrev pub lawfulFirst : ℕ → Bool
 lawfulFirst b0 = eqb b0 0 || eqb b0 255
 
 -- what scale_width answers (rule 6.7)
 abbrev pub scaledWidth : ℕ → FixWord → Answer ℤ
-scaledWidth scale w = refuseIf (not (lawfulScale scale && lawfulFirst (w .b0))) wrongWidthTable 0 (given (scaledBy scale w))
+scaledWidth scale w = refuseIf (not (lawfulSize scale && lawfulFirst (w .b0))) wrongWidthTable 0 (given (scaledBy scale w))

@@ -14,7 +14,8 @@ use Rattle.widths.specs.declared.table.Table.{Table}
 use Rattle.widths.specs.declared.table.Table.the-variants.{Right, Wrong}
 use Rattle.widths.specs.declared.table.Place.{Place}
 use Rattle.widths.specs.declared.table.Place.the-variants.{At, Nowhere}
-use Rattle.widths.specs.Scaling.{lawfulScale, lawfulFirst}
+use Rattle.numbers.specs.Sizes.{lawfulSize}
+use Rattle.widths.specs.Scaling.{lawfulFirst}
 use Rattle.widths.specs.Table.{WidthRecord, recordOf}
 use Rattle.widths.specs.LookUp.{LookUp, found, absent, metricOf}
 
@@ -41,7 +42,7 @@ reaches key least = not (ltb (keyNumber key) (keyNumber least))
 
 -- what a next key must reach: where a key of its head can have its code, its scale is lawful
 abbrev pub LeastKey : Key → Type 0
-LeastKey least = (least .code ≤ 256) × (least .code < 256 → lawfulScale (least .head % 2 ^ 32) ≡ true)
+LeastKey least = (least .code ≤ 256) × (least .code < 256 → lawfulSize (least .head % 2 ^ 32) ≡ true)
 
 -- the fields beside the key are right
 abbrev pub lawfulRest : WidthRecord → Bool

@@ -9,7 +9,8 @@ use Rattle.refusals.specs.Numbers.{wrongWidthTable}
 use Rattle.refusals.specs.Answer.{Answer, given, refuseIf}
 use Rattle.numbers.specs.Bytes.{unsignedAt, signedAt}
 use Rattle.widths.specs.declared.FixWord.{FixWord}
-use Rattle.widths.specs.Scaling.{lawfulScale, lawfulFirst}
+use Rattle.numbers.specs.Sizes.{lawfulSize}
+use Rattle.widths.specs.Scaling.{lawfulFirst}
 
 -- how many bytes a record has (rule 6.1)
 abbrev pub widthRecordSize : ℕ
@@ -49,7 +50,7 @@ rises table (suc index) = ltb (recordOf table index .key) (recordOf table (suc i
 
 -- a record's own fields are right (rules 6.4, 6.5)
 abbrev pub lawfulFields : WidthRecord → Bool
-lawfulFields r = lawfulScale (r .scale) && (eqb (r .zero-byte) 0 && lawfulFirst (r .width .b0))
+lawfulFields r = lawfulSize (r .scale) && (eqb (r .zero-byte) 0 && lawfulFirst (r .width .b0))
 
 -- the table has all bytes of a record (rule 6.2)
 abbrev pub wholeRecord : List ℕ → ℕ → Bool

@@ -4,7 +4,8 @@ use crate::Halved;
 ghost use mathlib.Core.Path.{_≡_};
 ghost use mathlib.Core.Bool.{true};
 ghost use Prim.Native.Nat.{_≤_, _<_, _*_, _^_};
-ghost use Rattle.widths.specs.Scaling.{halved, share, signedShare, scaledBy, lawfulScale, lawfulFirst};
+ghost use Rattle.numbers.specs.Sizes.{lawfulSize};
+ghost use Rattle.widths.specs.Scaling.{halved, share, signedShare, scaledBy, lawfulFirst};
 ghost use Rattle.widths.specs.Steps.{Narrow};
 
 // z and α: while z is 8,388,608 or more, z is halved downwards and α doubled.
@@ -53,16 +54,6 @@ pub fn scaled(k: Halved, w: FixWord) -> i64
     }
 }
 
-// Whether a scale is 1 to 134,217,727.
-pub fn lawful_scale(scale: u64) -> bool
-    ensures { λ r. ⌜ r ≡ lawfulScale scale ⌝ }
-{
-    if scale < 1 {
-        return false;
-    }
-    scale <= 134217727
-}
-
 // Whether a width's first byte is 0 or 255.
 pub fn lawful_first(b0: u8) -> bool
     ensures { λ r. ⌜ r ≡ lawfulFirst b0 ⌝ }
@@ -75,7 +66,7 @@ pub fn lawful_first(b0: u8) -> bool
 
 // The width of a fix word at a scale.
 pub fn scale_width(scale: u64, w: FixWord) -> i64
-    requires { ⌜ (lawfulScale scale ≡ true) × (lawfulFirst (w .b0) ≡ true) ⌝ }
+    requires { ⌜ (lawfulSize scale ≡ true) × (lawfulFirst (w .b0) ≡ true) ⌝ }
     ensures { λ r. ⌜ r ≡ scaledBy scale w ⌝ }
 {
     scaled(halve(scale), w)

@@ -8,7 +8,7 @@ ghost use Prim.Native.Nat.{_+_, _*_, _%_, _≤_, _<_, _^_};
 ghost use lib.Dec.{ltb, eqb};
 ghost use lib.ListN.{length};
 ghost use Rattle.refusals.specs.Answer.{given};
-ghost use Rattle.widths.specs.Scaling.{lawfulScale};
+ghost use Rattle.numbers.specs.Sizes.{lawfulSize};
 ghost use Rattle.widths.specs.Table.{recordAt, recordOf, checkedTable};
 ghost use Rattle.widths.specs.LookUp.{metricOf, walk};
 ghost use Rattle.widths.specs.Steps.{keyNumber, KeyAt, reaches, LeastKey, lawfulRest, tableSays, foundAt, Among, FirstNotBelow};
@@ -97,7 +97,7 @@ fn same(a: Key, b: Key) -> bool
 // bytes again would keep the key from being one load. Where the head is that of the key before it, the scale was judged there.
 fn lawful_key(key: Key, least: Key) -> bool
     requires { ⌜ (key .code < 256) × LeastKey least ⌝ }
-    ensures { λ r. ⌜ r ≡ reaches key least && lawfulScale (key .head % 2 ^ 32) ⌝ }
+    ensures { λ r. ⌜ r ≡ reaches key least && lawfulSize (key .head % 2 ^ 32) ⌝ }
 {
     if key.head == least.head {
         return least.code <= key.code;
@@ -105,7 +105,7 @@ fn lawful_key(key: Key, least: Key) -> bool
     if key.head < least.head {
         return false;
     }
-    scaling::lawful_scale(key.head % SCALE_SPAN)
+    numbers::lawful_size(key.head % SCALE_SPAN)
 }
 
 // Whether the zero byte and the width's first byte of the record at a place are right.

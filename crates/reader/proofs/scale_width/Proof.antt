@@ -5,18 +5,19 @@ use borrow.Author.Needs.{needs, sfits-of}
 use borrow.Author.Tests.{not-true, not-false}
 use mir.Facts.{toZ-ofZ}
 use Rattle.refusals.specs.Answer.{given}
-use Rattle.widths.specs.Scaling.{lawfulScale, lawfulFirst}
+use Rattle.numbers.specs.Sizes.{lawfulSize}
+use Rattle.widths.specs.Scaling.{lawfulFirst}
 use Rattle.reader.proofs.scale_width.Statement.{statement}
 use Rattle.reader.proofs.scale_width.Tie as tie
 
-lawful-scale-requires : tie.Need-lawful-scale-requires
-lawful-scale-requires c κs = search needs
+lawful-size-requires : tie.Need-lawful-size-requires
+lawful-size-requires c κs = search needs
 
-scale-fails : (c : tie.Then1) → lawfulScale (c .before .before .args .scale) ≡ false
-scale-fails c = sym (c .before .lawful-scale .ensures) ∙ not-true (c .before .lawful-scale .result) (c .if1 .taken)
+scale-fails : (c : tie.Then1) → lawfulSize (c .before .before .args .scale) ≡ false
+scale-fails c = sym (c .before .lawful-size .ensures) ∙ not-true (c .before .lawful-size .result) (c .if1 .taken)
 
-scale-passes : (c : tie.Else1) → lawfulScale (c .before .before .args .scale) ≡ true
-scale-passes c = sym (c .before .lawful-scale .ensures) ∙ not-false (c .before .lawful-scale .result) (c .if1 .left)
+scale-passes : (c : tie.Else1) → lawfulSize (c .before .before .args .scale) ≡ true
+scale-passes c = sym (c .before .lawful-size .ensures) ∙ not-false (c .before .lawful-size .result) (c .if1 .left)
 
 returns : tie.Need-returns
 returns c = simp (scale-fails c)
@@ -45,7 +46,7 @@ pub scale-width-spec : {M : Type 1} → statement M
 scale-width-spec =
     tie.close
     (tie.spec
-    lawful-scale-requires
+    lawful-size-requires
     returns
     lawful-first-requires
     returns-2

@@ -12,6 +12,7 @@ use mir.Val.{toZ, ofZ}
 use mir.Facts.{toZ-ofZ}
 use borrow.Author.Needs.{needs, sfits-of}
 use borrow.Author.Tests.{not-true, not-false}
+use Rattle.numbers.specs.Sizes.{lawfulSize}
 use Rattle.commands.specs.Fields.{definitionNumberSize, definitionName}
 use Rattle.commands.specs.Commands.{Command}
 use Rattle.commands.specs.Parameters.{definedFont, definition, fontScale, fontDesignSize}
@@ -20,7 +21,7 @@ use Rattle.commands.proofs.Lengths.{fixed-of}
 use Rattle.state.specs.Limits.{mostFonts}
 use Rattle.volume.specs.declared.Stage.{Stage}
 use Rattle.volume.specs.Past.{isAfterPost, Definition, definitionOf}
-use Rattle.volume.specs.Rules.{lawfulFont, lawfulSize, says, lawfulDefinition}
+use Rattle.volume.specs.Rules.{lawfulFont, says, lawfulDefinition}
 use Rattle.volume.specs.Steps.{command}
 use Rattle.volume.proofs.FontTables.{told-yes, told-none, told-says, inTurn, wrong-number, wrong-scale, wrong-design-size, turn-decides, twice-after, once-after, twice-before, once-before, said-all}
 use Rattle.volume.proofs.fonts.lawful_definition.Statement.{statement}

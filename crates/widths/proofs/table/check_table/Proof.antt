@@ -9,7 +9,7 @@ use lib.Dec.{ltb}
 use lib.ListN.{length}
 use denote.Ref.{now}
 use Rattle.numbers.specs.Bytes.{unsignedAt}
-use Rattle.widths.specs.Scaling.{lawfulScale}
+use Rattle.numbers.specs.Sizes.{lawfulSize}
 use Rattle.widths.specs.Table.{widthRecordSize, recordOf}
 use Rattle.widths.specs.Steps.{keyNumber, reaches, LeastKey}
 use Rattle.widths.proofs.TableLaws.{Checking, check-starts, check-ends, check-cut, keyRight, check-key, check-rest, check-turns, key-here}
@@ -54,7 +54,7 @@ module _ (c : tie.After-lawful-key Inv-loop μ-loop) where
       let k = c .before .key-at in
       let scale-is : k .result .head % 2 ^ 32 ≡ unsignedAt table (head .loop .at + 4) 4 = omega (arith, k .ensures .head-is, k .ensures .scale-below) in
       c .lawful-key .ensures
-      ∙ ap₂ (λ (n scale : ℕ). not (ltb n least) && lawfulScale scale) (key-here table (head .loop .at) least (head .loop .inv .2) (k .result) (k .ensures)) scale-is
+      ∙ ap₂ (λ (n scale : ℕ). not (ltb n least) && lawfulSize scale) (key-here table (head .loop .at) least (head .loop .inv .2) (k .result) (k .ensures)) scale-is
 
 returns : tie.Need-returns Inv-loop μ-loop
 returns c =
@@ -87,7 +87,7 @@ loop-again c =
     let l = head k .loop in
     let key = k .before .key-at in
     let right : keyRight (table k) (l .at) (least k) (l .inv .2) ≡ true = sym (key-test k) ∙ not-false _ (c .before .before .before .if1 .left) in
-    let lawful : lawfulScale (key .result .head % 2 ^ 32) ≡ true = and-eq-true-iff (reaches (key .result) (l .least)) (lawfulScale (key .result .head % 2 ^ 32)) .0 (sym (k .lawful-key .ensures) ∙ not-false _ (c .before .before .before .if1 .left)) .1 in
+    let lawful : lawfulSize (key .result .head % 2 ^ 32) ≡ true = and-eq-true-iff (reaches (key .result) (l .least)) (lawfulSize (key .result .head % 2 ^ 32)) .0 (sym (k .lawful-key .ensures) ∙ not-false _ (c .before .before .before .if1 .left)) .1 in
     let next = check-turns (table k) (l .at) (least k) (l .inv .2) (inside (k .before .before)) right (sym (c .before .before .lawful-rest .ensures) ∙ not-false _ (c .before .if2 .left)) in
     let e : recordOf (table k) (l .inv .2 .index) .key + 1 ≡ key .result .head * 256 + (key .result .code + 1) =
     omega (arith, key-here (table k) (l .at) (least k) (l .inv .2) (key .result) (key .ensures)) in

@@ -7,20 +7,20 @@ use lib.Dec.{leb}
 use borrow.Author.Needs.{needs}
 use borrow.Author.Tests.{leb-true, leb-false, lt-ltb, le-ltb}
 use Rattle.widths.specs.declared.table.Key.{Key}
-use Rattle.widths.specs.Scaling.{lawfulScale}
+use Rattle.numbers.specs.Sizes.{lawfulSize}
 use Rattle.widths.specs.Steps.{keyNumber, reaches, LeastKey}
 use Rattle.widths.proofs.table.lawful_key.Statement.{statement}
 use Rattle.widths.proofs.table.lawful_key.Tie as tie
 
 -- of two keys with one head the codes decide, and the scale is lawful
 same-head : (key least : Key) → key .code < 256 → LeastKey least → key .head ≡ least .head
-    → leb (least .code) (key .code) ≡ (reaches key least && lawfulScale (key .head % 2 ^ 32))
+    → leb (least .code) (key .code) ≡ (reaches key least && lawfulSize (key .head % 2 ^ 32))
 same-head key least small least-is e = by (leb (least .code) (key .code)) refl
   where
-    by : (reached : Bool) → leb (least .code) (key .code) ≡ reached → reached ≡ (reaches key least && lawfulScale (key .head % 2 ^ 32))
+    by : (reached : Bool) → leb (least .code) (key .code) ≡ reached → reached ≡ (reaches key least && lawfulSize (key .head % 2 ^ 32))
     by true q =
-        let lawful : lawfulScale (key .head % 2 ^ 32) ≡ true =
-        subst (λ (head : ℕ). lawfulScale (head % 2 ^ 32) ≡ true) (sym e) (least-is .1 (omega (arith, leb-true (least .code) (key .code) q))) in
+        let lawful : lawfulSize (key .head % 2 ^ 32) ≡ true =
+        subst (λ (head : ℕ). lawfulSize (head % 2 ^ 32) ≡ true) (sym e) (least-is .1 (omega (arith, leb-true (least .code) (key .code) q))) in
         simp (le-ltb (keyNumber key) (keyNumber least) (omega (arith, e, leb-true (least .code) (key .code) q)), lawful)
     by false q = simp (lt-ltb (keyNumber key) (keyNumber least) (omega (arith, e, leb-false (least .code) (key .code) q)))
 
@@ -34,13 +34,13 @@ returns-2 c =
     let s = c .before .before .before .before .before .before in
     simp (lt-ltb (keyNumber (s .args .key)) (keyNumber (s .args .least)) (omega arith))
 
-lawful-scale-requires : tie.Need-lawful-scale-requires
-lawful-scale-requires c κs = search needs
+lawful-size-requires : tie.Need-lawful-size-requires
+lawful-size-requires c κs = search needs
 
 returns-3 : tie.Need-returns-3
 returns-3 c =
     let s = c .before .before .before .before .before .before .before .before in
-    simp (le-ltb (keyNumber (s .args .key)) (keyNumber (s .args .least)) (omega arith)) (c .lawful-scale .ensures)
+    simp (le-ltb (keyNumber (s .args .key)) (keyNumber (s .args .least)) (omega arith)) (c .lawful-size .ensures)
 
 pub lawful-key-spec : {M : Type 1} → statement M
-lawful-key-spec = tie.close (tie.spec returns returns-2 lawful-scale-requires returns-3)
+lawful-key-spec = tie.close (tie.spec returns returns-2 lawful-size-requires returns-3)

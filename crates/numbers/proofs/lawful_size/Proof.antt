@@ -1,8 +1,8 @@
--- `volume::rules::lawful_size` meets its contract: its two tests are the rule's. Assumes nothing.
+-- `numbers::lawful_size` meets its contract: its two tests are the rule's. Assumes nothing.
 use native.Mathlib.Omega.{arith}
 use borrow.Author.Tests.{lt-leb, le-leb}
-use Rattle.volume.proofs.rules.lawful_size.Statement.{statement}
-use Rattle.volume.proofs.rules.lawful_size.Tie as tie
+use Rattle.numbers.proofs.lawful_size.Statement.{statement}
+use Rattle.numbers.proofs.lawful_size.Tie as tie
 
 returns : tie.Need-returns
 returns c = rw (lt-leb 1 (c .before .args .size) (omega arith))
