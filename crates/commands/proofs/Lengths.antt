@@ -12,7 +12,7 @@ use lib.Seq.{length-take-le}
 use borrow.Author.Tests.{le-ltb}
 use Rattle.numbers.proofs.Bytes.{unsigned-front, unsigned-drop}
 use Rattle.commands.specs.declared.Kind.{Kind}
-use Rattle.commands.specs.declared.Kind.the-variants.{SetCharacter, SetRule, PutCharacter, PutRule, Nop, Bop, Eop, Push, Pop, Right, W, X, Down, Y, Z, Select, Special, Define, Pre, Post, PostPost, Undefined}
+use Rattle.commands.specs.declared.Kind.the-variants.{SetCharacter, Bop, Special, Define, Pre, Undefined}
 use Rattle.commands.specs.Kinds.{kindOf}
 use Rattle.commands.specs.ByKind.{first, last, fixedBy}
 use Rattle.commands.specs.declared.fields.UnsignedField.{UnsignedField}

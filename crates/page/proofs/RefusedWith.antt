@@ -7,7 +7,7 @@ use mathlib.Core.Logic.{inl, inr}
 use native.Mathlib.Omega.{arith}
 use lib.Dec.{ltb}
 use lib.ListN.{length, drop, length-drop}
-use Rattle.refusals.specs.Numbers.{noSuchPage, positionOutOfRange, areaTooShort}
+use Rattle.refusals.specs.Numbers.{noSuchPage, areaTooShort}
 use Rattle.refusals.specs.Answer.{Answer, refused, given, andThen}
 use Rattle.refusals.specs.RefusedOnly.{RefusedOnly, FileRefusal, UnitRefusal, TableRefusal, PageRefusal}
 use Rattle.refusals.proofs.RefusedOnly.{if-only, then-only, only-wider}

@@ -14,7 +14,7 @@ use Rattle.state.specs.declared.Font.{Font}
 use Rattle.state.specs.Registers.{State}
 use Rattle.page.specs.declared.Record.{Record}
 use Rattle.page.specs.PageList.{Located}
-use Rattle.page.specs.Placing.{Setting, fontOf, lookedFor, Added, Outcome, continues, leavesRange, isVisible, after}
+use Rattle.page.specs.Placing.{Setting, fontOf, lookedFor, Added, continues, leavesRange, isVisible, after}
 
 -- a command and the font that is current at it
 pub record Seen : Type 0 where

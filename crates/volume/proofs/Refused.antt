@@ -2,12 +2,12 @@
 -- number names. Assumes nothing.
 use Prim.Native.Nat.{ℕ, zero, suc, _+_, _<_, _≤_}
 use mathlib.Core.Path.{_≡_, refl, ap, sym, _∙_}
-use mathlib.Core.Bool.{true, false}
+use mathlib.Core.Bool.{true}
 use mathlib.Core.List.{List, [], _∷_, _++_}
 use mathlib.Core.Logic.{_↔_, _⊎_, inl, inr, ⊎-elim}
 use native.Mathlib.Omega.{arith}
 use lib.ListN.{length, getD, length-append}
-use Rattle.refusals.specs.Numbers.{fileTooLong, fileEnds, undefinedOpcode, wrongTail}
+use Rattle.refusals.specs.Numbers.{fileTooLong, undefinedOpcode}
 use Rattle.refusals.specs.Answer.{Answer, refused}
 use Rattle.commands.specs.declared.Kind.the-variants.{PostPost}
 use Rattle.commands.specs.Commands.{Command, Whole, form, written, Front, cut, undefined, whole, front}
@@ -16,7 +16,7 @@ use Rattle.commands.proofs.Ranges.{below-or-not}
 use Rattle.commands.proofs.Fronts.{after-undefined, front-written, front-sound, front-length, undefined-first}
 use Rattle.volume.specs.declared.Summary.{Summary}
 use Rattle.volume.specs.Past.{isA, place}
-use Rattle.volume.specs.Rules.{fault, Allowed}
+use Rattle.volume.specs.Rules.{Allowed}
 use Rattle.volume.specs.Lawful.{fillers}
 use Rattle.volume.specs.Judged.{summary, tail, judgedFrom, judged}
 use Rattle.volume.specs.Refusing.{RefusesAt, ends-early, strange, breaks, other-byte, too-few, later, FileRefuses}
