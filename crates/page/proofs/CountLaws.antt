@@ -32,7 +32,7 @@ use Rattle.page.specs.Placing.{Setting, lookedFor, Added, nothing, place
 use Rattle.page.specs.Counting.{Seen, fontAfter, withFonts, isCharacter, isRule, codeOf, characterFound, characterMissing, ruleVisible, isSpecial, makesRecord, countOf, those, saidBy, saidOf, LeavesAt, now, later}
 
 -- what is given in the end was made from a result that was given
-and-given : {A B : Type 0} (make : A → B) (answer : Answer A) (b : B) → andThen answer (λ a. given (make a)) ≡ given b
+pub and-given : {A B : Type 0} (make : A → B) (answer : Answer A) (b : B) → andThen answer (λ a. given (make a)) ≡ given b
     → (a : A) × (answer ≡ given a) × (make a ≡ b)
 and-given make (refused n place) b e = absurd (given-not-refused b n place (sym e))
 and-given make (given a) b e = (a, refl, given-same (make a) b e)

@@ -9,13 +9,13 @@ use Rattle.volume.specs.Past.{depthAfter}
 use Rattle.volume.proofs.Arms.{is-kind, on-kinds}
 use Rattle.page.specs.Blocks.{Frame, opening, closing, ending, inside, frameOf}
 
-abbrev isOpening : Frame → Bool
+abbrev pub isOpening : Frame → Bool
 isOpening opening = true
 isOpening closing = false
 isOpening ending = false
 isOpening inside = false
 
-abbrev isClosing : Frame → Bool
+abbrev pub isClosing : Frame → Bool
 isClosing opening = false
 isClosing closing = true
 isClosing ending = false

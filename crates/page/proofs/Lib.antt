@@ -1,4 +1,5 @@
 pub mod Areas
+pub mod Blocks
 pub mod CharacterLaws
 pub mod CountLaws
 pub mod FontLaws

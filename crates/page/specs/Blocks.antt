@@ -52,3 +52,7 @@ afterAll setting s (c ∷ rest) = leadOn (after setting s c) (λ next. afterAll 
 abbrev pub lastFont : Setting → Font → List Command → Font
 lastFont setting font [] = font
 lastFont setting font (c ∷ rest) = lastFont setting (fontAfter setting font c) rest
+
+-- the state after push, a run and pop: all eight numbers and the saved levels of before, and the font that the run selects last
+abbrev pub afterBlock : Setting → State → List Command → State
+afterBlock setting s within = record { level = s .level; saved = s .saved; font = lastFont setting (s .font) within }

@@ -1,4 +1,4 @@
--- Levels stay in their ranges, and push and pop give back what they saved. Assumes nothing.
+-- Levels stay in their ranges, and where the saved ones stand. Assumes nothing.
 use Prim.Native.Nat.{ℕ, zero, suc, _+_, _-_, _≤_, _<_, _^_}
 use mathlib.Core.Path.{_≡_, refl, sym, ap, ap₂, subst}
 use mathlib.Core.Bool.{false, cond}
@@ -10,7 +10,6 @@ use lib.ListN.{length, getD, set}
 use lib.Seq.{getD-set-same, getD-set-other}
 use lib.IntN.{ℤ, natAbs, _+ℤ_}
 use Rattle.units.specs.Rounding.{rounded}
-use Rattle.state.specs.declared.Font.{Font}
 use Rattle.state.specs.declared.Level.{Level}
 use Rattle.state.specs.declared.Page.{Page}
 use Rattle.state.specs.declared.moving.Direction.{Direction}
@@ -20,7 +19,7 @@ use Rattle.state.specs.declared.moving.Spot.{Spot}
 use Rattle.state.specs.Moving.{leaves, near, settled}
 use Rattle.state.specs.declared.registers.Register.{Register}
 use Rattle.state.specs.declared.registers.Register.the-variants.{W, X, Y, Z}
-use Rattle.state.specs.Registers.{State, zeroLevel, pushed, popped, spotOf, atSpot, movedBy, characterMoved, ruleMoved, registerOf, withRegister, directionOf, movedByRegister}
+use Rattle.state.specs.Registers.{zeroLevel, spotOf, atSpot, movedBy, characterMoved, ruleMoved, registerOf, withRegister, directionOf, movedByRegister}
 use Rattle.state.specs.Steps.{savedOf, pageState, Ruled, Bounded, AllBounded}
 use Rattle.state.proofs.Nearness.{settled-small}
 
@@ -156,19 +155,3 @@ stored p room = (
 -- what pop goes back to is in its ranges where all that is saved is
 pub bounded-last : (depth : ℕ) (stack : List Level) → 0 < depth → AllBounded (savedOf depth stack) → Bounded (getD stack (depth - 1) zeroLevel)
 bounded-last depth stack some all = subst AllBounded (saved-last depth stack some) all .0
-
--- ---- push and pop
-
--- pop brings back the level that push saved, whatever the level and the font have become since, and leaves the font as it is
-pub level-comes-back : (s : State) (l : Level) (f : Font)
-    → popped (record { level = l; saved = s .level ∷ s .saved; font = f }) ≡ record { level = s .level; saved = s .saved; font = f }
-level-comes-back s l f = refl
-
--- push, another font, pop: the level is back, the font stays
-pub font-not-saved : (s : State) (f : Font)
-    → popped (record { level = s .level; saved = s .level ∷ s .saved; font = f }) ≡ record { level = s .level; saved = s .saved; font = f }
-font-not-saved s f = level-comes-back s (s .level) f
-
--- push, pop: all eight numbers come back
-pub push-pop : (s : State) → popped (pushed s) ≡ s
-push-pop s = level-comes-back s (s .level) (s .font)
