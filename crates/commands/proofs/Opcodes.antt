@@ -1,15 +1,15 @@
 -- The kinds and their opcodes: an opcode lies in the range of its kind, and each opcode of a kind's range is of that kind. Assumes nothing.
 use mathlib.Core.Path.{_≡_, refl}
-use mathlib.Core.Bool.{true, false}
+use mathlib.Core.List.{List, [], _∷_, _++_}
 use mathlib.Core.Logic.{⊎-elim, _↔_}
-use Prim.Native.Nat.{ℕ, suc, _-_, _<_, _≤_}
+use Prim.Native.Nat.{ℕ, suc, _+_, _-_, _<_, _≤_}
 use native.Mathlib.Omega.{arith}
-use lib.Dec.{ltb, leb}
-use lib.ListN.{replicate}
-use borrow.Author.Tests.{leb-true, le-ltb}
+use lib.ListN.{length, replicate, length-append}
+use borrow.Author.Tests.{le-ltb}
 use Rattle.commands.specs.declared.Kind.{Kind}
 use Rattle.commands.specs.declared.Kind.the-variants.{SetCharacter, SetRule, PutCharacter, PutRule, Nop, Bop, Eop, Push, Pop, Right, W, X, Down, Y, Z, Select, Special, Define, Pre, Post, PostPost, Undefined}
-use Rattle.commands.specs.Kinds.{kindOf}
+use Rattle.commands.specs.Kinds.{Row, rows, kindIn, kindOf}
+use Rattle.commands.specs.Lengths.{lengthsIn}
 use Rattle.commands.specs.ByKind.{first, last}
 use Rattle.commands.proofs.Ranges.{below-or-not, values, constant-on, between-on}
 
@@ -49,13 +49,16 @@ range-values Undefined = refl
 pub range-kind : (k : Kind) {opcode : ℕ} → first k ≤ opcode → opcode ≤ last k → kindOf opcode ≡ k
 range-kind k h l = constant-on kindOf k (first k) (count k) (range-values k) h (omega arith)
 
--- the undefined opcodes are those from 250 on
+-- the undefined opcodes are those past all rows, which are those from 250 on
+past-rows : (these : List Row) (opcode : ℕ) → length (lengthsIn these) ≤ opcode → kindIn these opcode ≡ Undefined
+past-rows [] opcode h = refl
+past-rows (r ∷ others) opcode h =
+    let all : length (r .fixed ++ lengthsIn others) ≡ length (r .fixed) + length (lengthsIn others) = length-append (r .fixed) (lengthsIn others) in
+    rw (le-ltb opcode (length (r .fixed)) (omega arith)) (past-rows others (opcode - length (r .fixed)) (omega arith))
+
 pub from-250 : (opcode : ℕ) → 250 ≤ opcode → kindOf opcode ≡ Undefined
 unfolding kindOf
-from-250 opcode h = simp past
-  where
-    past : (bound : ℕ) → leb bound 250 ≡ true → ltb opcode bound ≡ false
-    past bound t = le-ltb opcode bound (omega (arith, leb-true bound 250 t))
+from-250 opcode h = past-rows rows opcode h
 
 -- a kind's opcodes begin at its first, however large the number
 pub kind-from : {k : Kind} (opcode : ℕ) → kindOf opcode ≡ k → first k ≤ opcode

@@ -27,7 +27,7 @@ pub record Whole (c : Command) : Type 0 where
 abbrev pub form : Command → List ℕ
 form c = c .opcode ∷ c .params
 
--- the archive's demand 3: "the written forms, end to end, of some list of commands"
+-- the written forms of a list of commands, one right after the other
 abbrev pub written : List Command → List ℕ
 written [] = []
 written (c ∷ cs) = form c ++ written cs
@@ -47,7 +47,7 @@ frontAfter opcode rest =
     cut)
     undefined
 
--- what stands at the front: "no byte left, or parameters that do not fit" is cut
+-- what stands at the front: cut is where no byte is left, or fewer than the parameters need
 abbrev pub front : List ℕ → Front
 front [] = cut
 front (opcode ∷ rest) = frontAfter opcode rest

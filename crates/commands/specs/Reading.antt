@@ -1,4 +1,4 @@
--- "reading one command (opcode, parameters, place after it)". Assumes nothing.
+-- Reading the one command that stands at a place. Assumes nothing.
 use Prim.Native.Nat.{ℕ, _+_}
 use mathlib.Core.List.{List}
 use lib.Dec.{ltb}
@@ -14,14 +14,14 @@ reading at cut = refused fileEnds at
 reading at undefined = refused undefinedOpcode at
 reading at (whole c rest) = given (record { opcode = c .opcode; start = at + 1; next = at + 1 + length (c .params) })
 
--- "2 or 3 (the place given; at or past the end it is 2)"
+-- what stands at a place of a file: at its end, or past it, there is nothing, as where a command is cut
 abbrev pub readAt : List ℕ → ℕ → Answer Reading
 readAt file at = reading at (front (drop at file))
 
--- "file longer than 16,777,216 bytes"
+-- the most bytes that a file may have
 abbrev pub longestFile : ℕ
 longestFile = 16777216
 
--- "one command, read at a place that the caller gives, gives 1 (place 0), then 2 or 3"
+-- the same of any file: one that is too long is refused before all
 abbrev pub commandRead : List ℕ → ℕ → Answer Reading
 commandRead file at = refuseIf (ltb longestFile (length file)) fileTooLong 0 (readAt file at)

@@ -22,7 +22,7 @@ use Rattle.volume.specs.declared.Stage.{Stage}
 use Rattle.volume.specs.declared.Stage.the-variants.{AtStart, BeforePages, OnPage, BetweenPages, AfterPost, AfterEnd}
 use Rattle.volume.specs.Past.{isA, stage, isAfterPost, depth, greatest, pages, lastBop, postPlace, num, den, mag, selected, fontNumber, body, Definition, none, stands, definitionOf, isDefined, fontCount}
 
--- ---- 4: "first command is not pre, its identification is not 2, or num, den or mag is not positive as a signed number"
+-- ---- 4: the preamble
 
 -- no command has passed
 abbrev pub isAtStart : Stage → Bool
@@ -47,11 +47,9 @@ lawfulPreamble params =
 abbrev pub preambleWrong : List Command → Command → Bool
 preambleWrong past c = isAtStart (stage past) && not (isA Pre c && lawfulPreamble (c .params))
 
--- ---- 5: "a command that may not stand there"
+-- ---- 5: where a command may stand
 
--- "Then only nop and font definitions before the first page, between pages, and between the last page and post. A page: bop, any of opcodes 0 to 138,
--- 141 to 246, then eop. One page at least. The special xxx stands only inside a page." "post, then only nop and font definitions, then post_post"; what stands
--- at the start is judged by 4
+-- outside pages stand nop, definitions and what begins the next part, post only after a page; on a page all but bop, pre and the ends of the file; 4 judges the start
 abbrev pub mayStand : Stage → Kind → Bool
 mayStand AtStart kind = true
 mayStand BeforePages kind = is kind Nop || (is kind Define || is kind Bop)
@@ -64,9 +62,9 @@ mayStand AfterEnd kind = false
 abbrev pub misplaced : List Command → Command → Bool
 misplaced past c = not (mayStand (stage past) (kindOfCommand c))
 
--- ---- 6: "pop at depth 0, push at depth 100, eop at depth above 0"
+-- ---- 6: depth
 
--- of a kind at a depth
+-- a pop with nothing to pop, a push onto a full stack, the end of a page with something left on it
 abbrev pub wrongAtDepth : Kind → ℕ → Bool
 wrongAtDepth kind depth = (is kind Pop && eqb depth 0) || ((is kind Push && leb deepest depth) || (is kind Eop && ltb 0 depth))
 
@@ -74,9 +72,9 @@ wrongAtDepth kind depth = (is kind Pop && eqb depth 0) || ((is kind Push && leb 
 abbrev pub depthWrong : List Command → Command → Bool
 depthWrong past c = wrongAtDepth (kindOfCommand c) (depth past)
 
--- ---- 7: "a font definition against the rules below"
+-- ---- 7: font definitions
 
--- "number 0 to 255"
+-- a font has a number from 0 to 255
 abbrev pub lawfulFont : ℤ → Bool
 lawfulFont number = leZ (pos 0) number && leZ number (pos 255)
 
@@ -87,12 +85,12 @@ sameBytes [] (y ∷ ys) = false
 sameBytes (x ∷ xs) [] = false
 sameBytes (x ∷ xs) (y ∷ ys) = eqb x y && sameBytes xs ys
 
--- a definition says just this: "equal check sum, s, d, a, l and name"
+-- a definition says just this, from its check sum to the end of its name
 abbrev pub says : Definition → List ℕ → Bool
 says none bytes = false
 says (stands at c) bytes = sameBytes (body c) bytes
 
--- "Before post a number is defined at most once", and "at most 64 of them"; "After it the same numbers are defined, each once, with equal …"
+-- before post a font that is new and not one too many; after it a font for the first time, that says what it said before
 abbrev pub lawfulDefinition : List Command → Command → Bool
 lawfulDefinition past c =
     lawfulFont (fontNumber c)
@@ -102,7 +100,7 @@ lawfulDefinition past c =
     (not (isDefined (definitionOf true (fontNumber c) past)) && says (definitionOf false (fontNumber c) past) (body c))
     (not (isDefined (definitionOf false (fontNumber c) past)) && ltb (fontCount false past) mostFonts)))
 
--- "A font left out after post is 7 at post_post": fewer are defined after post than before it
+-- after post not as many fonts were defined as before it
 abbrev pub fontLeftOut : List Command → Bool
 fontLeftOut past = not (eqb (fontCount true past) (fontCount false past))
 
@@ -110,15 +108,15 @@ fontLeftOut past = not (eqb (fontCount true past) (fontCount false past))
 abbrev pub definitionWrong : List Command → Command → Bool
 definitionWrong past c = (isA Define c && not (lawfulDefinition past c)) || (isA PostPost c && fontLeftOut past)
 
--- ---- 8: "selection of a font not yet defined; a character before a selection on this page"
+-- ---- 8: fonts that are missing
 
--- where 8 applies
+-- where 8 applies: a selection of a font that has no definition so far, a character on a page without a selection so far
 abbrev pub fontMissing : List Command → Command → Bool
 fontMissing past c =
     (isA Select c && not (isDefined (definitionOf false (selectedFont (c .opcode) (c .params)) past)))
     || ((isA SetCharacter c || isA PutCharacter c) && not (selected past))
 
--- ---- 9: "a wrong pointer in bop, post or post_post"
+-- ---- 9: pointers
 
 -- where 9 applies: a bop holds the place of the bop before it, the first −1; post that of the last bop, post_post that of post
 abbrev pub pointerWrong : List Command → Command → Bool
@@ -127,7 +125,7 @@ pointerWrong past c =
     || ((isA Post c && not (sameNumber (signedIn postPointer (c .params)) (lastBop past)))
     || (isA PostPost c && not (sameNumber (signedIn endPointer (c .params)) (pos (postPlace past)))))
 
--- ---- 10: "num, den, mag, depth or page count in post wrong; identification in post_post not 2"
+-- ---- 10: the postamble
 
 -- the depth that post states against the greatest that was reached
 abbrev pub rightDepth : ℕ → ℕ → Bool
@@ -145,7 +143,7 @@ abbrev pub postambleWrong : List Command → Command → Bool
 postambleWrong past c =
     (isA Post c && not (lawfulPostamble (num past) (den past) (mag past) (greatest past) (pages past) (c .params))) || (isA PostPost c && not (eqb (unsignedIn endIdentification (c .params)) 2))
 
--- ---- "then the lowest of 4 to 10 that applies"; 0 where none does
+-- ---- the lowest number that applies; 0 where none does
 
 -- in the order of their numbers
 abbrev pub fault : List Command → Command → ℕ
