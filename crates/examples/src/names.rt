@@ -1,8 +1,7 @@
-// Where a font's name stands, and the name itself.
+// A font's name: where it stands, and what it holds.
 use crate::smallest;
 use crate::two_fonts;
 use crate::words;
-use reader::NamePlace;
 
 pub fn ask() {
     places_in_f();
@@ -56,28 +55,36 @@ fn place_in_f(font: i32) {
 }
 
 fn place(label: &[u8], file: &[u8], font: i32) {
-    printing::text(b"name ");
+    question(b"name ", label, font);
+    found(file, font);
+}
+
+fn question(start: &[u8], label: &[u8], font: i32) {
+    printing::text(start);
     printing::text(label);
     words::narrow_word(font);
     printing::text(b":");
-    match reader::font_name_place(file, font) {
-        NamePlace::At { start, end } => {
-            words::count_word(start);
-            words::count_word(end);
-            printing::text(b"\n");
-        }
-        NamePlace::Refused { number, place } => {
-            printing::text(b" ");
-            printing::refused(number, place);
-        }
+}
+
+// Number and place start as no answer leaves them.
+fn found(file: &[u8], font: i32) {
+    let mut number: u8 = 255;
+    let mut place: usize = 4096;
+    let name = reader::font_name(file, font, &mut number, &mut place);
+    if number != 0 {
+        printing::text(b" ");
+        printing::refused(number, place);
+        return;
     }
+    let end = place + name.len();
+    words::count_word(place);
+    words::count_word(end);
+    printing::text(b"\n");
 }
 
 fn text(label: &[u8], file: &[u8], font: i32) {
-    printing::text(b"named ");
-    printing::text(label);
-    words::narrow_word(font);
-    printing::text(b": <");
-    printing::text(reader::font_name(file, font));
+    question(b"named ", label, font);
+    printing::text(b" <");
+    printing::text(reader::font_name(file, font, &mut 0, &mut 0));
     printing::text(b">\n");
 }
