@@ -1,157 +1,30 @@
 -- The code that a call returns tells how it ended: 0 a result, 255 an array too short, 1 to 17 a refusal, whatever the inputs. Assumes nothing.
-use Prim.Native.Nat.{ℕ, zero, suc, _≤_, _<_, _*_}
+use Prim.Native.Nat.{ℕ, _≤_, _<_}
 use mathlib.Core.Path.{_≡_, refl}
-use mathlib.Core.Bool.{Bool, true, false, cond, not}
-use mathlib.Core.List.{List, [], _∷_}
+use mathlib.Core.Bool.{Bool, true, false, cond}
+use mathlib.Core.List.{List}
 use native.Mathlib.Omega.{arith}
 use borrow.Author.Tests.{ltb-true, ltb-false}
-use lib.Dec.{ltb, leb, eqb}
+use lib.Dec.{ltb}
 use lib.IntN.{ℤ}
 use lib.ListN.{length}
-use Rattle.refusals.specs.Numbers.{fileTooLong, wrongPreamble, misplacedCommand, wrongDepth, wrongFontDefinition, noFont, wrongPointer, wrongPostamble, wrongTail, wrongResolution, unitOutOfRange, wrongWidthTable, noSuchPage, areaTooShort}
-use Rattle.refusals.specs.Answer.{Answer, refused, given, refuseIf, andThen}
-use Rattle.units.specs.Unit.{unitOf, outOfRange, ratioOf, resolutionOutside}
-use Rattle.widths.specs.Table.{widthRecordSize, rightRecord, checkedFrom, checkedTable}
+use Rattle.refusals.specs.Answer.{Answer, refused, given, Listed}
+use Rattle.commands.specs.Reading.{commandRead}
+use Rattle.units.specs.Rounding.{roundedDistance}
+use Rattle.widths.specs.declared.FixWord.{FixWord}
+use Rattle.widths.specs.Scaling.{scaledWidth}
+use Rattle.widths.specs.Table.{checkedTable}
 use Rattle.widths.specs.LookUp.{lookedUp}
-use Rattle.commands.specs.declared.Kind.the-variants.{PostPost}
-use Rattle.commands.specs.Commands.{Command, Front, cut, undefined, whole, front}
-use Rattle.commands.specs.Reading.{longestFile}
-use Rattle.volume.specs.declared.Summary.{Summary}
-use Rattle.volume.specs.Past.{isA, place, num, den, mag, Definition, none, stands, definitionOf}
-use Rattle.volume.specs.Rules.{preambleWrong, misplaced, depthWrong, definitionWrong, fontMissing, pointerWrong, postambleWrong, fault}
-use Rattle.volume.specs.Judged.{summary, tail, onFront, onFault, onEnd, judgedFrom, judged}
-use Rattle.volume.specs.Names.{namedBy, namePlace}
-use Rattle.volume.specs.History.{history}
-use Rattle.page.specs.Placing.{Setting, Outcome, leavesRange, continues, Contents, after, onOutcome, placing}
-use Rattle.page.specs.Answers.{withRoom, pageOutside, settingOf, placedAccepted, placedPage, placedCounts}
-use Rattle.page.specs.Records.{placementRecordSize as size}
-use Rattle.page.specs.PageList.{Located, pageOf}
-use Rattle.state.specs.Registers.{State, freshState}
-use Rattle.clib.specs.Answers.{numberOf, Listed, Given, code}
+use Rattle.volume.specs.Judged.{judged}
+use Rattle.volume.specs.Names.{namePlace}
+use Rattle.page.specs.Answers.{placedPage, placedCounts}
+use Rattle.reader.proofs.Listed.{command-listed, file-listed, name-listed, rounded-listed, scaled-listed, table-listed, looked-listed, placed-listed}
+use Rattle.clib.specs.Answers.{numberOf, Given, code}
 
--- ---- the parts that judgements are made of
-
-if-listed : {A : Type 0} (t : Bool) (number at : ℕ) (next : Answer A) → (1 ≤ number) × (number ≤ 17) → Listed next → Listed (refuseIf t number at next)
-if-listed true number at next low l = low
-if-listed false number at next low l = l
-
-then-listed : {A B : Type 0} (a : Answer A) (next : A → Answer B) → Listed a → ((x : A) → Listed (next x)) → Listed (andThen a next)
-then-listed (refused number at) next l f = l
-then-listed (given x) next l f = f x
-
--- ---- the check
-
-fault-low : (past : List Command) (c : Command) → fault past c ≤ 10
-fault-low past c =
-    by (preambleWrong past c) (misplaced past c) (depthWrong past c) (definitionWrong past c) (fontMissing past c) (pointerWrong past c) (postambleWrong past c)
-  where
-    pick : (t : Bool) (n m : ℕ) → n ≤ 10 → m ≤ 10 → cond t n m ≤ 10
-    pick true n m h k = h
-    pick false n m h k = k
-
-    by : (a b c d e f g : Bool)
-        → cond a wrongPreamble (cond b misplacedCommand (cond c wrongDepth (cond d wrongFontDefinition (cond e noFont (cond f wrongPointer (cond g wrongPostamble 0))))))
-        ≤ 10
-    by a b c d e f g =
-        pick a _ _ (omega arith) (pick b _ _ (omega arith) (pick c _ _ (omega arith) (pick d _ _ (omega arith)
-        (pick e _ _ (omega arith) (pick f _ _ (omega arith) (pick g _ _ (omega arith) (omega arith)))))))
-
-fault-listed : (at n : ℕ) (next : Unit {0} → Answer Summary) → n ≤ 10 → Listed (next tt) → Listed (onFault at n next)
-fault-listed at zero next low l = l
-fault-listed at (suc n) next low l = (omega arith, omega arith)
-
-end-listed : (t : Bool) (last next : Unit {0} → Answer Summary) → Listed (last tt) → Listed (next tt) → Listed (onEnd t last next)
-end-listed true last next l m = l
-end-listed false last next l m = m
-
-front-listed : (at : ℕ) (f : Front) (next : Command → List ℕ → Answer Summary) → ((c : Command) (rest : List ℕ) → Listed (next c rest)) → Listed (onFront at f next)
-front-listed at cut next l = (omega arith, omega arith)
-front-listed at undefined next l = (omega arith, omega arith)
-front-listed at (whole c rest) next l = l c rest
-
-tail-listed : (found : Summary) (at passed : ℕ) (bytes : List ℕ) → Listed (tail found at passed bytes)
-unfolding tail
-tail-listed found at passed [] = if-listed (ltb passed 4) wrongTail at (given found) (omega arith, omega arith) tt
-tail-listed found at passed (byte ∷ bytes) = by (eqb byte 223) (tail-listed found (suc at) (suc passed) bytes)
-  where
-    by : (t : Bool) → Listed (tail found (suc at) (suc passed) bytes) → Listed {A = Summary} (elim t [ true ↦ tail found (suc at) (suc passed) bytes | false ↦ refused wrongTail at ])
-    by true l = l
-    by false l = (omega arith, omega arith)
-
-from-listed : (left : ℕ) (past : List Command) (bytes : List ℕ) → Listed (judgedFrom left past bytes)
-unfolding judgedFrom
-from-listed zero past bytes = (omega arith, omega arith)
-from-listed (suc left) past bytes =
-    front-listed (place past) (front bytes) _ (λ c rest.
-    fault-listed (place past) (fault past c) _ (fault-low past c)
-    (end-listed (isA PostPost c) _ _ (tail-listed (summary (c ∷ past)) (place (c ∷ past)) 0 rest) (from-listed left (c ∷ past) rest)))
-
-pub check-file-listed : (file : List ℕ) → Listed (judged file)
-unfolding judged
-check-file-listed file = if-listed (ltb longestFile (length file)) fileTooLong 0 _ (omega arith, omega arith) (from-listed (suc (length file)) [] file)
-
--- ---- names
-
-pub font-name-place-listed : (file : List ℕ) (font : ℤ) → Listed (namePlace file font)
-font-name-place-listed file font = then-listed (judged file) _ (check-file-listed file) (λ found. by (definitionOf false font (history file)))
-  where
-    by : (d : Definition) → Listed (namedBy d)
-    by none = (omega arith, omega arith)
-    by (stands at c) = tt
-
--- ---- width tables
-
-table-from-listed : (left : ℕ) (table : List ℕ) (index : ℕ) → Listed (checkedFrom left table index)
-unfolding checkedFrom
-table-from-listed zero table index = tt
-table-from-listed (suc left) table index =
-    by (leb (length table) (index * widthRecordSize)) _
-    (if-listed (not (rightRecord table index)) wrongWidthTable (index * widthRecordSize) (checkedFrom left table (suc index)) (omega arith, omega arith)
-    (table-from-listed left table (suc index)))
-  where
-    by : (t : Bool) (next : Answer ℕ) → Listed next → Listed (cond t (given index) next)
-    by true next l = tt
-    by false next l = l
-
-pub check-table-listed : (table : List ℕ) → Listed (checkedTable table)
-check-table-listed table = table-from-listed (suc (length table)) table 0
-
-pub look-up-listed : (table : List ℕ) (checksum scale : ℕ) (character : ℤ) → Listed (lookedUp table checksum scale character)
-look-up-listed table checksum scale character = then-listed (checkedTable table) _ (check-table-listed table) (λ rows. tt)
-
--- ---- placing
-
-placing-listed : (setting : Setting) (s : State) (commands : List Located) → Listed (placing setting s commands)
-unfolding placing
-placing-listed setting s [] = tt
-placing-listed setting s (c ∷ rest) = by (after setting s (c .command)) (λ next. placing-listed setting next rest)
-  where
-    by : (o : Outcome) → ((next : State) → Listed (placing setting next rest)) → Listed (onOutcome (c .at) o (λ next. placing setting next rest))
-    by leavesRange l = (omega arith, omega arith)
-    by (continues next added) l = then-listed (placing setting next rest) _ (l next) (λ p. tt)
-
-unit-listed : (num den mag resolution : ℕ) → Listed (unitOf num den mag resolution)
-unit-listed num den mag resolution =
-    let k = ratioOf num den mag resolution in
-    if-listed (resolutionOutside resolution) wrongResolution 0 (refuseIf (outOfRange k) unitOutOfRange 0 (given k)) (omega arith, omega arith)
-    (if-listed (outOfRange k) unitOutOfRange 0 (given k) (omega arith, omega arith) tt)
-
-room-listed : (room : ℕ) (p : Contents) → Listed (withRoom room p)
-room-listed room p = if-listed (ltb room (size * length (p .placements))) areaTooShort 0 (given p) (omega arith, omega arith) tt
-
-accepted-listed : (file table : List ℕ) (resolution page room pages : ℕ) → Listed (placedAccepted file table resolution page room pages)
-accepted-listed file table resolution page room pages =
-    then-listed (unitOf (num (history file)) (den (history file)) (mag (history file)) resolution) _ (unit-listed _ _ _ resolution) (λ k.
-    then-listed (checkedTable table) _ (check-table-listed table) (λ rows.
-    if-listed (pageOutside page pages) noSuchPage 0 _ (omega arith, omega arith)
-    (then-listed (placing (settingOf file table k resolution rows page) freshState (pageOf page (history file))) _ (placing-listed _ _ _) (room-listed room))))
-
-pub place-page-listed : (file table : List ℕ) (resolution page room : ℕ) → Listed (placedCounts (placedPage file table resolution page room))
-place-page-listed file table resolution page room =
-    then-listed (placedPage file table resolution page room) _
-    (then-listed (judged file) _ (check-file-listed file) (λ found. accepted-listed file table resolution page room (found .pages))) (λ p. tt)
-
--- ---- so a code has one meaning
+-- what two of the codes say of the array and the answer; any other code is a refusal's number
+pub record Tells {A : Type 0} (least : ℕ) (array : List ℕ) (answer : Answer A) : Type 0 where
+  pub at-zero : code least array answer ≡ 0 → (least ≤ length array) × Given answer
+  pub at-255 : code least array answer ≡ 255 → length array < least
 
 module _ {A : Type 0} (least : ℕ) (array : List ℕ) (answer : Answer A) (listed : Listed answer) where
   number-is : (a : Answer A) → Listed a → numberOf a ≡ 0 → Given a
@@ -162,18 +35,46 @@ module _ {A : Type 0} (least : ℕ) (array : List ℕ) (answer : Answer A) (list
   number-low (refused number at) l = l .1
   number-low (given a) l = omega arith
 
-  -- 0: the array was long enough, and the answer is a result
-  pub zero-given : code least array answer ≡ 0 → (least ≤ length array) × Given answer
-  zero-given e = by (ltb (length array) least) refl e
+  zero : code least array answer ≡ 0 → (least ≤ length array) × Given answer
+  zero e = by (ltb (length array) least) refl e
     where
       by : (t : Bool) → ltb (length array) least ≡ t → cond t 255 (numberOf answer) ≡ 0 → (least ≤ length array) × Given answer
       by true short e = absurd (omega (arith, e))
       by false long e = (ltb-false (length array) least long, number-is answer listed e)
 
-  -- 255: the array was too short
-  pub most-short : code least array answer ≡ 255 → length array < least
-  most-short e = by (ltb (length array) least) refl e
+  most : code least array answer ≡ 255 → length array < least
+  most e = by (ltb (length array) least) refl e
     where
       by : (t : Bool) → ltb (length array) least ≡ t → cond t 255 (numberOf answer) ≡ 255 → length array < least
       by true short e = ltb-true (length array) least short
       by false long e = absurd (omega (arith, e, number-low answer listed))
+
+  tells : Tells least array answer
+  tells = record { at-zero = zero; at-255 = most }
+
+-- ---- each entry's code
+
+pub read-command-code : (array file : List ℕ) (at : ℕ) → Tells 3 array (commandRead file at)
+read-command-code array file at = tells 3 array (commandRead file at) (command-listed file at)
+
+pub check-file-code : (array file : List ℕ) → Tells 4 array (judged file)
+check-file-code array file = tells 4 array (judged file) (file-listed file)
+
+pub place-page-code : (array file table : List ℕ) (resolution page room : ℕ) → Tells 3 array (placedCounts (placedPage file table resolution page room))
+place-page-code array file table resolution page room =
+    tells 3 array (placedCounts (placedPage file table resolution page room)) (placed-listed file table resolution page room)
+
+pub round-distance-code : (array : List ℕ) (num den mag : ℤ) (resolution : ℕ) (n : ℤ) → Tells 1 array (roundedDistance num den mag resolution n)
+round-distance-code array num den mag resolution n = tells 1 array (roundedDistance num den mag resolution n) (rounded-listed num den mag resolution n)
+
+pub scale-width-code : (array : List ℕ) (scale : ℕ) (w : FixWord) → Tells 1 array (scaledWidth scale w)
+scale-width-code array scale w = tells 1 array (scaledWidth scale w) (scaled-listed scale w)
+
+pub check-table-code : (array table : List ℕ) → Tells 1 array (checkedTable table)
+check-table-code array table = tells 1 array (checkedTable table) (table-listed table)
+
+pub look-up-code : (array table : List ℕ) (checksum scale : ℕ) (character : ℤ) → Tells 6 array (lookedUp table checksum scale character)
+look-up-code array table checksum scale character = tells 6 array (lookedUp table checksum scale character) (looked-listed table checksum scale character)
+
+pub font-name-code : (array file : List ℕ) (font : ℤ) → Tells 2 array (namePlace file font)
+font-name-code array file font = tells 2 array (namePlace file font) (name-listed file font)

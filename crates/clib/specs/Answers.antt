@@ -4,9 +4,11 @@ use mathlib.Core.Bool.{cond}
 use mathlib.Core.List.{List, [], _∷_, _++_}
 use lib.Dec.{ltb}
 use lib.ListN.{length, drop}
+use lib.IntN.{ℤ}
 use Rattle.refusals.specs.Answer.{Answer, refused, given}
 use Rattle.numbers.specs.Signs.{toTwos}
 use Rattle.widths.specs.LookUp.{LookUp, found, absent}
+use Rattle.commands.specs.declared.Reading.{Reading}
 use Rattle.volume.specs.declared.Summary.{Summary}
 use Rattle.volume.specs.declared.Part.{Part}
 use Rattle.page.specs.declared.Counts.{Counts}
@@ -21,11 +23,6 @@ ifRoom least array room short = cond (ltb (length array) least) short room
 abbrev pub numberOf : {A : Type 0} → Answer A → ℕ
 numberOf (refused number place) = number
 numberOf (given a) = 0
-
--- a refusal has a number of the printed list, so that its code is neither 0 nor 255
-abbrev pub Listed : {A : Type 0} → Answer A → Type 0
-Listed (refused number place) = (1 ≤ number) × (number ≤ 17)
-Listed (given a) = Unit {0}
 
 -- it is a result
 abbrev pub Given : {A : Type 0} → Answer A → Type 0
@@ -51,11 +48,19 @@ arrayAfter least result array answer = ifRoom least array (inFront (numbersOf re
 
 -- ---- each entry's result as numbers, 64-bit words
 
--- "the number of pages, the number of fonts, the greatest stack depth and the place of post"
+-- a command's opcode, where its parameters start, and the place after them
+abbrev pub commandNumbers : Reading → List ℕ
+commandNumbers r = r .opcode ∷ r .start ∷ r .next ∷ []
+
+-- how many pages and fonts a file has, the depth it reaches, and where post stands
 abbrev pub fileNumbers : Summary → List ℕ
 fileNumbers s = s .pages ∷ s .fonts ∷ s .depth ∷ s .post ∷ []
 
--- "the number of records written, of missing characters and of specials on that page"
+-- one signed number, in two's complement of 64 bits
+abbrev pub signedNumbers : ℤ → List ℕ
+signedNumbers n = toTwos (2 ^ 64) n ∷ []
+
+-- how many records a page has, how many of its characters are missing, and how many specials it has
 abbrev pub placedNumbers : Counts → List ℕ
 placedNumbers c = c .records ∷ c .missing ∷ c .specials ∷ []
 
@@ -63,7 +68,7 @@ placedNumbers c = c .records ∷ c .missing ∷ c .specials ∷ []
 abbrev pub tableNumbers : ℕ → List ℕ
 tableNumbers records = records ∷ []
 
--- 1, "escapement, fix word", the escapement in two's complement of 64 bits; or 0 for "a result named absent"
+-- 1, the escapement in two's complement of 64 bits, and the width's four bytes; or 0 where the table has no such character
 abbrev pub lookedNumbers : LookUp → List ℕ
 lookedNumbers (found m) =
     let w = m .width in

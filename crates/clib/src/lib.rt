@@ -1,20 +1,47 @@
-// The C interface: entries of the reader under names for C, where a slice is a pointer and a length. The result goes into an array of numbers that the
+// The C interface: every entry of the reader under a name for C, where a slice is a pointer and a length. The result goes into an array of numbers that the
 // caller lends; what is returned says whether it is a result, a refusal, or an array too short for any result. include/hurlyburn.h is the same for C.
 mod answers;
 
+use reader::CommandRead;
 use reader::FileChecked;
 use reader::LookedUp;
-use reader::NamePlace;
 use reader::Placed;
+use reader::Rounded;
+use reader::Scaled;
 use reader::TableChecked;
 ghost use mathlib.Core.Path.{_≡_};
 ghost use lib.ListN.{length};
+ghost use Rattle.commands.specs.Reading.{commandRead};
 ghost use Rattle.volume.specs.Judged.{judged};
 ghost use Rattle.volume.specs.Names.{namePlace};
+ghost use Rattle.units.specs.Rounding.{roundedDistance};
+ghost use Rattle.widths.specs.Scaling.{fixWord, scaledWidth};
 ghost use Rattle.widths.specs.Table.{checkedTable};
 ghost use Rattle.widths.specs.LookUp.{lookedUp};
 ghost use Rattle.page.specs.Answers.{placedPage, placedCounts, areaAfter};
-ghost use Rattle.clib.specs.Answers.{ifRoom, code, arrayAfter, fileNumbers, placedNumbers, tableNumbers, lookedNumbers, nameNumbers};
+ghost use Rattle.clib.specs.Answers.{ifRoom, code, arrayAfter, commandNumbers, fileNumbers, signedNumbers, placedNumbers, tableNumbers, lookedNumbers, nameNumbers};
+
+// The command at a place of the file: its opcode, where its parameters start, and the place after them.
+#[no_mangle]
+pub extern "C" fn hurlyburn_read_command(file: &[u8], at: usize, answer: &mut [u64]) -> u32
+    ensures { λ r. ⌜ r ≡ code 3 (now (answer .entry)) (commandRead (now (file .entry)) at) ⌝ }
+    ensures { λ _. ⌜ now (answer .exit) ≡ arrayAfter 3 commandNumbers (now (answer .entry)) (commandRead (now (file .entry)) at) ⌝ }
+{
+    if answer.len() < 3 {
+        return answers::ARRAY_TOO_SHORT;
+    }
+    match reader::read_command(file, at) {
+        CommandRead::Command {
+            opcode,
+            start,
+            next,
+        } => {
+            let numbers = [opcode as u64, start as u64, next as u64];
+            answers::give(answer, &numbers)
+        }
+        CommandRead::Refused { number, place } => answers::refuse(answer, number, place),
+    }
+}
 
 // The check of a whole file: pages, fonts, greatest depth, place of post.
 #[no_mangle]
@@ -66,6 +93,56 @@ pub extern "C" fn hurlyburn_place_page(
             answers::give(answer, &numbers)
         }
         Placed::Refused { number, place } => answers::refuse(answer, number, place),
+    }
+}
+
+// A distance in pixels, at a file's units and a resolution.
+#[no_mangle]
+pub extern "C" fn hurlyburn_round_distance(
+    num: i32,
+    den: i32,
+    mag: i32,
+    resolution: u32,
+    n: i32,
+    answer: &mut [u64],
+) -> u32
+    ensures { λ r. ⌜ r ≡ code 1 (now (answer .entry)) (roundedDistance num den mag resolution n) ⌝ }
+    ensures { λ _. ⌜ now (answer .exit) ≡ arrayAfter 1 signedNumbers (now (answer .entry)) (roundedDistance num den mag resolution n) ⌝ }
+{
+    if answer.len() < 1 {
+        return answers::ARRAY_TOO_SHORT;
+    }
+    match reader::round_distance(num, den, mag, resolution, n) {
+        Rounded::To(distance) => {
+            let numbers = [answers::word_of(distance)];
+            answers::give(answer, &numbers)
+        }
+        Rounded::Refused { number, place } => answers::refuse(answer, number, place),
+    }
+}
+
+// The width of a fix word, bytes b0 to b3, at a font's scale.
+#[no_mangle]
+pub extern "C" fn hurlyburn_scale_width(
+    scale: u32,
+    b0: u8,
+    b1: u8,
+    b2: u8,
+    b3: u8,
+    answer: &mut [u64],
+) -> u32
+    ensures { λ r. ⌜ r ≡ code 1 (now (answer .entry)) (scaledWidth scale (fixWord b0 b1 b2 b3)) ⌝ }
+    ensures { λ _. ⌜ now (answer .exit) ≡ arrayAfter 1 signedNumbers (now (answer .entry)) (scaledWidth scale (fixWord b0 b1 b2 b3)) ⌝ }
+{
+    if answer.len() < 1 {
+        return answers::ARRAY_TOO_SHORT;
+    }
+    match reader::scale_width(scale, b0, b1, b2, b3) {
+        Scaled::To(width) => {
+            let numbers = [answers::word_of(width)];
+            answers::give(answer, &numbers)
+        }
+        Scaled::Refused { number, place } => answers::refuse(answer, number, place),
     }
 }
 
@@ -122,20 +199,22 @@ pub extern "C" fn hurlyburn_look_up(
     }
 }
 
-// Where the name of a font stands in the file: its start, and the place past its end.
+// The name of a font: where the part of the file that holds it starts, and the place past its end.
 #[no_mangle]
-pub extern "C" fn hurlyburn_font_name_place(file: &[u8], font: i32, answer: &mut [u64]) -> u32
+pub extern "C" fn hurlyburn_font_name(file: &[u8], font: i32, answer: &mut [u64]) -> u32
     ensures { λ r. ⌜ r ≡ code 2 (now (answer .entry)) (namePlace (now (file .entry)) font) ⌝ }
     ensures { λ _. ⌜ now (answer .exit) ≡ arrayAfter 2 nameNumbers (now (answer .entry)) (namePlace (now (file .entry)) font) ⌝ }
 {
     if answer.len() < 2 {
         return answers::ARRAY_TOO_SHORT;
     }
-    match reader::font_name_place(file, font) {
-        NamePlace::At { start, end } => {
-            let numbers = [start as u64, end as u64];
-            answers::give(answer, &numbers)
-        }
-        NamePlace::Refused { number, place } => answers::refuse(answer, number, place),
+    let mut number: u8 = 0;
+    let mut place: usize = 0;
+    let name = reader::font_name(file, font, &mut number, &mut place);
+    if number != 0 {
+        return answers::refuse(answer, number, place);
     }
+    let end = place + name.len();
+    let numbers = [place as u64, end as u64];
+    answers::give(answer, &numbers)
 }

@@ -8,7 +8,6 @@ use printing::line;
 use printing::line::Line;
 use reader::CommandRead;
 use reader::FileChecked;
-use reader::NamePlace;
 ghost use Prim.Native.Nat.{_≤_};
 
 // read FILE AT
@@ -94,12 +93,47 @@ pub fn name(line: &[u8], file: &mut [u8]) -> Line
 fn named(file: &[u8], font: i32) -> Line
     ensures { λ r. ⌜ r .length ≤ 160 ⌝ }
 {
-    match reader::font_name_place(file, font) {
-        NamePlace::At { start, end } => Line::empty()
-            .text(b"name")
-            .count(start as u64)
-            .count(end as u64)
-            .text(b"\n"),
-        NamePlace::Refused { number, place } => line::refused(number, place),
+    let mut number: u8 = 0;
+    let mut place: usize = 0;
+    let name = reader::font_name(file, font, &mut number, &mut place);
+    if number != 0 {
+        return line::refused(number, place);
     }
+    let end = place + name.len();
+    Line::empty()
+        .text(b"name")
+        .count(place as u64)
+        .count(end as u64)
+        .text(b"\n")
+}
+
+// spell FILE FONT, whose answer can be longer than a line holds: it is printed as it is found
+pub fn spell(line: &[u8], file: &mut [u8]) {
+    let Signed32::Is(font) = words::read_signed32(word(line, 2)) else {
+        asking::no_input();
+        return;
+    };
+    let found = files::read_whole(word(line, 1), file);
+    if !found.whole {
+        asking::no_input();
+        return;
+    }
+    let length = found.length;
+    spelled(&file[..length], font);
+}
+
+fn spelled(file: &[u8], font: i32) {
+    let mut number: u8 = 0;
+    let mut place: usize = 0;
+    let name = reader::font_name(file, font, &mut number, &mut place);
+    if number != 0 {
+        printing::refused(number, place);
+        return;
+    }
+    printing::text(b"spelled ");
+    if name.len() == 0 {
+        printing::text(b"-");
+    }
+    printing::hexadecimal(name);
+    printing::text(b"\n");
 }

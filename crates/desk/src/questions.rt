@@ -11,6 +11,7 @@ enum Question {
     Read,
     Check,
     Name,
+    Spell,
     Round,
     Scale,
     Table,
@@ -54,6 +55,9 @@ fn of_three(name: &[u8]) -> Question {
     if check::same(name, b"name") {
         return Question::Name;
     }
+    if check::same(name, b"spell") {
+        return Question::Spell;
+    }
     Question::Nothing
 }
 
@@ -82,6 +86,7 @@ pub fn answer(line: &[u8], file: &mut [u8], widths: &mut [u8], area: &mut [u8]) 
         Question::Read => files_asked::read(line, file).print(),
         Question::Check => files_asked::check(line, file).print(),
         Question::Name => files_asked::name(line, file).print(),
+        Question::Spell => files_asked::spell(line, file),
         Question::Round => numbers_asked::round(line).print(),
         Question::Scale => numbers_asked::scale(line).print(),
         Question::Table => tables_asked::table(line, widths).print(),

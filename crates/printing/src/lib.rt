@@ -1,6 +1,7 @@
 // Texts and numbers on standard output, for the programs. What is written no contract can say: programs' outputs are compared.
 use libc::STDOUT_FILENO;
 ghost use mathlib.Core.Path.{_≡_};
+ghost use Prim.Native.Nat.{_<_};
 ghost use lib.IntN.{natAbs};
 
 pub mod line;
@@ -18,6 +19,26 @@ fn size(n: i64) -> u64
     } else {
         n as u64
     }
+}
+
+// Bytes as two lower-case digits each
+pub fn hexadecimal(bytes: &[u8]) {
+    let mut i: usize = 0;
+    while i < bytes.len() {
+        let byte = bytes[i];
+        let pair = [digit(byte / 16), digit(byte % 16)];
+        text(&pair);
+        i += 1;
+    }
+}
+
+fn digit(n: u8) -> u8
+    requires { ⌜ n < 16 ⌝ }
+{
+    if n < 10 {
+        return b'0' + n;
+    }
+    b'a' + (n - 10)
 }
 
 pub fn refused(number: u8, place: usize) {

@@ -1,14 +1,12 @@
 -- The definitions that say what an answer is are one-to-one: what an answer says settles the answer. Assumes nothing.
 use mathlib.Core.Path.{_≡_, refl, sym, ap, _∙_}
-use Prim.Native.Nat.{ℕ}
+use Prim.Native.Nat.{ℕ, zero, suc}
 use Rattle.refusals.specs.Answer.{Answer, refused, given}
 use Rattle.widths.specs.LookUp.{LookUp, found, absent}
 use Rattle.reader.specs.declared.CommandRead.{CommandRead}
 use Rattle.reader.specs.declared.CommandRead.the-variants as CommandRead
 use Rattle.reader.specs.declared.FileChecked.{FileChecked}
 use Rattle.reader.specs.declared.FileChecked.the-variants as FileChecked
-use Rattle.reader.specs.declared.NamePlace.{NamePlace}
-use Rattle.reader.specs.declared.NamePlace.the-variants as NamePlace
 use Rattle.reader.specs.declared.Rounded.{Rounded}
 use Rattle.reader.specs.declared.Rounded.the-variants as Rounded
 use Rattle.reader.specs.declared.Scaled.{Scaled}
@@ -47,13 +45,18 @@ file-back (FileChecked.Refused number place) = refl
 pub file-one-to-one : (r s : FileChecked) → fileAnswer r ≡ fileAnswer s → r ≡ s
 file-one-to-one = one fileAnswer (outcome FileChecked.Refused (λ s. FileChecked.Accepted (s .pages) (s .fonts) (s .depth) (s .post))) file-back
 
--- font_name_place
-name-back : (r : NamePlace) → outcome NamePlace.Refused (λ part. NamePlace.At (part .start) (part .end)) (nameAnswer r) ≡ r
-name-back (NamePlace.At start end) = refl
-name-back (NamePlace.Refused number place) = refl
+-- font_name: its number and its place, whatever the length of the part
+number-back : (number place long : ℕ) → outcome (λ n p. n) (λ part. 0) (nameAnswer number place long) ≡ number
+number-back zero place long = refl
+number-back (suc less) place long = refl
 
-pub name-one-to-one : (r s : NamePlace) → nameAnswer r ≡ nameAnswer s → r ≡ s
-name-one-to-one = one nameAnswer (outcome NamePlace.Refused (λ part. NamePlace.At (part .start) (part .end))) name-back
+place-back : (number place long : ℕ) → outcome (λ n p. p) (λ part. part .start) (nameAnswer number place long) ≡ place
+place-back zero place long = refl
+place-back (suc less) place long = refl
+
+pub name-one-to-one : (n p l m q k : ℕ) → nameAnswer n p l ≡ nameAnswer m q k → (n ≡ m) × (p ≡ q)
+name-one-to-one n p l m q k e =
+    (sym (number-back n p l) ∙ ap (outcome (λ n p. n) (λ part. 0)) e ∙ number-back m q k, sym (place-back n p l) ∙ ap (outcome (λ n p. p) (λ part. part .start)) e ∙ place-back m q k)
 
 -- round_distance
 rounded-back : (r : Rounded) → outcome Rounded.Refused Rounded.To (roundedAnswer r) ≡ r

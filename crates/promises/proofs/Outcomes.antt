@@ -4,7 +4,6 @@ use contract.Lifetimes.{Lfts}
 use denote.Ref.{now}
 use Rattle.reader.specs.declared.CommandRead.{CommandRead}
 use Rattle.reader.specs.declared.FileChecked.{FileChecked}
-use Rattle.reader.specs.declared.NamePlace.{NamePlace}
 use Rattle.reader.specs.declared.Rounded.{Rounded}
 use Rattle.reader.specs.declared.Scaled.{Scaled}
 use Rattle.reader.specs.declared.TableChecked.{TableChecked}
@@ -12,7 +11,6 @@ use Rattle.reader.specs.declared.LookedUp.{LookedUp}
 use Rattle.reader.specs.declared.Placed.{Placed}
 use Rattle.reader.proofs.read_command.Reads as read-command
 use Rattle.reader.proofs.check_file.Reads as check-file
-use Rattle.reader.proofs.font_name_place.Reads as font-name-place
 use Rattle.reader.proofs.font_name.Reads as font-name
 use Rattle.reader.proofs.round_distance.Reads as round-distance
 use Rattle.reader.proofs.scale_width.Reads as scale-width
@@ -27,12 +25,12 @@ read-command-outcomes κs a r s x y p q = command-one-to-one r s (p ∙ sym q)
 pub check-file-outcomes : (κs : Lfts 1) → (a : _) → (r s : FileChecked) → (x y : _) → check-file.Post κs a r x → check-file.Post κs a s y → r ≡ s
 check-file-outcomes κs a r s x y p q = file-one-to-one r s (p .0 ∙ sym (q .0))
 
-pub font-name-place-outcomes : (κs : Lfts 1) → (a : _) → (r s : NamePlace) → (x y : _) → font-name-place.Post κs a r x → font-name-place.Post κs a s y → r ≡ s
-font-name-place-outcomes κs a r s x y p q = name-one-to-one r s (p ∙ sym q)
-
--- of a part of the caller's file: what it holds, and where it stands
-pub font-name-outcomes : (κs : Lfts 1) → (a : _) → (r s : _) → (x y : _) → font-name.Post κs a r x → font-name.Post κs a s y → (now r ≡ now s) × (r .ptr ≡ s .ptr)
-font-name-outcomes κs a r s x y p q = (p .0 ∙ sym (q .0), p .1 ∙ sym (q .1))
+-- of a part of the caller's file: what it holds, where it stands, and the number and the place that are told with it
+pub font-name-outcomes : (κs : Lfts 3) → (a : _) → (r s : _) → (x y : _) → font-name.Post κs a r x → font-name.Post κs a s y
+    → (now r ≡ now s) × (r .ptr ≡ s .ptr) × (now (x .1 .1 .0) ≡ now (y .1 .1 .0)) × (now (x .1 .1 .1 .0) ≡ now (y .1 .1 .1 .0))
+font-name-outcomes κs a r s x y p q =
+    let told = name-one-to-one _ _ _ _ _ _ (p .1 .1 .0 ∙ sym (q .1 .1 .0)) in
+    (p .0 ∙ sym (q .0), p .1 .0 ∙ sym (q .1 .0), told .0, told .1)
 
 pub round-distance-outcomes : (κs : Lfts 0) → (a : _) → (r s : Rounded) → (x y : _) → round-distance.Post κs a r x → round-distance.Post κs a s y → r ≡ s
 round-distance-outcomes κs a r s x y p q = rounded-one-to-one r s (p ∙ sym q)

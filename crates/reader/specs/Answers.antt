@@ -1,5 +1,5 @@
 -- What each entry's answer says: document 01's number and place of a refusal, or the values of the result. Assumes nothing.
-use Prim.Native.Nat.{ℕ}
+use Prim.Native.Nat.{ℕ, zero, suc, _+_}
 use lib.IntN.{ℤ}
 use Rattle.refusals.specs.Answer.{Answer, refused, given}
 use Rattle.widths.specs.Scaling.{fixWord}
@@ -12,8 +12,6 @@ use Rattle.reader.specs.declared.CommandRead.{CommandRead}
 use Rattle.reader.specs.declared.CommandRead.the-variants as CommandRead
 use Rattle.reader.specs.declared.FileChecked.{FileChecked}
 use Rattle.reader.specs.declared.FileChecked.the-variants as FileChecked
-use Rattle.reader.specs.declared.NamePlace.{NamePlace}
-use Rattle.reader.specs.declared.NamePlace.the-variants as NamePlace
 use Rattle.reader.specs.declared.Scaled.{Scaled}
 use Rattle.reader.specs.declared.Scaled.the-variants as Scaled
 use Rattle.reader.specs.declared.TableChecked.{TableChecked}
@@ -40,10 +38,10 @@ abbrev pub Accepts : FileChecked → Type 0
 Accepts (FileChecked.Accepted pages fonts depth post) = Unit {0}
 Accepts (FileChecked.Refused number place) = ⊥
 
--- font_name_place: the part of the file that holds the name
-abbrev pub nameAnswer : NamePlace → Answer Part
-nameAnswer (NamePlace.At start end) = given (record { start = start; end = end })
-nameAnswer (NamePlace.Refused number place) = refused number place
+-- font_name, of the number, the place and how long the part is: with number 0 the part that starts at the place, else the refusal
+abbrev pub nameAnswer : ℕ → ℕ → ℕ → Answer Part
+nameAnswer zero start long = given (record { start = start; end = start + long })
+nameAnswer (suc less) place long = refused (suc less) place
 
 -- scale_width: the width
 abbrev pub scaledAnswer : Scaled → Answer ℤ

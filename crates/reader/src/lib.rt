@@ -14,6 +14,7 @@ use widths::table::Place;
 use widths::table::Table;
 ghost use mathlib.Core.Path.{_≡_};
 ghost use mathlib.Core.Logic.{_↔_};
+ghost use Prim.Native.Nat.{_+_, _≤_};
 ghost use lib.ListN.{length};
 ghost use Rattle.commands.specs.Reading.{commandRead};
 ghost use Rattle.volume.specs.Lawful.{Lawful};
@@ -95,34 +96,28 @@ pub fn check_file(file: &[u8]) -> FileChecked
     }
 }
 
-// Where a font's name stands, from its first byte to past its last, or refusal 1 to 11, then 8
-pub enum NamePlace {
-    At { start: usize, end: usize },
-    Refused { number: u8, place: usize },
-}
-
-// Where the name of a font stands in the file, area first.
-pub fn font_name_place(file: &[u8], font: i32) -> NamePlace
-    ensures { λ r. ⌜ nameAnswer r ≡ namePlace (now (file .entry)) font ⌝ }
-{
-    match names::name_place(file, font as i64) {
-        Named::At(part) => NamePlace::At {
-            start: part.start,
-            end: part.end,
-        },
-        Named::Refused(refusal) => NamePlace::Refused {
-            number: refusal.number,
-            place: refusal.place,
-        },
-    }
-}
-
-// The name of a font, as the part of the file that holds it; on any refusal the empty part at the file's start.
-pub fn font_name(file: &[u8], font: i32) -> &[u8]
+// The name of a font, area first, as the part of the file that holds it. Number becomes 0 and place where the part starts; or those of refusal 1 to 11, then 8,
+// with the empty part at the file's start.
+pub fn font_name<'a>(file: &'a [u8], font: i32, number: &mut u8, place: &mut usize) -> &'a [u8]
     ensures { λ r. ⌜ now r ≡ nameOf (now (file .entry)) font ⌝ }
     ensures { λ r. ⌜ r .ptr ≡ bytesAfter (nameStart (now (file .entry)) font) (file .entry .ptr) ⌝ }
+    ensures { λ r. ⌜ nameAnswer (now (number .exit)) (now (place .exit)) (length (now r)) ≡ namePlace (now (file .entry)) font ⌝ }
+    ensures { λ r. ⌜ (now (number .exit) ≡ 0 → now (place .exit) + length (now r) ≤ length (now (file .entry))) ⌝ }
 {
-    names::name_of(file, font as i64)
+    match names::name_place(file, font as i64) {
+        Named::At(part) => {
+            let start = part.start;
+            let end = part.end;
+            *number = 0;
+            *place = start;
+            &file[start..end]
+        }
+        Named::Refused(refusal) => {
+            *number = refusal.number;
+            *place = refusal.place;
+            &file[0..0]
+        }
+    }
 }
 
 // A rounded distance, or refusal 4, 12 or 13

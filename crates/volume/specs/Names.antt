@@ -1,5 +1,4 @@
--- "The name is given back as the part of the caller's file that holds it, area first, not as a copy; of a font's two definitions the one before post
--- is meant." Assumes nothing.
+-- A font's name: which part of the file it is, and what an answer says of that part. Assumes nothing.
 use Prim.Native.Nat.{ℕ, _+_, _-_}
 use mathlib.Core.Bool.{false}
 use mathlib.Core.List.{List, []}
@@ -18,30 +17,30 @@ use Rattle.volume.specs.Judged.{judged}
 abbrev pub namePart : ℕ → Command → Part
 namePart at c = record { start = at + 1 + definitionNumberSize (c .opcode) + definitionName; end = at + 1 + length (c .params) }
 
--- "the name of an undefined font number is 8 with place 0"
+-- a font without a definition is refused with place 0
 abbrev pub namedBy : Definition → Answer Part
 namedBy none = refused noFont 0
 namedBy (stands at c) = given (namePart at c)
 
--- "after 1 to 11"
+-- the file is judged first; the definition that counts stands before post
 abbrev pub namePlace : List ℕ → ℤ → Answer Part
 namePlace file number = andThen (judged file) (λ found. namedBy (definitionOf false number (history file)))
 
--- the bytes of a part; "any refusal there lends the empty part at the file's start"
+-- the bytes of the part that is lent: none where the name is refused
 abbrev pub partOf : List ℕ → Answer Part → List ℕ
 partOf file (refused number place) = []
 partOf file (given part) = take (part .end - part .start) (drop (part .start) file)
 
--- of a font's name
+-- the bytes of a font's name
 abbrev pub nameOf : List ℕ → ℤ → List ℕ
 nameOf file number = partOf file (namePlace file number)
 
--- where the part starts in the file: at "the file's start" on any refusal
+-- how far into the file the part that is lent starts: not at all where the name is refused
 abbrev pub startOf : Answer Part → ℕ
 startOf (refused number place) = 0
 startOf (given part) = part .start
 
--- of a font's name
+-- how far into the file the part of a font's name starts
 abbrev pub nameStart : List ℕ → ℤ → ℕ
 nameStart file number = startOf (namePlace file number)
 

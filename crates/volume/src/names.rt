@@ -8,7 +8,7 @@ use commands::fields;
 use refusals::Refusal;
 ghost use mathlib.Core.Path.{_≡_};
 ghost use lib.ListN.{length};
-ghost use Rattle.volume.specs.Names.{namePlace, nameOf, nameStart, bytesAfter};
+ghost use Rattle.volume.specs.Names.{namePlace};
 ghost use Rattle.volume.specs.Steps.{namedAnswer, Inside, NamedIs};
 
 // Where the name of a font stands, by the table of the definitions before post.
@@ -47,20 +47,5 @@ pub fn name_place(file: &[u8], number: i64) -> Named
     match scanning::scan(file, 0, &mut fonts) {
         Scanned::Refused(refusal) => Named::Refused(refusal),
         Scanned::Accepted(_) => named_by(file, &fonts, number),
-    }
-}
-
-// The name of a font, as the part of the file that holds it; the empty part at the file's start on any refusal.
-pub fn name_of(file: &[u8], number: i64) -> &[u8]
-    ensures { λ r. ⌜ now r ≡ nameOf (now (file .entry)) number ⌝ }
-    ensures { λ r. ⌜ r .ptr ≡ bytesAfter (nameStart (now (file .entry)) number) (file .entry .ptr) ⌝ }
-{
-    match name_place(file, number) {
-        Named::Refused(_) => &file[0..0],
-        Named::At(part) => {
-            let start = part.start;
-            let end = part.end;
-            &file[start..end]
-        }
     }
 }

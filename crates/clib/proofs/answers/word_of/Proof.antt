@@ -20,7 +20,7 @@ record Below (z : ℤ) : Type 0 where
   left : ℕ
   small : left < 2 ^ 63
   is : negsuc 0 -ℤ z ≡ pos left
-  word : 18446744073709551615 - left ≡ toTwos (2 ^ 64) z
+  word : toTwos (2 ^ 64) z ≡ 2 ^ 64 - suc left
 
 below : (z : ℤ) → SFits w64 z → ltZ z (pos 0) ≡ true → Below z
 below (pos a) f e = absurd (omega (arith, ltb-true a 0 e))
@@ -31,7 +31,7 @@ below (negsuc a) f e =
       left = a;
       small = l;
       is = ap (λ (short : _). cond short (negsuc (1 - suc (suc a))) (pos (suc a - 1))) (le-ltb (suc a) 1 (omega arith)) ∙ ap pos one;
-      word = subst (λ (k : ℕ). 18446744073709551615 - a ≡ 2 ^ 64 - suc k) (sym m) (omega arith);
+      word = ap (λ (k : ℕ). 2 ^ 64 - suc k) m;
     }
 
 -- what n ≥ 0 tells of n, and of the word that stands for it
@@ -77,7 +77,9 @@ cast-result-2 : tie.Need-cast-result-2
 cast-result-2 c = rw (plain c) (tt, omega (arith, of-else c .small))
 
 returns : tie.Need-returns
-returns c = ap (λ (z : ℤ). 18446744073709551615 - natAbs z) (turned c) ∙ of-then c .word
+returns c =
+    let left : natAbs (toZ w64 (ofZ w64 (negsuc 0 -ℤ toZ w64 (ofZ w64 (c .before .args .n))))) ≡ of-then c .left = ap natAbs (turned c) in
+    omega (arith, left, of-then c .word, of-then c .small)
 
 returns-2 : tie.Need-returns-2
 returns-2 c = ap natAbs (plain c) ∙ of-else c .word
