@@ -8,7 +8,8 @@ use borrow.Author.Tests.{ltb-true, ltb-false}
 use lib.Dec.{ltb}
 use lib.IntN.{ℤ}
 use lib.ListN.{length}
-use Rattle.refusals.specs.Answer.{Answer, refused, given, Listed}
+use Rattle.refusals.specs.Answer.{Answer, refused, given}
+use Rattle.refusals.specs.RefusedOnly.{Listed}
 use Rattle.commands.specs.Reading.{commandRead}
 use Rattle.units.specs.Rounding.{roundedDistance}
 use Rattle.widths.specs.declared.FixWord.{FixWord}

@@ -22,11 +22,10 @@ use Rattle.volume.proofs.Accepts.{lawful-counts}
 use Rattle.volume.proofs.History.{lawful-history}
 use Rattle.page.specs.Answers.{placedIn, placedAccepted, placedPage, placedCounts, areaAfter}
 use Rattle.reader.specs.declared.FileChecked.{FileChecked}
-use Rattle.reader.specs.declared.NamePlace.{NamePlace}
 use Rattle.reader.specs.declared.Placed.{Placed}
 use Rattle.reader.specs.Answers.{fileAnswer, nameAnswer, placedAnswer}
 use Rattle.reader.proofs.check_file.Reads as check-file
-use Rattle.reader.proofs.font_name_place.Reads as font-name-place
+use Rattle.reader.proofs.font_name.Reads as font-name
 use Rattle.reader.proofs.place_page.Reads as place-page
 use Rattle.promises.specs.Calls.{Arguments, file, table, resolution, page, area}
 use Rattle.promises.specs.OfTheList.{nameInList, placedBy}
@@ -64,10 +63,11 @@ pub check-file-by-the-list : (κs : Lfts 1) → (lent : _) → (r : FileChecked)
 check-file-by-the-list κs lent r x post cs keeps forms short = post .0 ∙ checked-by-the-list (now lent) cs keeps forms short
 
 -- a font's name
-pub font-name-by-the-list : (κs : Lfts 1) → (lent : _) → (font : ℤ) → (r : NamePlace) → (x : _) → font-name-place.Post κs (lent, (font, tt)) r x
+pub font-name-by-the-list : (κs : Lfts 3) → (lent : _) → (font : ℤ) → (number place : _) → (r : _) → (x : _)
+    → font-name.Post κs (lent, (font, (number, (place, tt)))) r x
     → (cs : List Command) → Keeps cs → written cs ≡ now lent → length (now lent) ≤ longestFile
-    → nameAnswer r ≡ nameInList cs font
-font-name-by-the-list κs lent font r x post cs keeps forms short = post ∙ named-by-the-list (now lent) cs keeps forms short font
+    → nameAnswer (now (x .1 .1 .0)) (now (x .1 .1 .1 .0)) (length (now r)) ≡ nameInList cs font
+font-name-by-the-list κs lent font number place r x post cs keeps forms short = post .1 .1 .0 ∙ named-by-the-list (now lent) cs keeps forms short font
 
 -- place_page: the answer, and every byte of the area
 pub place-page-by-the-list : (κs : Lfts 3) (a x : Arguments) (r : Placed) → place-page.Post κs a r x

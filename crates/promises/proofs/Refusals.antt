@@ -17,7 +17,6 @@ use Rattle.volume.proofs.RefusedWith.{file-refused-with, name-refused-with}
 use Rattle.page.proofs.RefusedWith.{page-refused-with}
 use Rattle.reader.specs.declared.CommandRead.{CommandRead}
 use Rattle.reader.specs.declared.FileChecked.{FileChecked}
-use Rattle.reader.specs.declared.NamePlace.{NamePlace}
 use Rattle.reader.specs.declared.Rounded.{Rounded}
 use Rattle.reader.specs.declared.Scaled.{Scaled}
 use Rattle.reader.specs.declared.TableChecked.{TableChecked}
@@ -26,7 +25,7 @@ use Rattle.reader.specs.declared.Placed.{Placed}
 use Rattle.reader.specs.Answers.{commandAnswer, fileAnswer, nameAnswer, roundedAnswer, scaledAnswer, tableAnswer, lookedAnswer, placedAnswer}
 use Rattle.reader.proofs.read_command.Reads as read-command
 use Rattle.reader.proofs.check_file.Reads as check-file
-use Rattle.reader.proofs.font_name_place.Reads as font-name-place
+use Rattle.reader.proofs.font_name.Reads as font-name
 use Rattle.reader.proofs.round_distance.Reads as round-distance
 use Rattle.reader.proofs.scale_width.Reads as scale-width
 use Rattle.reader.proofs.check_table.Reads as check-table
@@ -48,9 +47,10 @@ pub check-file-refusals : (κs : Lfts 1) → (file : _) → (r : FileChecked) �
 check-file-refusals κs file r x post = said (FileRefusal (now file)) (post .0) (file-refused-with (now file))
 
 -- as check_file; 8 at 0
-pub font-name-refusals : (κs : Lfts 1) → (file : _) → (font : ℤ) → (r : NamePlace) → (x : _) → font-name-place.Post κs (file, (font, tt)) r x
-    → RefusedOnly (NameRefusal (now file)) (nameAnswer r)
-font-name-refusals κs file font r x post = said (NameRefusal (now file)) post (name-refused-with (now file) font)
+pub font-name-refusals : (κs : Lfts 3) → (file : _) → (font : ℤ) → (number place : _) → (r : _) → (x : _)
+    → font-name.Post κs (file, (font, (number, (place, tt)))) r x
+    → RefusedOnly (NameRefusal (now file)) (nameAnswer (now (x .1 .1 .0)) (now (x .1 .1 .1 .0)) (length (now r)))
+font-name-refusals κs file font number place r x post = said (NameRefusal (now file)) (post .1 .1 .0) (name-refused-with (now file) font)
 
 -- 4, 12 or 13 at 0
 pub round-distance-refusals : (κs : Lfts 0) → (num den mag : ℤ) → (resolution : ℕ) → (n : ℤ) → (r : Rounded) → (x : _)

@@ -13,6 +13,10 @@ abbrev pub RefusedOnly : {A : Type 0} → (ℕ → ℕ → Type 0) → Answer A 
 RefusedOnly May (refused number place) = May number place
 RefusedOnly May (given a) = Unit {0}
 
+-- an answer that is a result, or a refusal with any number of the list, which are 1 to 17 (the table of section 4 of the rules)
+abbrev pub Listed : {A : Type 0} → Answer A → Type 0
+Listed answer = RefusedOnly (λ number place. (1 ≤ number) × (number ≤ 17)) answer
+
 -- of a file: 1 at 0; 2 in the file or at its end; 3 to 10 in the file; 11 in the file or at its end (rules 4.1, 4.2)
 abbrev pub FileRefusal : List ℕ → ℕ → ℕ → Type 0
 FileRefusal file number place =

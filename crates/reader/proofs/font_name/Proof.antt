@@ -7,7 +7,8 @@ use borrow.Author.Needs.{needs}
 use lib.ListN.{length, drop, length-drop}
 use lib.Seq.{length-take-le}
 use denote.Ref.{now}
-use Rattle.refusals.specs.Answer.{Answer, given, Listed}
+use Rattle.refusals.specs.Answer.{Answer, given}
+use Rattle.refusals.specs.RefusedOnly.{Listed}
 use Rattle.volume.specs.declared.Part.{Part}
 use Rattle.volume.specs.declared.Named.{Named}
 use Rattle.volume.specs.Names.{namePlace, partOf, startOf, bytesAfter}
