@@ -10,7 +10,7 @@ use Rattle.numbers.specs.Signs.{toTwos}
 use Rattle.widths.specs.LookUp.{LookUp, found, absent}
 use Rattle.commands.specs.declared.Reading.{Reading}
 use Rattle.volume.specs.declared.Summary.{Summary}
-use Rattle.volume.specs.declared.Part.{Part}
+use Rattle.list.specs.declared.Part.{Part}
 use Rattle.page.specs.declared.Counts.{Counts}
 
 -- ---- the rule

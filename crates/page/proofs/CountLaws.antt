@@ -16,7 +16,7 @@ use Rattle.commands.specs.declared.Kind.{Kind}
 use Rattle.commands.specs.declared.Kind.the-variants as Kind
 use Rattle.commands.specs.Commands.{Command, kindOfCommand}
 use Rattle.commands.specs.Parameters.{distance, ruleHeight, ruleWidth}
-use Rattle.volume.specs.Past.{isA}
+use Rattle.list.specs.Past.{isA}
 use Rattle.state.specs.declared.Level.{Level}
 use Rattle.state.specs.declared.Font.{Font}
 use Rattle.state.specs.declared.moving.Direction.{Direction}

@@ -8,12 +8,12 @@ use lib.ListN.{getD, take, drop}
 use lib.IntN.{ℤ, natAbs}
 use Rattle.commands.specs.Commands.{Command}
 use Rattle.commands.specs.Parameters.{fontChecksum, fontScale}
-use Rattle.volume.specs.declared.Part.{Part}
-use Rattle.volume.specs.Past.{body, Definition, definitionOf}
-use Rattle.volume.specs.Rules.{lawfulFont}
-use Rattle.volume.specs.Steps.{SayingAt}
-use Rattle.volume.proofs.FontTables.{told-none}
-use Rattle.volume.proofs.Sayings.{part-says}
+use Rattle.list.specs.declared.Part.{Part}
+use Rattle.list.specs.Past.{body, Definition, definitionOf}
+use Rattle.list.specs.Rules.{lawfulFont}
+use Rattle.list.specs.Steps.{SayingAt}
+use Rattle.list.proofs.FontTables.{told-none}
+use Rattle.list.proofs.Sayings.{part-says}
 use Rattle.volume.proofs.NameLaws.{Leads, said-there}
 use Rattle.state.specs.Registers.{unselected}
 use Rattle.page.specs.Placing.{fontBy}

@@ -5,8 +5,8 @@ use Prim.Native.Nat.{ℕ, _+_, _-_}
 use Rattle.commands.specs.declared.Kind.{Kind}
 use Rattle.commands.specs.declared.Kind.the-variants.{Push, Pop, Eop}
 use Rattle.commands.specs.Kinds.{is}
-use Rattle.volume.specs.Past.{depthAfter}
-use Rattle.volume.proofs.Arms.{is-kind, on-kinds}
+use Rattle.list.specs.Past.{depthAfter}
+use Rattle.list.proofs.Arms.{is-kind, on-kinds}
 use Rattle.page.specs.Blocks.{Frame, opening, closing, ending, inside, frameOf}
 
 abbrev pub isOpening : Frame → Bool

@@ -14,15 +14,15 @@ use Rattle.commands.specs.Kinds.{is}
 use Rattle.commands.specs.Commands.{Command, kindOfCommand}
 use Rattle.commands.proofs.Fronts.{front-sound}
 use Rattle.commands.proofs.Lengths.{whole-plain}
-use Rattle.volume.specs.declared.Stage.{Stage}
-use Rattle.volume.specs.declared.Stage.the-variants.{AtStart, BeforePages, OnPage, BetweenPages, AfterPost, AfterEnd}
+use Rattle.list.specs.declared.Stage.{Stage}
+use Rattle.list.specs.declared.Stage.the-variants.{AtStart, BeforePages, OnPage, BetweenPages, AfterPost, AfterEnd}
 use Rattle.volume.specs.declared.Summary.{Summary}
-use Rattle.volume.specs.Past.{isA, place, stage, stageAfter, depth, pages}
-use Rattle.volume.specs.Steps.{bopOf}
-use Rattle.volume.specs.Rules.{isAtStart, mayStand, wrongAtDepth, Allowed}
+use Rattle.list.specs.Past.{isA, place, stage, stageAfter, depth, pages}
+use Rattle.list.specs.Steps.{bopOf}
+use Rattle.list.specs.Rules.{isAtStart, mayStand, wrongAtDepth, Allowed}
 use Rattle.volume.specs.Judged.{judged}
 use Rattle.volume.specs.History.{history}
-use Rattle.volume.proofs.Arms.{on-kinds, is-kind}
+use Rattle.list.proofs.Arms.{on-kinds, is-kind}
 use Rattle.volume.proofs.History.{history-counts}
 use Rattle.volume.proofs.Going.{after-command}
 use Rattle.page.specs.PageList.{Located, isOnPage, isOn, pageOf}

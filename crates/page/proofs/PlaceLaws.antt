@@ -17,9 +17,10 @@ use Rattle.units.specs.Steps.{Units}
 use Rattle.units.proofs.Unit.{accepted}
 use Rattle.widths.specs.Table.{checkedTable}
 use Rattle.commands.specs.Reading.{longestFile}
-use Rattle.volume.specs.declared.Volume.{Volume}
-use Rattle.volume.specs.Past.{num, den, mag}
-use Rattle.volume.specs.Steps.{bopOf, volumeOf, summaryOf}
+use Rattle.list.specs.declared.Volume.{Volume}
+use Rattle.list.specs.Past.{num, den, mag}
+use Rattle.list.specs.Steps.{bopOf, volumeOf}
+use Rattle.volume.specs.Steps.{summaryOf}
 use Rattle.volume.specs.Judged.{judged}
 use Rattle.volume.specs.History.{history}
 use Rattle.volume.proofs.Accepts.{accepts-lawful}

@@ -19,7 +19,7 @@ use Rattle.widths.specs.Table.{widthRecordSize, checkedTable}
 use Rattle.commands.specs.Commands.{Command}
 use Rattle.commands.proofs.Fronts.{front-length}
 use Rattle.volume.specs.declared.Summary.{Summary}
-use Rattle.volume.specs.Past.{place, num, den, mag}
+use Rattle.list.specs.Past.{place, num, den, mag}
 use Rattle.volume.specs.Judged.{judged}
 use Rattle.volume.specs.History.{history}
 use Rattle.state.specs.Registers.{State, freshState}

@@ -23,16 +23,16 @@ use Rattle.commands.specs.Commands.{Command, kindOfCommand, whole, front}
 use Rattle.commands.specs.Parameters.{fontScale}
 use Rattle.commands.proofs.Ranges.{below-or-not}
 use Rattle.commands.proofs.Fronts.{front-sound}
-use Rattle.volume.specs.declared.Stage.{Stage}
-use Rattle.volume.specs.declared.Stage.the-variants.{AtStart, BeforePages, OnPage, BetweenPages, AfterPost, AfterEnd}
+use Rattle.list.specs.declared.Stage.{Stage}
+use Rattle.list.specs.declared.Stage.the-variants.{AtStart, BeforePages, OnPage, BetweenPages, AfterPost, AfterEnd}
 use Rattle.volume.specs.declared.Summary.{Summary}
-use Rattle.volume.specs.Past.{isA, place, stage, num, den, mag, fontNumber, body, defines, stands, definitionOf}
-use Rattle.volume.specs.Rules.{isAtStart, lawfulPreamble, positiveUnit, mayStand, lawfulFont, lawfulDefinition, fontLeftOut, Allowed}
+use Rattle.list.specs.Past.{isA, place, stage, num, den, mag, fontNumber, body, defines, stands, definitionOf}
+use Rattle.list.specs.Rules.{isAtStart, lawfulPreamble, positiveUnit, mayStand, lawfulFont, lawfulDefinition, fontLeftOut, Allowed}
 use Rattle.volume.specs.Judged.{judgedFrom, judged}
 use Rattle.volume.specs.History.{historyFrom, history}
-use Rattle.volume.proofs.Arms.{is-kind}
-use Rattle.volume.proofs.FaultLaws.{all-kept}
-use Rattle.volume.proofs.FontTables.{defines-kind}
+use Rattle.list.proofs.Arms.{is-kind}
+use Rattle.list.proofs.FaultLaws.{all-kept}
+use Rattle.list.proofs.FontTables.{defines-kind}
 use Rattle.volume.proofs.Turns.{judged-short, judged-cut, judged-undefined, judged-faulty, judged-onward, history-start, history-last, history-onward, Turn, at-cut, at-undefined, at-fault, at-last, onward, turn}
 use Rattle.volume.proofs.Accepts.{refused-given, accepts-lawful}
 use Rattle.volume.proofs.Going.{after-command}

@@ -18,7 +18,7 @@ use Rattle.commands.specs.Commands.{Command, Whole, kindOfCommand}
 use Rattle.commands.specs.Parameters.{distance, ruleHeight, ruleWidth}
 use Rattle.commands.specs.ByKind.{last, fixedBy}
 use Rattle.commands.proofs.Lengths.{hasInner, whole-at-most}
-use Rattle.volume.proofs.Arms.{on-kinds}
+use Rattle.list.proofs.Arms.{on-kinds}
 use Rattle.state.specs.declared.Level.{Level}
 use Rattle.state.specs.declared.Font.{Font}
 use Rattle.state.specs.declared.moving.Direction.{Direction}

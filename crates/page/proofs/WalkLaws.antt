@@ -13,10 +13,10 @@ use Rattle.refusals.specs.Answer.{Answer, refused, given, andThen}
 use Rattle.commands.specs.declared.Kind.{Kind}
 use Rattle.commands.specs.declared.Kind.the-variants.{Eop, Push, Pop}
 use Rattle.commands.specs.Commands.{Command, kindOfCommand, whole, front}
-use Rattle.volume.specs.Past.{isA, depthAfter}
-use Rattle.volume.specs.Rules.{wrongAtDepth}
+use Rattle.list.specs.Past.{isA, depthAfter}
+use Rattle.list.specs.Rules.{wrongAtDepth}
 use Rattle.volume.specs.History.{history}
-use Rattle.volume.proofs.Arms.{is-kind}
+use Rattle.list.proofs.Arms.{is-kind}
 use Rattle.volume.proofs.Going.{after-command}
 use Rattle.state.specs.declared.Level.{Level}
 use Rattle.state.specs.declared.Page.{Page}

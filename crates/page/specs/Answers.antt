@@ -10,7 +10,7 @@ use Rattle.units.specs.declared.Ratio.{Ratio}
 use Rattle.units.specs.Unit.{unitOf, drift}
 use Rattle.widths.specs.Table.{checkedTable}
 use Rattle.commands.specs.Commands.{Command}
-use Rattle.volume.specs.Past.{num, den, mag}
+use Rattle.list.specs.Past.{num, den, mag}
 use Rattle.volume.specs.Judged.{judged}
 use Rattle.volume.specs.History.{history}
 use Rattle.state.specs.Registers.{freshState}

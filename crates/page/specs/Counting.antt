@@ -9,7 +9,7 @@ use Rattle.widths.specs.LookUp.{LookUp, found, absent}
 use Rattle.commands.specs.declared.Kind.the-variants.{SetCharacter, SetRule, PutCharacter, PutRule, Select, Special}
 use Rattle.commands.specs.Commands.{Command}
 use Rattle.commands.specs.Parameters.{characterCode, ruleHeight, ruleWidth, selectedFont}
-use Rattle.volume.specs.Past.{isA}
+use Rattle.list.specs.Past.{isA}
 use Rattle.state.specs.declared.Font.{Font}
 use Rattle.state.specs.Registers.{State}
 use Rattle.page.specs.declared.Record.{Record}

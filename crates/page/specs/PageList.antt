@@ -5,9 +5,9 @@ use mathlib.Core.List.{List, [], _∷_, _++_}
 use lib.Dec.{eqb}
 use Rattle.commands.specs.declared.Kind.the-variants.{Eop}
 use Rattle.commands.specs.Commands.{Command}
-use Rattle.volume.specs.declared.Stage.{Stage}
-use Rattle.volume.specs.declared.Stage.the-variants.{AtStart, BeforePages, OnPage, BetweenPages, AfterPost, AfterEnd}
-use Rattle.volume.specs.Past.{isA, place, stage, pages}
+use Rattle.list.specs.declared.Stage.{Stage}
+use Rattle.list.specs.declared.Stage.the-variants.{AtStart, BeforePages, OnPage, BetweenPages, AfterPost, AfterEnd}
+use Rattle.list.specs.Past.{isA, place, stage, pages}
 
 -- a command with the place of its opcode
 pub record Located : Type 0 where

@@ -15,7 +15,7 @@ use Rattle.commands.specs.declared.Kind.{Kind}
 use Rattle.commands.specs.declared.Kind.the-variants.{SetCharacter, SetRule, PutCharacter, PutRule, Nop, Bop, Eop, Push, Pop, Right, W, X, Down, Y, Z, Select, Special, Define, Pre, Post, PostPost, Undefined}
 use Rattle.commands.specs.Commands.{Command, kindOfCommand}
 use Rattle.commands.specs.Parameters.{characterCode, distance, ruleHeight, ruleWidth, selectedFont, fontChecksum, fontScale}
-use Rattle.volume.specs.Past.{body, Definition, none, stands, definitionOf}
+use Rattle.list.specs.Past.{body, Definition, none, stands, definitionOf}
 use Rattle.state.specs.declared.Level.{Level}
 use Rattle.state.specs.declared.Font.{Font}
 use Rattle.state.specs.declared.moving.Direction.{Direction}

@@ -12,7 +12,7 @@ use Rattle.widths.specs.Table.{checkedFrom}
 use Rattle.commands.specs.Kinds.{kindOf}
 use Rattle.commands.specs.Lengths.{lengths, fixedLength, innerLength, sizeOf}
 use Rattle.commands.specs.Commands.{frontAfter}
-use Rattle.volume.specs.Rules.{sameBytes}
+use Rattle.list.specs.Rules.{sameBytes}
 use Rattle.volume.specs.Judged.{tail, judgedFrom, judged}
 use Rattle.volume.specs.History.{history, historyFrom}
 use Rattle.page.specs.declared.Record.{Record}

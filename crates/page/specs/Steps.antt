@@ -18,13 +18,14 @@ use Rattle.commands.specs.Kinds.{is}
 use Rattle.commands.specs.Commands.{Command, kindOfCommand, whole, front}
 use Rattle.commands.specs.Parameters.{distance, ruleHeight, ruleWidth, fontScale}
 use Rattle.commands.specs.Reading.{longestFile}
-use Rattle.volume.specs.Past.{isA, depthAfter, body, Definition, none, stands, definitionOf}
-use Rattle.volume.specs.Rules.{wrongAtDepth}
-use Rattle.volume.specs.declared.Volume.{Volume}
+use Rattle.list.specs.Past.{isA, depthAfter, body, Definition, none, stands, definitionOf}
+use Rattle.list.specs.Rules.{wrongAtDepth}
+use Rattle.list.specs.declared.Volume.{Volume}
 use Rattle.volume.specs.declared.Scanned.the-variants as Scanned
 use Rattle.volume.specs.Judged.{judged}
 use Rattle.volume.specs.History.{history}
-use Rattle.volume.specs.Steps.{Tells, AllStanding, Lawfully, summaryOf, ScanKeeps}
+use Rattle.list.specs.Steps.{Tells, AllStanding, Lawfully}
+use Rattle.volume.specs.Steps.{summaryOf, ScanKeeps}
 use Rattle.state.specs.declared.Level.{Level}
 use Rattle.state.specs.declared.Font.{Font}
 use Rattle.state.specs.declared.moving.Direction.{Direction}

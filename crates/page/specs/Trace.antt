@@ -4,8 +4,8 @@ use mathlib.Core.Path.{_≡_}
 use mathlib.Core.List.{List, [], _∷_}
 use lib.ListN.{drop}
 use Rattle.commands.specs.Commands.{Command, whole, front}
-use Rattle.volume.specs.Past.{place}
-use Rattle.volume.specs.Rules.{Allowed}
+use Rattle.list.specs.Past.{place}
+use Rattle.list.specs.Rules.{Allowed}
 
 -- the commands of past, the newest first, stand in the file one after the other from its start, and each keeps the rules where it stands (rules 3.1, 3.11)
 pub data Trace (file : List ℕ) : List Command → Type 0 where

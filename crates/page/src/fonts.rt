@@ -1,7 +1,7 @@
 // The font that a selection names, from its definition before post.
 use commands::fields;
+use list::fonts;
 use state::Font;
-use volume::fonts;
 ghost use Rattle.page.specs.Steps.{FontIs};
 
 // The font of a number, by the table of the definitions before post; one that is not defined has scale 0.

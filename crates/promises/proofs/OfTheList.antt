@@ -12,8 +12,8 @@ use Rattle.refusals.specs.Answer.{Answer, given, andThen}
 use Rattle.commands.specs.Commands.{Command, written}
 use Rattle.commands.specs.Reading.{longestFile}
 use Rattle.volume.specs.declared.Summary.{Summary}
-use Rattle.volume.specs.Past.{definitionOf}
-use Rattle.volume.specs.Lawful.{Keeps}
+use Rattle.list.specs.Past.{definitionOf}
+use Rattle.list.specs.Lawful.{Keeps}
 use Rattle.volume.specs.Judged.{judged}
 use Rattle.volume.specs.History.{history}
 use Rattle.volume.specs.OfList.{pastOf, counts}

@@ -16,11 +16,11 @@ use Rattle.commands.specs.Kinds.{is}
 use Rattle.commands.specs.Commands.{Command, kindOfCommand}
 use Rattle.commands.specs.Parameters.{fontScale, fontDesignSize}
 use Rattle.commands.proofs.Ranges.{below-or-not}
-use Rattle.volume.specs.Past.{place, stage, isAfterPost, fontNumber, body, defines, Definition, none, stands, definitionOf, isDefined, fontCount}
-use Rattle.volume.specs.Rules.{lawfulFont, says, Allowed}
-use Rattle.volume.specs.Lawful.{Keeps}
-use Rattle.volume.proofs.SameBytes.{same-true}
-use Rattle.volume.proofs.FontTables.{lawful-in, defines-kind}
+use Rattle.list.specs.Past.{place, stage, isAfterPost, fontNumber, body, defines, Definition, none, stands, definitionOf, isDefined, fontCount}
+use Rattle.list.specs.Rules.{lawfulFont, says, Allowed}
+use Rattle.list.specs.Lawful.{Keeps}
+use Rattle.list.proofs.SameBytes.{same-true}
+use Rattle.list.proofs.FontTables.{lawful-in, defines-kind}
 use Rattle.promises.specs.Standing.{StandsAmong}
 use Rattle.promises.proofs.Volumes.{PastKeeps, no-more, and-one, kept-there, is-there, Right, right}
 

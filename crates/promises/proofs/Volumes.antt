@@ -20,15 +20,15 @@ use Rattle.commands.specs.Lengths.{lengths, fixedLength, innerLength, sizeOf}
 use Rattle.commands.specs.Commands.{Command, kindOfCommand, Whole, written}
 use Rattle.commands.specs.Parameters.{selectedFont, fontScale, fontDesignSize}
 use Rattle.commands.proofs.Opcodes.{kind-range}
-use Rattle.volume.specs.declared.Stage.{Stage}
-use Rattle.volume.specs.declared.Stage.the-variants.{AtStart, BeforePages, OnPage, BetweenPages, AfterPost, AfterEnd}
-use Rattle.volume.specs.Past.{isA, stage, stageAfter, isAfterPost, depth, greatest, pages, lastBop, postPlace, num, den, mag, fontNumber, body, Definition, none, stands, definitionOf, isDefined, fontCount}
-use Rattle.volume.specs.Rules.{isAtStart, mayStand, wrongAtDepth, lawfulFont, says, lawfulDefinition, lawfulPostamble, Allowed}
-use Rattle.volume.specs.Lawful.{fillers, Follows, ends, goes, Keeps, Lawful}
+use Rattle.list.specs.declared.Stage.{Stage}
+use Rattle.list.specs.declared.Stage.the-variants.{AtStart, BeforePages, OnPage, BetweenPages, AfterPost, AfterEnd}
+use Rattle.list.specs.Past.{isA, stage, stageAfter, isAfterPost, depth, greatest, pages, lastBop, postPlace, num, den, mag, fontNumber, body, Definition, none, stands, definitionOf, isDefined, fontCount}
+use Rattle.list.specs.Rules.{isAtStart, mayStand, wrongAtDepth, lawfulFont, says, lawfulDefinition, lawfulPostamble, Allowed}
+use Rattle.list.specs.Lawful.{fillers, Follows, ends, goes, Keeps, Lawful}
 use Rattle.volume.specs.OfList.{upToLast, pastOf}
 use Rattle.volume.specs.Starred.{M}
-use Rattle.volume.proofs.Arms.{on-kinds, is-kind}
-use Rattle.volume.proofs.FaultLaws.{all-kept}
+use Rattle.list.proofs.Arms.{on-kinds, is-kind}
+use Rattle.list.proofs.FaultLaws.{all-kept}
 use Rattle.page.proofs.Traces.{first-pre}
 use Rattle.promises.specs.Standing.{StandsAfter, first, later, StandsAmong, listOfM}
 

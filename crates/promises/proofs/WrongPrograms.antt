@@ -10,7 +10,7 @@ use Rattle.refusals.specs.Numbers.{fileEnds}
 use Rattle.refusals.specs.Answer.{Answer, refused, given, andThen}
 use Rattle.refusals.proofs.Answer.{given-not-refused}
 use Rattle.volume.specs.declared.Summary.{Summary}
-use Rattle.volume.specs.Lawful.{Lawful}
+use Rattle.list.specs.Lawful.{Lawful}
 use Rattle.volume.specs.Judged.{judged}
 use Rattle.volume.specs.Starred.{M, onePage, files-hold}
 use Rattle.volume.proofs.Accepts.{accepts-lawful}

@@ -5,8 +5,8 @@ use mathlib.Core.List.{List}
 use lib.IntN.{ℤ}
 use Rattle.refusals.specs.Answer.{Answer}
 use Rattle.commands.specs.Commands.{Command}
-use Rattle.volume.specs.declared.Part.{Part}
-use Rattle.volume.specs.Past.{pages, definitionOf}
+use Rattle.list.specs.declared.Part.{Part}
+use Rattle.list.specs.Past.{pages, definitionOf}
 use Rattle.volume.specs.OfList.{pastOf}
 use Rattle.volume.specs.Names.{namedBy}
 use Rattle.page.specs.Placing.{Contents}

@@ -5,8 +5,8 @@ use mathlib.Core.List.{List, [], _∷_, _++_}
 use lib.ListN.{replicate}
 use Rattle.commands.specs.declared.Kind.the-variants.{PostPost}
 use Rattle.commands.specs.Commands.{Command}
-use Rattle.volume.specs.Past.{isA}
-use Rattle.volume.specs.Lawful.{fillers}
+use Rattle.list.specs.Past.{isA}
+use Rattle.list.specs.Lawful.{fillers}
 
 -- in a list that follows some commands, c stands after those of past, the newest first, and no post_post stands between
 pub data StandsAfter (past : List Command) (c : Command) : List Command → List Command → Type 0 where

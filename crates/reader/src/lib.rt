@@ -17,7 +17,7 @@ ghost use mathlib.Core.Logic.{_↔_};
 ghost use Prim.Native.Nat.{_+_, _≤_};
 ghost use lib.ListN.{length};
 ghost use Rattle.commands.specs.Reading.{commandRead};
-ghost use Rattle.volume.specs.Lawful.{Lawful};
+ghost use Rattle.list.specs.Lawful.{Lawful};
 ghost use Rattle.volume.specs.Judged.{judged};
 ghost use Rattle.volume.specs.Names.{namePlace, nameOf, nameStart, bytesAfter};
 ghost use Rattle.units.specs.Rounding.{roundedDistance};

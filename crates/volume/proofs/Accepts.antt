@@ -12,13 +12,13 @@ use Rattle.commands.specs.Reading.{longestFile}
 use Rattle.commands.proofs.Ranges.{below-or-not}
 use Rattle.commands.proofs.Fronts.{front-written, front-sound}
 use Rattle.volume.specs.declared.Summary.{Summary}
-use Rattle.volume.specs.Past.{place}
-use Rattle.volume.specs.Lawful.{fillers, Follows, ends, goes, Keeps, Lawful}
+use Rattle.list.specs.Past.{place}
+use Rattle.list.specs.Lawful.{fillers, Follows, ends, goes, Keeps, Lawful}
 use Rattle.volume.specs.Judged.{summary, tail, judgedFrom, judged}
 use Rattle.volume.specs.OfList.{upToLast, counts}
 use Rattle.volume.proofs.Turns.{judged-long, judged-short, judged-cut, judged-undefined, judged-faulty, judged-last, judged-onward, Turn, at-cut, at-undefined, at-fault, at-last, onward, turn}
 use Rattle.volume.proofs.Tails.{fillers-few, fillers-enough, fillers-wrong, Ending, ended, other, ending}
-use Rattle.volume.proofs.FaultLaws.{none-broken, all-kept}
+use Rattle.list.proofs.FaultLaws.{none-broken, all-kept}
 
 -- ---- a list that goes on by the rules is accepted, with its own counts
 

@@ -6,7 +6,7 @@ use native.Mathlib.Omega.{arith}
 use Rattle.commands.specs.declared.Kind.the-variants.{Bop, Push, Pop, Post}
 use Rattle.commands.specs.Kinds.{is}
 use Rattle.commands.specs.Commands.{Command, kindOfCommand}
-use Rattle.volume.specs.Past.{isA, place, stage, depth, greatest, pages, postPlace, defines, fontCount}
+use Rattle.list.specs.Past.{isA, place, stage, depth, greatest, pages, postPlace, defines, fontCount}
 
 -- a choice between two is at most what both are at most
 either : (t : Bool) {a b most : ℕ} → a ≤ most → b ≤ most → cond t a b ≤ most

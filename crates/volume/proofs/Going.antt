@@ -15,15 +15,16 @@ use Rattle.commands.specs.Kinds.{is}
 use Rattle.commands.specs.Commands.{Command, form, kindOfCommand, Front, cut, undefined, whole, front}
 use Rattle.commands.specs.Reading.{reading, readAt, longestFile}
 use Rattle.commands.proofs.Fronts.{front-sound, front-length}
-use Rattle.volume.specs.declared.Stage.{Stage}
-use Rattle.volume.specs.declared.Stage.the-variants.{OnPage}
-use Rattle.volume.specs.declared.Volume.{Volume}
-use Rattle.volume.specs.Past.{isA, place, stage, selected, fontNumber}
-use Rattle.volume.specs.Rules.{lawfulFont, lawfulDefinition, fontLeftOut, fault}
+use Rattle.list.specs.declared.Stage.{Stage}
+use Rattle.list.specs.declared.Stage.the-variants.{OnPage}
+use Rattle.list.specs.declared.Volume.{Volume}
+use Rattle.list.specs.Past.{isA, place, stage, selected, fontNumber}
+use Rattle.list.specs.Rules.{lawfulFont, lawfulDefinition, fontLeftOut, fault}
 use Rattle.volume.specs.Judged.{summary, tail, judgedFrom, judged}
 use Rattle.volume.specs.History.{historyFrom, history}
-use Rattle.volume.specs.Steps.{volumeOf, afterOf, tableAfter, Tells, Agrees, Going, isPlain, Passes, none-more, one-more}
-use Rattle.volume.proofs.FaultLaws.{all-kept}
+use Rattle.list.specs.Steps.{volumeOf, afterOf, tableAfter, Tells, Agrees}
+use Rattle.volume.specs.Steps.{Going, isPlain, Passes, none-more, one-more}
+use Rattle.list.proofs.FaultLaws.{all-kept}
 use Rattle.volume.proofs.Turns.{judged-cut, judged-undefined, judged-faulty, judged-last, judged-onward, history-last, history-onward}
 use Rattle.volume.proofs.Bounds.{depth-reached}
 use Rattle.volume.proofs.Tables.{tells-after, standing-after, lawfully-after}

@@ -9,7 +9,7 @@ use Rattle.refusals.specs.Answer.{given}
 use Rattle.commands.specs.Commands.{Command, written}
 use Rattle.commands.proofs.Fronts.{front-written}
 use Rattle.volume.specs.declared.Summary.{Summary}
-use Rattle.volume.specs.Lawful.{fillers, Follows, ends, goes, Lawful}
+use Rattle.list.specs.Lawful.{fillers, Follows, ends, goes, Lawful}
 use Rattle.volume.specs.Judged.{summary, judged}
 use Rattle.volume.specs.History.{historyFrom, history}
 use Rattle.volume.proofs.Turns.{history-start, history-last, history-onward}

@@ -1,8 +1,3 @@
-pub mod Arms
-pub mod SameBytes
-pub mod FontTables
-pub mod Sayings
-pub mod FaultLaws
 pub mod Turns
 pub mod Tails
 pub mod Accepts

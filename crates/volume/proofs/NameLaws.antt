@@ -11,13 +11,13 @@ use Rattle.refusals.specs.Answer.{refused, given}
 use Rattle.commands.specs.declared.Kind.the-variants.{Define}
 use Rattle.commands.specs.Fields.{definitionName}
 use Rattle.commands.specs.Commands.{Command, kindOfCommand, whole, front}
-use Rattle.volume.specs.declared.Part.{Part}
-use Rattle.volume.specs.Past.{Definition, none, stands, definitionOf}
-use Rattle.volume.specs.Rules.{lawfulFont}
+use Rattle.list.specs.declared.Part.{Part}
+use Rattle.list.specs.Past.{Definition, none, stands, definitionOf}
+use Rattle.list.specs.Rules.{lawfulFont}
 use Rattle.volume.specs.Names.{namedBy}
-use Rattle.volume.specs.Steps.{entryOf, Tells, StandsIn, AllStanding, Lawfully, sayingPart, SayingAt}
-use Rattle.volume.proofs.FontTables.{lawful-in, definition-kind, told-entry, told-none}
-use Rattle.volume.proofs.Sayings.{body-long, body-all}
+use Rattle.list.specs.Steps.{entryOf, Tells, StandsIn, AllStanding, Lawfully, sayingPart, SayingAt}
+use Rattle.list.proofs.FontTables.{lawful-in, definition-kind, told-entry, told-none}
+use Rattle.list.proofs.Sayings.{body-long, body-all}
 
 -- a font of no lawful number has no name
 pub no-number : (past : List Command) (number : ℤ) → Lawfully past → lawfulFont number ≡ false → refused noFont 0 ≡ namedBy (definitionOf false number past)

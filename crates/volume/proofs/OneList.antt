@@ -8,7 +8,7 @@ use Rattle.commands.specs.Kinds.{kindOf}
 use Rattle.commands.specs.Lengths.{lengths, fixedLength, innerLength, sizeOf}
 use Rattle.commands.specs.Commands.{Command, Whole, written, front, whole}
 use Rattle.commands.proofs.Fronts.{front-written}
-use Rattle.volume.specs.Lawful.{filler, fillers, Follows, ends, goes, Keeps}
+use Rattle.list.specs.Lawful.{filler, fillers, Follows, ends, goes, Keeps}
 
 -- every command of a list is whole
 data AllWhole : List Command → Type 0 where

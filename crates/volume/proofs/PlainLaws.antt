@@ -8,12 +8,13 @@ use lib.ListN.{length}
 use Rattle.commands.specs.declared.Kind.{Kind}
 use Rattle.commands.specs.declared.Kind.the-variants.{SetCharacter, SetRule, PutCharacter, PutRule, Nop, Bop, Eop, Push, Pop, Right, W, X, Down, Y, Z, Select, Special, Define, Pre, Post, PostPost, Undefined}
 use Rattle.commands.specs.Commands.{Command, kindOfCommand}
-use Rattle.volume.specs.declared.Stage.{Stage}
-use Rattle.volume.specs.declared.Stage.the-variants.{OnPage}
-use Rattle.volume.specs.declared.Volume.{Volume}
-use Rattle.volume.specs.Past.{isA, stage, selected}
-use Rattle.volume.specs.Rules.{fault}
-use Rattle.volume.specs.Steps.{afterOf, isPlain, changed, tableAfter}
+use Rattle.list.specs.declared.Stage.{Stage}
+use Rattle.list.specs.declared.Stage.the-variants.{OnPage}
+use Rattle.list.specs.declared.Volume.{Volume}
+use Rattle.list.specs.Past.{isA, stage, selected}
+use Rattle.list.specs.Rules.{fault}
+use Rattle.list.specs.Steps.{afterOf, changed, tableAfter}
+use Rattle.volume.specs.Steps.{isPlain}
 
 -- what holds of each plain kind holds of any
 plain-cases : (P : Kind → Type 0) → P SetCharacter → P SetRule → P PutCharacter → P PutRule → P Nop → P Right → P W → P X → P Down → P Y → P Z

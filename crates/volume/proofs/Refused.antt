@@ -15,14 +15,14 @@ use Rattle.commands.specs.Reading.{longestFile}
 use Rattle.commands.proofs.Ranges.{below-or-not}
 use Rattle.commands.proofs.Fronts.{after-undefined, front-written, front-sound, front-length, undefined-first}
 use Rattle.volume.specs.declared.Summary.{Summary}
-use Rattle.volume.specs.Past.{isA, place}
-use Rattle.volume.specs.Rules.{Allowed}
-use Rattle.volume.specs.Lawful.{fillers}
+use Rattle.list.specs.Past.{isA, place}
+use Rattle.list.specs.Rules.{Allowed}
+use Rattle.list.specs.Lawful.{fillers}
 use Rattle.volume.specs.Judged.{summary, tail, judgedFrom, judged}
 use Rattle.volume.specs.Refusing.{RefusesAt, ends-early, strange, breaks, other-byte, too-few, later, FileRefuses}
 use Rattle.volume.proofs.Turns.{judged-long, judged-short, judged-cut, judged-undefined, judged-faulty, judged-last, judged-onward, Turn, at-cut, at-undefined, at-fault, at-last, onward, turn}
 use Rattle.volume.proofs.Tails.{fillers-few, fillers-enough, fillers-wrong, Ending, ended, other, ending}
-use Rattle.volume.proofs.FaultLaws.{none-broken, all-kept}
+use Rattle.list.proofs.FaultLaws.{none-broken, all-kept}
 use Rattle.volume.proofs.Accepts.{refused-given}
 
 -- ---- what cannot go on is refused

@@ -17,8 +17,8 @@ use Rattle.commands.specs.Commands.{Command, Front, cut, undefined, whole, fron
 use Rattle.commands.specs.Reading.{longestFile}
 use Rattle.commands.proofs.Fronts.{front-length, undefined-first}
 use Rattle.volume.specs.declared.Summary.{Summary}
-use Rattle.volume.specs.Past.{isA, place, Definition, none, stands, definitionOf}
-use Rattle.volume.specs.Rules.{preambleWrong, misplaced, depthWrong, definitionWrong, fontMissing, pointerWrong, postambleWrong, fault}
+use Rattle.list.specs.Past.{isA, place, Definition, none, stands, definitionOf}
+use Rattle.list.specs.Rules.{preambleWrong, misplaced, depthWrong, definitionWrong, fontMissing, pointerWrong, postambleWrong, fault}
 use Rattle.volume.specs.Judged.{summary, tail, onFront, onFault, onEnd, judgedFrom, judged}
 use Rattle.volume.specs.History.{history}
 use Rattle.volume.specs.Names.{namedBy, namePlace}

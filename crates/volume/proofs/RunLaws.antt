@@ -15,7 +15,8 @@ use Rattle.commands.proofs.Ranges.{below-or-not, constant-on}
 use Rattle.commands.proofs.Opcodes.{from-250}
 use Rattle.commands.proofs.Lengths.{inner-below}
 use Rattle.commands.proofs.Fronts.{after-whole, front-at}
-use Rattle.volume.specs.Steps.{command, isPlain, Passes, none-more, one-more}
+use Rattle.list.specs.Steps.{command}
+use Rattle.volume.specs.Steps.{isPlain, Passes, none-more, one-more}
 
 -- a plain opcode is below those with a length inside
 pub plain-below : (opcode : ℕ) → isPlain (kindOf opcode) ≡ true → opcode < 171

@@ -14,14 +14,15 @@ use Rattle.commands.specs.Lengths.{fixedLength}
 use Rattle.commands.specs.Commands.{Command, kindOfCommand}
 use Rattle.commands.proofs.Lengths.{fixed-of, whole-fixed}
 use Rattle.commands.proofs.Readings.{commandAt, Reads}
-use Rattle.volume.specs.declared.Volume.{Volume}
+use Rattle.list.specs.declared.Volume.{Volume}
 use Rattle.volume.specs.declared.Scanned.{Scanned}
 use Rattle.volume.specs.declared.Scanned.the-variants as Scanned
-use Rattle.volume.specs.Past.{isA, place}
-use Rattle.volume.specs.Rules.{fault}
+use Rattle.list.specs.Past.{isA, place}
+use Rattle.list.specs.Rules.{fault}
 use Rattle.volume.specs.Judged.{tail, judged}
 use Rattle.volume.specs.History.{history}
-use Rattle.volume.specs.Steps.{volumeOf, afterOf, tableAfter, Tells, AllStanding, Lawfully, Agrees, Going, WithRoom, LawfullyNumbered, FaultIs, summaryOf, ScanKeeps, Same}
+use Rattle.list.specs.Steps.{volumeOf, afterOf, tableAfter, Tells, AllStanding, Lawfully, Agrees, WithRoom, LawfullyNumbered, FaultIs}
+use Rattle.volume.specs.Steps.{Going, summaryOf, ScanKeeps, Same}
 use Rattle.volume.proofs.Bounds.{depth-small, pages-small, fonts-small, post-small}
 use Rattle.volume.proofs.Going.{lawful-number, at-is, turn-faulty, turn-last, told-last, agrees-after, turn-onward}
 

@@ -20,13 +20,14 @@ use Rattle.commands.proofs.Ranges.{below-or-not}
 use Rattle.commands.proofs.Opcodes.{kind-range, range-kind}
 use Rattle.commands.proofs.Lengths.{fixed-of, inner-below}
 use Rattle.commands.proofs.Fronts.{after-whole, front-at}
-use Rattle.volume.specs.declared.Stage.{Stage}
-use Rattle.volume.specs.declared.Stage.the-variants.{OnPage}
-use Rattle.volume.specs.declared.Volume.{Volume}
-use Rattle.volume.specs.Past.{isA, stage, depth, depthAfter, selected, isDefined, definitionOf}
-use Rattle.volume.specs.Rules.{fault, lawfulFont}
-use Rattle.volume.specs.Steps.{command, volumeOf, afterOf, tableAfter, mayPushOrPop, mayPass, changed, Passes, Tells, Going, Onward}
-use Rattle.volume.proofs.FontTables.{told-defined}
+use Rattle.list.specs.declared.Stage.{Stage}
+use Rattle.list.specs.declared.Stage.the-variants.{OnPage}
+use Rattle.list.specs.declared.Volume.{Volume}
+use Rattle.list.specs.Past.{isA, stage, depth, depthAfter, selected, isDefined, definitionOf}
+use Rattle.list.specs.Rules.{fault, lawfulFont}
+use Rattle.list.specs.Steps.{command, volumeOf, afterOf, tableAfter, changed, Tells}
+use Rattle.volume.specs.Steps.{mayPushOrPop, mayPass, Passes, Going, Onward}
+use Rattle.list.proofs.FontTables.{told-defined}
 use Rattle.volume.proofs.Going.{turn-to, passing}
 
 -- ---- which opcodes may be passed

@@ -14,10 +14,10 @@ use Rattle.numbers.proofs.Signed.{same-number-refl, same-number-true}
 use Rattle.commands.specs.declared.Kind.the-variants.{Define}
 use Rattle.commands.specs.Kinds.{is}
 use Rattle.commands.specs.Commands.{Command, kindOfCommand, whole, front}
-use Rattle.volume.specs.Past.{place, stage, isAfterPost, fontNumber, defines, Definition, none, stands, definitionOf}
-use Rattle.volume.specs.Rules.{lawfulFont}
-use Rattle.volume.specs.Steps.{entryOf, tableAfter, Tells, StandsIn, AllStanding, Lawfully}
-use Rattle.volume.proofs.FontTables.{lawful-in}
+use Rattle.list.specs.Past.{place, stage, isAfterPost, fontNumber, defines, Definition, none, stands, definitionOf}
+use Rattle.list.specs.Rules.{lawfulFont}
+use Rattle.list.specs.Steps.{entryOf, tableAfter, Tells, StandsIn, AllStanding, Lawfully}
+use Rattle.list.proofs.FontTables.{lawful-in}
 
 -- two natural numbers that differ are not the same number
 differ : (m n : ℕ) → (m ≡ n → ⊥) → sameNumber (pos m) (pos n) ≡ false

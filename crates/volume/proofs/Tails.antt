@@ -13,7 +13,7 @@ use Rattle.refusals.specs.Numbers.{wrongTail}
 use Rattle.refusals.specs.Answer.{refused, given, refuseIf}
 use Rattle.commands.specs.Commands.{written}
 use Rattle.volume.specs.declared.Summary.{Summary}
-use Rattle.volume.specs.Lawful.{fillers}
+use Rattle.list.specs.Lawful.{fillers}
 use Rattle.volume.specs.Judged.{tail}
 
 -- ---- the definition's lines

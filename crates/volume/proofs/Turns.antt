@@ -12,8 +12,8 @@ use Rattle.commands.specs.declared.Kind.the-variants.{PostPost}
 use Rattle.commands.specs.Commands.{Command, Front, cut, undefined, whole, front}
 use Rattle.commands.specs.Reading.{longestFile}
 use Rattle.volume.specs.declared.Summary.{Summary}
-use Rattle.volume.specs.Past.{isA, place}
-use Rattle.volume.specs.Rules.{fault}
+use Rattle.list.specs.Past.{isA, place}
+use Rattle.list.specs.Rules.{fault}
 use Rattle.volume.specs.Judged.{summary, tail, onFault, judgedFrom, judged}
 use Rattle.volume.specs.History.{historyFrom, history}
 

@@ -5,7 +5,7 @@ use mathlib.Core.List.{List, [], _∷_}
 use lib.ListN.{length}
 use Rattle.commands.specs.declared.Kind.the-variants.{PostPost}
 use Rattle.commands.specs.Commands.{Command, Front, cut, undefined, whole, front}
-use Rattle.volume.specs.Past.{isA}
+use Rattle.list.specs.Past.{isA}
 
 -- the commands of a file up to post_post, the newest first
 abbrev pub onNext : List Command → Front → (Command → List ℕ → List Command) → List Command

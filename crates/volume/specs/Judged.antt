@@ -10,8 +10,8 @@ use Rattle.commands.specs.declared.Kind.the-variants.{PostPost}
 use Rattle.commands.specs.Commands.{Command, Front, cut, undefined, whole, front}
 use Rattle.commands.specs.Reading.{longestFile}
 use Rattle.volume.specs.declared.Summary.{Summary}
-use Rattle.volume.specs.Past.{isA, place, pages, fontCount, greatest, postPlace}
-use Rattle.volume.specs.Rules.{fault}
+use Rattle.list.specs.Past.{isA, place, pages, fontCount, greatest, postPlace}
+use Rattle.list.specs.Rules.{fault}
 
 -- "The file check gives the number of pages, the number of fonts, the greatest stack depth and the place of post"
 abbrev pub summary : List Command → Summary

@@ -1,6 +1,3 @@
-pub mod Past
-pub mod Rules
-pub mod Lawful
 pub mod Judged
 pub mod History
 pub mod Names

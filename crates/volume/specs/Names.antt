@@ -8,8 +8,8 @@ use Rattle.refusals.specs.Numbers.{noFont}
 use Rattle.refusals.specs.Answer.{Answer, refused, given, andThen}
 use Rattle.commands.specs.Fields.{definitionNumberSize, definitionName}
 use Rattle.commands.specs.Commands.{Command}
-use Rattle.volume.specs.declared.Part.{Part}
-use Rattle.volume.specs.Past.{Definition, none, stands, definitionOf}
+use Rattle.list.specs.declared.Part.{Part}
+use Rattle.list.specs.Past.{Definition, none, stands, definitionOf}
 use Rattle.volume.specs.History.{history}
 use Rattle.volume.specs.Judged.{judged}
 

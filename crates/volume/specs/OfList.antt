@@ -4,7 +4,7 @@ use mathlib.Core.List.{List, [], _∷_}
 use Rattle.commands.specs.declared.Kind.the-variants.{PostPost}
 use Rattle.commands.specs.Commands.{Command}
 use Rattle.volume.specs.declared.Summary.{Summary}
-use Rattle.volume.specs.Past.{isA}
+use Rattle.list.specs.Past.{isA}
 use Rattle.volume.specs.Judged.{summary}
 
 -- the commands of a list up to its post_post, the newest first, in front of those before them (rule 3.13)

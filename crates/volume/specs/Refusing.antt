@@ -9,9 +9,9 @@ use Rattle.refusals.specs.Numbers.{fileTooLong, fileEnds, undefinedOpcode, wron
 use Rattle.commands.specs.declared.Kind.the-variants.{PostPost}
 use Rattle.commands.specs.Commands.{Command, Whole, form, written}
 use Rattle.commands.specs.Reading.{longestFile}
-use Rattle.volume.specs.Past.{isA, place}
-use Rattle.volume.specs.Rules.{fault, Allowed}
-use Rattle.volume.specs.Lawful.{fillers}
+use Rattle.list.specs.Past.{isA, place}
+use Rattle.list.specs.Rules.{fault, Allowed}
+use Rattle.list.specs.Lawful.{fillers}
 
 -- after the commands before, no list that keeps the rules goes on with these bytes: the number and the place of that (rules 4.1, 4.2)
 pub data RefusesAt : List Command → List ℕ → ℕ → ℕ → Type 0 where

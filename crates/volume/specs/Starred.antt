@@ -10,7 +10,7 @@ use Rattle.commands.specs.Kinds.{kindOf}
 use Rattle.commands.specs.Lengths.{lengths, fixedLength, innerLength, sizeOf}
 use Rattle.commands.specs.Commands.{frontAfter}
 use Rattle.volume.specs.declared.Summary.{Summary}
-use Rattle.volume.specs.Rules.{sameBytes}
+use Rattle.list.specs.Rules.{sameBytes}
 use Rattle.volume.specs.Judged.{tail, judgedFrom, judged}
 
 -- "M is: pre with num 254, den 1, mag 1000, no comment (0–14), bop (15), eop (60), post (61), post_post (90), four 223s; 100 bytes"

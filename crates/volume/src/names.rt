@@ -1,10 +1,10 @@
 // A font's name: the part of the file that holds it, in the definition before post.
 use crate::Named;
-use crate::Part;
 use crate::Scanned;
-use crate::fonts;
 use crate::scanning;
 use commands::fields;
+use list::Part;
+use list::fonts;
 use refusals::Refusal;
 ghost use mathlib.Core.Path.{_≡_};
 ghost use lib.ListN.{length};

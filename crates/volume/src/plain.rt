@@ -1,7 +1,7 @@
 // The short way: most commands of a page are plain, which with a font selected change nothing but the place; most of the others push, pop or select.
-use crate::Stage;
-use crate::Volume;
-use crate::progress;
+use list::Stage;
+use list::Volume;
+use list::progress;
 use state::Page;
 ghost use mathlib.Core.Path.{_≡_};
 ghost use Prim.Native.Nat.{ℕ, _≤_};
@@ -9,8 +9,9 @@ ghost use mathlib.Core.Bool.{true};
 ghost use mathlib.Core.List.{List};
 ghost use Rattle.commands.specs.Kinds.{kindOf};
 ghost use Rattle.commands.specs.Lengths.{lengths};
-ghost use Rattle.volume.specs.declared.Stage.the-variants.{OnPage};
-ghost use Rattle.volume.specs.Steps.{isPlain, Passes, mayPushOrPop, mayPass, changed, Onward};
+ghost use Rattle.list.specs.declared.Stage.the-variants.{OnPage};
+ghost use Rattle.list.specs.Steps.{changed};
+ghost use Rattle.volume.specs.Steps.{isPlain, Passes, mayPushOrPop, mayPass, Onward};
 
 // Whether an opcode is one that on a page, with a font selected, changes nothing but the place.
 fn is_plain(opcode: u8) -> bool

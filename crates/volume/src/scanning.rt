@@ -2,13 +2,13 @@
 use crate::Checked;
 use crate::Scanned;
 use crate::Summary;
-use crate::Volume;
-use crate::faults;
-use crate::fonts;
 use crate::plain;
-use crate::progress;
 use commands::Kind;
 use commands::Read;
+use list::Volume;
+use list::faults;
+use list::fonts;
+use list::progress;
 use refusals::Refusal;
 ghost use mathlib.Core.Path.{_≡_};
 ghost use Prim.Native.Nat.{_≤_};

@@ -9,7 +9,7 @@ use lib.Seq.{length-take-le}
 use denote.Ref.{now}
 use Rattle.refusals.specs.Answer.{Answer, given}
 use Rattle.refusals.specs.RefusedOnly.{Listed}
-use Rattle.volume.specs.declared.Part.{Part}
+use Rattle.list.specs.declared.Part.{Part}
 use Rattle.volume.specs.declared.Named.{Named}
 use Rattle.volume.specs.Names.{namePlace, partOf, startOf, bytesAfter}
 use Rattle.volume.specs.Steps.{namedAnswer, Inside}

@@ -11,8 +11,8 @@ use lib.IntN.{ℤ, natAbs}
 use denote.Ref.{now}
 use mir.Facts.{toZ-ofZ}
 use Rattle.commands.specs.Commands.{Command}
-use Rattle.volume.specs.Rules.{lawfulFont}
-use Rattle.volume.proofs.FontTables.{lawful-in}
+use Rattle.list.specs.Rules.{lawfulFont}
+use Rattle.list.proofs.FontTables.{lawful-in}
 use Rattle.volume.proofs.NameLaws.{Leads, leads, said-long}
 use Rattle.page.specs.Steps.{Told}
 use Rattle.page.proofs.FontLaws.{unselected-known, no-lawful-number, no-definition, font-is, scale-in}

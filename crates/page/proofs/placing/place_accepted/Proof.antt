@@ -14,7 +14,7 @@ use Rattle.units.specs.Steps.{unitAnswer}
 use Rattle.widths.specs.declared.table.Table.{Table}
 use Rattle.widths.specs.Table.{checkedTable}
 use Rattle.widths.specs.Steps.{tableSays}
-use Rattle.volume.specs.Past.{num, den, mag}
+use Rattle.list.specs.Past.{num, den, mag}
 use Rattle.volume.specs.History.{history}
 use Rattle.state.specs.Registers.{freshState}
 use Rattle.page.specs.PageList.{pageOf}

@@ -23,7 +23,7 @@ use Rattle.commands.specs.ByKind.{first, last, fixedBy}
 use Rattle.commands.proofs.Opcodes.{kind-range}
 use Rattle.commands.proofs.Lengths.{hasInner, whole-at-most, whole-plain}
 use Rattle.volume.specs.History.{history}
-use Rattle.volume.proofs.Arms.{kind-arm, kind-others, is-kind}
+use Rattle.list.proofs.Arms.{kind-arm, kind-others, is-kind}
 use Rattle.state.specs.declared.Font.{Font}
 use Rattle.state.specs.Registers.{State}
 use Rattle.page.specs.declared.Adds.the-variants as Adds

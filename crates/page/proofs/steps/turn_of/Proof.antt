@@ -5,7 +5,7 @@ use borrow.Author.Needs.{needs}
 use denote.Ref.{now}
 use Rattle.commands.specs.declared.Kind.{Kind}
 use Rattle.commands.specs.declared.Kind.the-variants as Kind
-use Rattle.volume.proofs.Arms.{kind-others}
+use Rattle.list.proofs.Arms.{kind-others}
 use Rattle.page.specs.declared.Turn.{Turn}
 use Rattle.page.specs.declared.Turn.the-variants as Turn
 use Rattle.page.specs.Steps.{turnOf, isMove}

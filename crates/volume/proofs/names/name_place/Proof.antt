@@ -8,9 +8,9 @@ use lib.IntN.{ℤ}
 use denote.Ref.{now}
 use mir.Facts.{toZ-ofZ}
 use Rattle.refusals.specs.Answer.{Answer, andThen}
-use Rattle.volume.specs.declared.Part.{Part}
+use Rattle.list.specs.declared.Part.{Part}
 use Rattle.volume.specs.declared.Summary.{Summary}
-use Rattle.volume.specs.Past.{definitionOf}
+use Rattle.list.specs.Past.{definitionOf}
 use Rattle.volume.specs.Names.{namedBy}
 use Rattle.volume.specs.History.{history}
 use Rattle.volume.specs.Steps.{scanAnswer, ScanKeeps}

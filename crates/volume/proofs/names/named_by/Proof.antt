@@ -11,8 +11,8 @@ use lib.IntN.{ℤ, natAbs}
 use denote.Ref.{now}
 use mir.Facts.{toZ-ofZ}
 use Rattle.commands.specs.Commands.{Command}
-use Rattle.volume.specs.Rules.{lawfulFont}
-use Rattle.volume.specs.Steps.{Tells, AllStanding}
+use Rattle.list.specs.Rules.{lawfulFont}
+use Rattle.list.specs.Steps.{Tells, AllStanding}
 use Rattle.volume.proofs.NameLaws.{no-number, no-entry, Leads, leads, said-long, name-is}
 use Rattle.volume.proofs.names.named_by.Statement.{statement}
 use Rattle.volume.proofs.names.named_by.Tie as tie

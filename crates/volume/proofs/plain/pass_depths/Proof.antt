@@ -7,7 +7,8 @@ use native.Mathlib.Omega.{arith}
 use lib.ListN.{length, getD}
 use borrow.Author.Needs.{needs}
 use borrow.Author.Tests.{not-false}
-use Rattle.volume.specs.Steps.{Onward, changed}
+use Rattle.list.specs.Steps.{changed}
+use Rattle.volume.specs.Steps.{Onward}
 use Rattle.volume.proofs.ShortLaws.{push-shallow, onward-depth}
 use Rattle.volume.proofs.plain.pass_depths.Statement.{statement}
 use Rattle.volume.proofs.plain.pass_depths.Tie as tie

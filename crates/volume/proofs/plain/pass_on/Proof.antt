@@ -6,7 +6,8 @@ use lib.ListN.{length, getD}
 use mathlib.Core.Path.{sym, _∙_}
 use borrow.Author.Needs.{needs}
 use borrow.Author.Tests.{not-false}
-use Rattle.volume.specs.Steps.{Onward, changed}
+use Rattle.list.specs.Steps.{changed}
+use Rattle.volume.specs.Steps.{Onward}
 use Rattle.volume.proofs.Going.{forward}
 use Rattle.volume.proofs.ShortLaws.{pass-shallow, onward-plain, onward-short}
 use Rattle.volume.proofs.plain.pass_on.Statement.{statement}

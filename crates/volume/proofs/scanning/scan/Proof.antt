@@ -13,10 +13,11 @@ use Rattle.commands.specs.declared.Kind.the-variants.{PostPost}
 use Rattle.commands.specs.Kinds.{is}
 use Rattle.commands.specs.Steps.{readAnswer}
 use Rattle.commands.proofs.Readings.{Reads, given-reads}
-use Rattle.volume.specs.declared.Volume.{Volume}
+use Rattle.list.specs.declared.Volume.{Volume}
 use Rattle.volume.specs.Judged.{judged}
-use Rattle.volume.specs.Steps.{volumeOf, Going}
-use Rattle.volume.proofs.Arms.{kind-others}
+use Rattle.list.specs.Steps.{volumeOf}
+use Rattle.volume.specs.Steps.{Going}
+use Rattle.list.proofs.Arms.{kind-others}
 use Rattle.volume.proofs.Going.{starting, turn-unread}
 use Rattle.volume.proofs.ScanTurns.{small, next-is, next-small, fixed-fits, opcode-defined, with-room, scan-stops, lawfully-numbered, Turned, turned}
 use Rattle.volume.proofs.scanning.scan.Statement.{statement}

@@ -1,0 +1,5 @@
+pub mod Arms
+pub mod SameBytes
+pub mod FontTables
+pub mod Sayings
+pub mod FaultLaws

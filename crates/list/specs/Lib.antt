@@ -1,0 +1,4 @@
+pub mod Past
+pub mod Rules
+pub mod Lawful
+pub mod Steps
