@@ -9,36 +9,36 @@ use Rattle.commands.specs.declared.Kind.{Kind}
 use Rattle.commands.specs.Kinds.{kindOf}
 use Rattle.commands.specs.Lengths.{sizeOf}
 
--- an opcode and its parameter bytes
+-- an opcode and its parameter bytes (rule 2.1)
 pub record Command : Type 0 where
   pub opcode : ℕ
   pub params : List ℕ
 
--- its kind is its opcode's
+-- its kind is its opcode's (rule 2.2)
 abbrev pub kindOfCommand : Command → Kind
 kindOfCommand c = kindOf (c .opcode)
 
--- a command whose parameters are as long as the table and the lengths inside say
+-- a command that has an opcode of one, and just the parameter bytes that belong to it (rule 2.5)
 pub record Whole (c : Command) : Type 0 where
   pub defined : c .opcode < 250
   pub exact : length (c .params) ≡ sizeOf (c .opcode) (c .params)
 
--- the written form of a command: its opcode, then its parameters
+-- the written form of a command (rule 2.1)
 abbrev pub form : Command → List ℕ
 form c = c .opcode ∷ c .params
 
--- the written forms of a list of commands, one right after the other
+-- the written forms of a list of commands, one right after the other (rule 3.12)
 abbrev pub written : List Command → List ℕ
 written [] = []
 written (c ∷ cs) = form c ++ written cs
 
--- what stands at the front of a list of bytes: no whole command, an opcode of none, or a command and what follows it
+-- what stands at the front of some bytes: no whole command, an opcode of none, or a command and what follows it (rule 2.7)
 pub data Front : Type 0 where
   cut : Front
   undefined : Front
   whole : Command → List ℕ → Front
 
--- after the opcode
+-- what stands there after an opcode (rule 2.7)
 unfoldable pub frontAfter : ℕ → List ℕ → Front
 frontAfter opcode rest =
     cond (ltb opcode 250)
@@ -47,7 +47,7 @@ frontAfter opcode rest =
     cut)
     undefined
 
--- what stands at the front: cut is where no byte is left, or fewer than the parameters need
+-- what stands at the front: cut is where no byte is left, or fewer than the parameters need (rule 2.7)
 abbrev pub front : List ℕ → Front
 front [] = cut
 front (opcode ∷ rest) = frontAfter opcode rest

@@ -7,20 +7,20 @@ use lib.ListN.{length, replicate}
 use Rattle.commands.specs.declared.Kind.{Kind}
 use Rattle.commands.specs.declared.Kind.the-variants.{SetCharacter, SetRule, PutCharacter, PutRule, Nop, Bop, Eop, Push, Pop, Right, W, X, Down, Y, Z, Select, Special, Define, Pre, Post, PostPost, Undefined}
 
--- a kind, and for each of its opcodes, which stand together, how many parameter bytes it has without what lengths inside the command add
+-- a kind, and for each of its opcodes, which stand together, how many parameter bytes it has without what lengths inside the command add (rules 2.2, 2.3)
 pub record Row : Type 0 where
   pub kind : Kind
   pub fixed : List ℕ
 
--- a row of the table
+-- a row of the table (rule 2.2)
 abbrev pub row : Kind → List ℕ → Row
 row kind fixed = record { kind = kind; fixed = fixed }
 
--- four opcodes with a number of one to four bytes
+-- four opcodes with a number of one to four bytes (rule 2.3)
 abbrev pub oneToFour : List ℕ
 oneToFour = 1 ∷ 2 ∷ 3 ∷ 4 ∷ []
 
--- all rows, each with the opcodes that it has
+-- all rows, each with the opcodes that it has (rules 2.2, 2.3)
 abbrev pub rows : List Row
 rows =
     row SetCharacter (replicate 128 0 ++ oneToFour)  -- 0 to 127 are set_char_0 to set_char_127, 128 to 131 are set1 to set4
@@ -46,16 +46,16 @@ rows =
     ∷ row PostPost (5 ∷ [])  -- 249
     ∷ []
 
--- the kind of the row in which an opcode falls, where the first row starts at 0
+-- the kind of the row in which an opcode falls, where the first row starts at 0 (rule 2.2)
 abbrev pub kindIn : List Row → ℕ → Kind
 kindIn [] opcode = Undefined
 kindIn (r ∷ others) opcode = cond (ltb opcode (length (r .fixed))) (r .kind) (kindIn others (opcode - length (r .fixed)))
 
--- the kind of an opcode; those from 250 on are of no command
+-- the kind of an opcode; those from 250 on are of no command (rule 2.2)
 unfoldable pub kindOf : ℕ → Kind
 kindOf opcode = kindIn rows opcode
 
--- the first opcode of a kind
+-- the first opcode of a kind (rule 2.2)
 abbrev pub firstOpcode : Kind → ℕ
 firstOpcode SetCharacter = 0
 firstOpcode SetRule = 132
@@ -80,6 +80,6 @@ firstOpcode Post = 248
 firstOpcode PostPost = 249
 firstOpcode Undefined = 250
 
--- whether two kinds are the same
+-- whether two kinds are the same (rule 2.2)
 abbrev pub is : Kind → Kind → Bool
 is one other = eqb (firstOpcode one) (firstOpcode other)

@@ -16,30 +16,30 @@ use Rattle.commands.specs.Parameters.{definedFont, definition}
 use Rattle.list.specs.declared.Stage.{Stage}
 use Rattle.list.specs.declared.Stage.the-variants.{AtStart, BeforePages, OnPage, BetweenPages, AfterPost, AfterEnd}
 
--- whether a command is of a kind
+-- whether a command is of a kind (rule 2.2)
 abbrev pub isA : Kind → Command → Bool
 isA kind c = is (kindOfCommand c) kind
 
--- the place after the commands
+-- how many bytes the commands are written in: the place of the next (rule 3.1)
 abbrev pub place : List Command → ℕ
 place [] = 0
 place (c ∷ past) = place past + (1 + length (c .params))
 
 -- ---- where the list stands: pre, pages from bop to eop, post, post_post
 
--- the stage after a command of a kind
+-- the stage after a command of a kind (rule 3.2)
 abbrev pub stageAfter : Kind → Stage → Stage
 stageAfter kind stage =
     cond (is kind Pre) BeforePages
     (cond (is kind Bop) OnPage
     (cond (is kind Eop) BetweenPages (cond (is kind Post) AfterPost (cond (is kind PostPost) AfterEnd stage))))
 
--- the stage after the commands
+-- the stage after the commands (rule 3.2)
 abbrev pub stage : List Command → Stage
 stage [] = AtStart
 stage (c ∷ past) = stageAfter (kindOfCommand c) (stage past)
 
--- whether post has passed
+-- whether post has passed (rule 3.2)
 abbrev pub isAfterPost : Stage → Bool
 isAfterPost AtStart = false
 isAfterPost BeforePages = false
@@ -50,81 +50,81 @@ isAfterPost AfterEnd = true
 
 -- ---- depth
 
--- push goes one deeper, pop one back
+-- push goes one deeper, pop one back (rule 3.4)
 abbrev pub depthAfter : Kind → ℕ → ℕ
 depthAfter kind depth = cond (is kind Push) (depth + 1) (cond (is kind Pop) (depth - 1) depth)
 
--- the depth after the commands
+-- the depth after the commands (rule 3.4)
 abbrev pub depth : List Command → ℕ
 depth [] = 0
 depth (c ∷ past) = depthAfter (kindOfCommand c) (depth past)
 
--- the greatest depth that was reached
+-- the greatest depth that was reached (rule 3.4)
 abbrev pub greatest : List Command → ℕ
 greatest [] = 0
 greatest (c ∷ past) = max (greatest past) (depth (c ∷ past))
 
 -- ---- pages and pointers
 
--- how many pages have begun
+-- how many pages have begun (rule 3.8)
 abbrev pub pages : List Command → ℕ
 pages [] = 0
 pages (c ∷ past) = cond (isA Bop c) (pages past + 1) (pages past)
 
--- the place of the last bop; −1 before the first
+-- the place of the last bop; −1 before the first (rule 3.7)
 abbrev pub lastBop : List Command → ℤ
 lastBop [] = negsuc 0
 lastBop (c ∷ past) = cond (isA Bop c) (pos (place past)) (lastBop past)
 
--- the place of post
+-- the place of post (rule 3.7)
 abbrev pub postPlace : List Command → ℕ
 postPlace [] = 0
 postPlace (c ∷ past) = cond (isA Post c) (place past) (postPlace past)
 
 -- ---- the preamble
 
--- a field of the last pre
+-- a field of the last pre (rule 3.3)
 abbrev pub unitIn : UnsignedField → List Command → ℕ
 unitIn field [] = 0
 unitIn field (c ∷ past) = cond (isA Pre c) (unsignedIn field (c .params)) (unitIn field past)
 
--- its num
+-- its num (rule 3.3)
 abbrev pub num : List Command → ℕ
 num past = unitIn preNum past
 
--- its den
+-- its den (rule 3.3)
 abbrev pub den : List Command → ℕ
 den past = unitIn preDen past
 
--- its mag
+-- its mag (rule 3.3)
 abbrev pub mag : List Command → ℕ
 mag past = unitIn preMag past
 
 -- ---- fonts
 
--- a font was selected on this page
+-- a font was selected on this page (rule 3.6)
 abbrev pub selected : List Command → Bool
 selected [] = false
 selected (c ∷ past) = cond (isA Bop c) false (cond (isA Select c) true (selected past))
 
--- the number that a definition gives its font
+-- the number that a definition gives its font (rule 3.5)
 abbrev pub fontNumber : Command → ℤ
 fontNumber c = definedFont (c .opcode) (c .params)
 
--- check sum, s, d, a, l and name of a definition
+-- what a definition says of its font: all but the number (rule 3.5)
 abbrev pub body : Command → List ℕ
 body c = definition (c .opcode) (c .params)
 
--- a definition that stands before post, or after it
+-- a definition that stands before post, or after it (rule 3.5)
 abbrev pub defines : Bool → Stage → Kind → Bool
 defines after stage kind = is kind Define && cond after (isAfterPost stage) (not (isAfterPost stage))
 
--- a font's definition, if there is one: its place and the command
+-- a font's definition, if there is one: its place and the command (rule 3.5)
 pub data Definition : Type 0 where
   none : Definition
   stands : ℕ → Command → Definition
 
--- the definition of a font number before post, or after it
+-- the definition of a font number before post, or after it (rule 3.5)
 abbrev pub definitionOf : Bool → ℤ → List Command → Definition
 definitionOf after number [] = none
 definitionOf after number (c ∷ past) =
@@ -132,12 +132,12 @@ definitionOf after number (c ∷ past) =
     (stands (place past) c)
     (definitionOf after number past)
 
--- whether there is one
+-- whether there is one (rule 3.5)
 abbrev pub isDefined : Definition → Bool
 isDefined none = false
 isDefined (stands at c) = true
 
--- how many fonts are defined before post, or after it
+-- how many fonts are defined before post, or after it (rule 3.5)
 abbrev pub fontCount : Bool → List Command → ℕ
 fontCount after [] = 0
 fontCount after (c ∷ past) = cond (defines after (stage past) (kindOfCommand c)) (fontCount after past + 1) (fontCount after past)

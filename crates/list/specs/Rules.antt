@@ -1,5 +1,5 @@
--- The rules: one definition for each row of the refusal table, 4 to 10, in its order. Each speaks of the commands before and of the command,
--- and is true where the row's number applies. Assumes nothing.
+-- The rules: one definition for each number of the list from 4 to 10, in its order. Each speaks of the commands before and of the command, and is true where the number is due.
+-- Assumes nothing.
 use Prim.Native.Nat.{ℕ}
 use mathlib.Core.Path.{_≡_}
 use mathlib.Core.Bool.{Bool, true, false, cond, not, _&&_, _||_}
@@ -24,7 +24,7 @@ use Rattle.list.specs.Past.{isA, stage, isAfterPost, depth, greatest, pa
 
 -- ---- 4: the preamble
 
--- no command has passed
+-- no command has passed (rule 3.2)
 abbrev pub isAtStart : Stage → Bool
 isAtStart AtStart = true
 isAtStart BeforePages = false
@@ -33,23 +33,23 @@ isAtStart BetweenPages = false
 isAtStart AfterPost = false
 isAtStart AfterEnd = false
 
--- a unit of pre is above zero, where it is read with a sign
+-- a unit of pre is above zero, where it is read with a sign (rule 3.3)
 abbrev pub positiveUnit : UnsignedField → List ℕ → Bool
 positiveUnit field params = positive (signedIn (asSigned field) params)
 
--- pre has identification 2, and its three units are above zero
+-- pre has identification 2, and its three units are above zero (rule 3.3)
 abbrev pub lawfulPreamble : List ℕ → Bool
 lawfulPreamble params =
     eqb (unsignedIn preIdentification params) 2
     && (positiveUnit preNum params && (positiveUnit preDen params && positiveUnit preMag params))
 
--- where 4 applies
+-- 4 is due: the first command is no right pre (rules 3.2, 3.3)
 abbrev pub preambleWrong : List Command → Command → Bool
 preambleWrong past c = isAtStart (stage past) && not (isA Pre c && lawfulPreamble (c .params))
 
 -- ---- 5: where a command may stand
 
--- outside pages stand nop, definitions and what begins the next part, post only after a page; on a page all but bop, pre and the ends of the file; 4 judges the start
+-- outside pages stand nop, definitions and what begins the next part, post only after a page; on a page all but bop, pre and the ends of the file; 4 judges the start (rule 3.2)
 abbrev pub mayStand : Stage → Kind → Bool
 mayStand AtStart kind = true
 mayStand BeforePages kind = is kind Nop || (is kind Define || is kind Bop)
@@ -58,39 +58,39 @@ mayStand BetweenPages kind = is kind Nop || (is kind Define || (is kind Bop || i
 mayStand AfterPost kind = is kind Nop || (is kind Define || is kind PostPost)
 mayStand AfterEnd kind = false
 
--- where 5 applies
+-- 5 is due (rule 3.2)
 abbrev pub misplaced : List Command → Command → Bool
 misplaced past c = not (mayStand (stage past) (kindOfCommand c))
 
 -- ---- 6: depth
 
--- a pop with nothing to pop, a push onto a full stack, the end of a page with something left on it
+-- a pop with nothing to pop, a push onto a full stack, the end of a page with something left on it (rule 3.4)
 abbrev pub wrongAtDepth : Kind → ℕ → Bool
 wrongAtDepth kind depth = (is kind Pop && eqb depth 0) || ((is kind Push && leb deepest depth) || (is kind Eop && ltb 0 depth))
 
--- where 6 applies
+-- 6 is due (rule 3.4)
 abbrev pub depthWrong : List Command → Command → Bool
 depthWrong past c = wrongAtDepth (kindOfCommand c) (depth past)
 
 -- ---- 7: font definitions
 
--- a font has a number from 0 to 255
+-- a font has a number from 0 to 255 (rule 3.5)
 abbrev pub lawfulFont : ℤ → Bool
 lawfulFont number = leZ (pos 0) number && leZ number (pos 255)
 
--- two lists of bytes are the same
+-- two lists of bytes are the same (rule 3.5)
 unfoldable pub sameBytes : List ℕ → List ℕ → Bool
 sameBytes [] [] = true
 sameBytes [] (y ∷ ys) = false
 sameBytes (x ∷ xs) [] = false
 sameBytes (x ∷ xs) (y ∷ ys) = eqb x y && sameBytes xs ys
 
--- a definition says just this, from its check sum to the end of its name
+-- a definition says just this, from its check sum to the end of its name (rule 3.5)
 abbrev pub says : Definition → List ℕ → Bool
 says none bytes = false
 says (stands at c) bytes = sameBytes (body c) bytes
 
--- before post a font that is new and not one too many; after it a font for the first time, that says what it said before
+-- before post a font that is new and not one too many; after it a font for the first time, that says what it said before (rule 3.5)
 abbrev pub lawfulDefinition : List Command → Command → Bool
 lawfulDefinition past c =
     lawfulFont (fontNumber c)
@@ -100,17 +100,17 @@ lawfulDefinition past c =
     (not (isDefined (definitionOf true (fontNumber c) past)) && says (definitionOf false (fontNumber c) past) (body c))
     (not (isDefined (definitionOf false (fontNumber c) past)) && ltb (fontCount false past) mostFonts)))
 
--- after post not as many fonts were defined as before it
+-- after post not as many fonts were defined as before it (rule 3.5)
 abbrev pub fontLeftOut : List Command → Bool
 fontLeftOut past = not (eqb (fontCount true past) (fontCount false past))
 
--- where 7 applies
+-- 7 is due (rule 3.5)
 abbrev pub definitionWrong : List Command → Command → Bool
 definitionWrong past c = (isA Define c && not (lawfulDefinition past c)) || (isA PostPost c && fontLeftOut past)
 
 -- ---- 8: fonts that are missing
 
--- where 8 applies: a selection of a font that has no definition so far, a character on a page without a selection so far
+-- where 8 applies: a selection of a font that has no definition so far, a character on a page without a selection so far (rule 3.6)
 abbrev pub fontMissing : List Command → Command → Bool
 fontMissing past c =
     (isA Select c && not (isDefined (definitionOf false (selectedFont (c .opcode) (c .params)) past)))
@@ -118,7 +118,7 @@ fontMissing past c =
 
 -- ---- 9: pointers
 
--- where 9 applies: a bop holds the place of the bop before it, the first −1; post that of the last bop, post_post that of post
+-- where 9 applies: a bop holds the place of the bop before it, the first −1; post that of the last bop, post_post that of post (rule 3.7)
 abbrev pub pointerWrong : List Command → Command → Bool
 pointerWrong past c =
     (isA Bop c && not (sameNumber (signedIn bopPointer (c .params)) (lastBop past)))
@@ -127,25 +127,25 @@ pointerWrong past c =
 
 -- ---- 10: the postamble
 
--- the depth that post states against the greatest that was reached
+-- the depth that post states against the greatest that was reached (rule 3.8)
 abbrev pub rightDepth : ℕ → ℕ → Bool
 rightDepth stated reached = eqb stated reached
 
--- post has the three units of pre once more, the greatest depth and the number of pages
+-- post has the three units of pre once more, the greatest depth and the number of pages (rule 3.8)
 abbrev pub lawfulPostamble : ℕ → ℕ → ℕ → ℕ → ℕ → List ℕ → Bool
 lawfulPostamble num den mag greatest pages params =
     eqb (unsignedIn postNum params) num
     && (eqb (unsignedIn postDen params) den
     && (eqb (unsignedIn postMag params) mag && (rightDepth (unsignedIn postDepth params) greatest && eqb (unsignedIn postPages params) pages)))
 
--- where 10 applies: post states something else, or post_post has another identification than 2
+-- where 10 applies: post states something else, or post_post has another identification than 2 (rules 3.8, 3.9)
 abbrev pub postambleWrong : List Command → Command → Bool
 postambleWrong past c =
     (isA Post c && not (lawfulPostamble (num past) (den past) (mag past) (greatest past) (pages past) (c .params))) || (isA PostPost c && not (eqb (unsignedIn endIdentification (c .params)) 2))
 
 -- ---- the lowest number that applies; 0 where none does
 
--- in the order of their numbers
+-- in the order of their numbers (rule 4.1)
 abbrev pub fault : List Command → Command → ℕ
 fault past c =
     cond (preambleWrong past c) wrongPreamble
@@ -156,7 +156,7 @@ fault past c =
     (cond (pointerWrong past c) wrongPointer
     (cond (postambleWrong past c) wrongPostamble 0))))))
 
--- a command that keeps the rules after the commands before it
+-- a command that keeps the rules after the commands before it (rule 3.11)
 pub record Allowed (past : List Command) (c : Command) : Type 0 where
   pub preamble : preambleWrong past c ≡ false
   pub standing : misplaced past c ≡ false

@@ -1,4 +1,4 @@
--- "Placing judges 1 to 11 first, then 12 to 17 in order": the answer, and every byte of the output area. Assumes nothing.
+-- What placing a page answers, and every byte of the output area. Assumes nothing.
 use Prim.Native.Nat.{ℕ, _*_}
 use mathlib.Core.Bool.{Bool, not, _&&_}
 use mathlib.Core.List.{List, _++_}
@@ -19,7 +19,7 @@ use Rattle.page.specs.Records.{placementRecordSize, allBytes}
 use Rattle.page.specs.PageList.{pageOf}
 use Rattle.page.specs.Placing.{Setting, Contents, placing}
 
--- 15: "page number outside 1 to the page count"
+-- a page number that the file has not (rule 9.8)
 abbrev pub pageOutside : ℕ → ℕ → Bool
 pageOutside page pages = not (leb 1 page && leb page pages)
 
@@ -32,7 +32,7 @@ settingIn past table k resolution rows page =
 abbrev pub settingOf : List ℕ → List ℕ → Ratio → ℕ → ℕ → ℕ → Setting
 settingOf file = settingIn (history file)
 
--- 17: "output area shorter than the bytes to be written (in placing, 20 times the records)"; the whole page is walked for 16 before it is judged
+-- 17 where the area has no room for all records; by then the whole page was judged for 16 (rule 9.8)
 abbrev pub withRoom : ℕ → Contents → Answer Contents
 withRoom room p = refuseIf (ltb room (placementRecordSize * length (p .placements))) areaTooShort 0 (given p)
 
@@ -48,19 +48,19 @@ placedIn past table resolution page room pages =
 abbrev pub placedAccepted : List ℕ → List ℕ → ℕ → ℕ → ℕ → ℕ → Answer Contents
 placedAccepted file = placedIn (history file)
 
--- "Placing judges 1 to 11 first"
+-- what placing comes to: the file is judged first (rule 9.8)
 abbrev pub placedPage : List ℕ → List ℕ → ℕ → ℕ → ℕ → Answer Contents
 placedPage file table resolution page room = andThen (judged file) (λ found. placedAccepted file table resolution page room (found .pages))
 
--- "Placing gives the number of records written, of missing characters and of specials on that page"
+-- the numbers that are given of a page (rule 9.8)
 abbrev pub countsOf : Contents → Counts
 countsOf p = record { records = length (p .placements); missing = p .missing-characters; specials = p .specials }
 
--- of an answer
+-- the same of an answer (rule 9.8)
 abbrev pub placedCounts : Answer Contents → Answer Counts
 placedCounts answer = andThen answer (λ p. given (countsOf p))
 
--- the area: the records' bytes, then its old bytes; "A refusal leaves every byte of the output area unchanged"
+-- the area afterwards: the records' bytes, then what stood there; as it was where it is refused (rule 9.1)
 abbrev pub areaAfter : List ℕ → Answer Contents → List ℕ
 areaAfter entry (refused number place) = entry
 areaAfter entry (given p) = allBytes (p .placements) ++ drop (placementRecordSize * length (p .placements)) entry

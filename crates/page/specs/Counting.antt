@@ -40,7 +40,7 @@ isCharacter c = isA SetCharacter c || isA PutCharacter c
 abbrev pub isRule : Command → Bool
 isRule c = isA SetRule c || isA PutRule c
 
--- "the full code"
+-- a character's code, as the command has it
 abbrev pub codeOf : Command → ℤ
 codeOf c = characterCode (c .opcode) (c .params)
 
@@ -53,7 +53,7 @@ isFound absent = false
 abbrev pub characterFound : Setting → Seen → Bool
 characterFound setting c = isCharacter (c .command) && isFound (lookedFor setting (c .font) (codeOf (c .command)))
 
--- "A character absent from the table … is counted as missing"
+-- a character that the table has not
 abbrev pub characterMissing : Setting → Seen → Bool
 characterMissing setting c = isCharacter (c .command) && not (isFound (lookedFor setting (c .font) (codeOf (c .command))))
 
@@ -61,7 +61,7 @@ characterMissing setting c = isCharacter (c .command) && not (isFound (lookedFor
 abbrev pub ruleVisible : Seen → Bool
 ruleVisible c = isRule (c .command) && isVisible (ruleHeight (c .command .params)) (ruleWidth (c .command .params))
 
--- "the special xxx"
+-- a special
 abbrev pub isSpecial : Seen → Bool
 isSpecial c = isA Special (c .command)
 

@@ -1,4 +1,4 @@
--- A page's own list of commands, from the list of the whole volume. Assumes nothing.
+-- A page's own list of commands, from the list of the whole volume (rule 8.2). Assumes nothing.
 use Prim.Native.Nat.{ℕ}
 use mathlib.Core.Bool.{Bool, true, false, cond, not, _&&_}
 use mathlib.Core.List.{List, [], _∷_, _++_}
@@ -9,12 +9,12 @@ use Rattle.list.specs.declared.Stage.{Stage}
 use Rattle.list.specs.declared.Stage.the-variants.{AtStart, BeforePages, OnPage, BetweenPages, AfterPost, AfterEnd}
 use Rattle.list.specs.Past.{isA, place, stage, pages}
 
--- a command with the place of its opcode
+-- a command with the place of its opcode (rule 3.1)
 pub record Located : Type 0 where
   pub at : ℕ
   pub command : Command
 
--- between a bop and its eop
+-- between a bop and its eop (rule 3.2)
 abbrev pub isOnPage : Stage → Bool
 isOnPage AtStart = false
 isOnPage BeforePages = false
@@ -23,11 +23,11 @@ isOnPage BetweenPages = false
 isOnPage AfterPost = false
 isOnPage AfterEnd = false
 
--- whether a command is one of a page's own: "A page: bop, any of …, then eop"
+-- whether a command is one of a page's own (rule 8.2)
 abbrev pub isOn : ℕ → List Command → Command → Bool
 isOn page past c = isOnPage (stage past) && (eqb (pages past) page && not (isA Eop c))
 
--- the commands of a page, counted from 1, in their order: those between its bop and its eop
+-- the own commands of a page, counted from 1, in their order, each with its place (rule 8.2)
 abbrev pub pageOf : ℕ → List Command → List Located
 pageOf page [] = []
 pageOf page (c ∷ past) = cond (isOn page past c) (pageOf page past ++ (record { at = place past; command = c } ∷ [])) (pageOf page past)

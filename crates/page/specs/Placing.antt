@@ -29,7 +29,7 @@ use Rattle.page.specs.declared.Record.{Record}
 use Rattle.page.specs.Records.{characterRecord, ruleRecord}
 use Rattle.page.specs.PageList.{Located}
 
--- what a page is placed by: K and D, the width table and how many rows it has, the volume's commands, and the page's number
+-- what a page is placed by: K and D, the width table and how many rows it has, the volume's commands, and the page's number (rule 9.8)
 pub record Setting : Type 0 where
   pub ruler : Ruler
   pub table : List ℕ
@@ -39,42 +39,42 @@ pub record Setting : Type 0 where
 
 -- ---- fonts
 
--- a font by its definition; "selection of a font not yet defined" is refused by 8
+-- a font by its definition; where none is, 8 was due (rule 7.10)
 abbrev pub fontBy : ℤ → Definition → Font
 fontBy number none = unselected
 fontBy number (stands at c) = record { number = natAbs number; checksum = fontChecksum (body c); scale = fontScale (body c) }
 
--- a font of the volume: its definition before post, with which the one after it agrees
+-- a font of the volume, by its definition before post (rule 7.10)
 abbrev pub fontOf : Setting → ℤ → Font
 fontOf setting number = fontBy number (definitionOf false number (setting .volume))
 
--- "A font finds its records by check sum and s", "by code mod 256 (0 to 255)"
+-- a font's character looked up in the table (rule 6.8)
 abbrev pub lookedFor : Setting → Font → ℤ → LookUp
 lookedFor setting font code = walk (setting .rows) (setting .table) (font .checksum) (font .scale) (codeByte code)
 
 -- ---- what a command comes to
 
--- what it adds to the page
+-- what a command adds to the page: a record, a missing character, a special (rule 8.3)
 pub data Added : Type 0 where
   nothing : Added
   placed : Record → Added
   missing : Added
   special : Added
 
--- the next state and what is added, or that h or v would leave its range
+-- the next state and what is added, or that h or v would leave its range (rules 8.3, 7.5)
 pub data Outcome : Type 0 where
   continues : State → Added → Outcome
   leavesRange : Outcome
 
--- the state with other numbers
+-- the state with other numbers (rule 7.1)
 abbrev pub withNumbers : State → Level → State
 withNumbers s level = record { level = level; saved = s .saved; font = s .font }
 
--- the outcome of a move by n in a direction that leads to a level: the position it would reach must be in range
+-- the outcome of a move by n in a direction that leads to a level: the position it would reach must be in range (rule 7.5)
 abbrev pub movesTo : Direction → State → ℤ → Level → Added → Outcome
 movesTo direction s n level added = cond (leaves (spotOf direction (s .level) .position +ℤ n)) leavesRange (continues (withNumbers s level) added)
 
--- a character that is set: its record, and a move past it; one that the table lacks moves nothing and is missing
+-- a character that is set: its record, and a move past it; one that the table lacks moves nothing and is missing (rules 7.6, 7.7)
 abbrev pub setCharacter : Setting → State → ℤ → LookUp → Outcome
 setCharacter setting s code absent = continues s missing
 setCharacter setting s code (found m) =
@@ -82,16 +82,16 @@ setCharacter setting s code (found m) =
     movesTo Direction.Sideways s width (characterMoved (setting .ruler) width (m .escapement) (s .level))
     (placed (characterRecord (setting .page) (s .level) (s .font) code (m .escapement)))
 
--- a character that is put: its record, and no move
+-- a character that is put: its record, and no move (rules 7.6, 7.7)
 abbrev pub putCharacter : Setting → State → ℤ → LookUp → Outcome
 putCharacter setting s code absent = continues s missing
 putCharacter setting s code (found m) = continues s (placed (characterRecord (setting .page) (s .level) (s .font) code (m .escapement)))
 
--- "A rule with a side ≤ 0 gives no record"
+-- a rule both of whose sides are above 0 (rule 7.8)
 abbrev pub isVisible : ℤ → ℤ → Bool
 isVisible height width = ltZ (pos 0) height && ltZ (pos 0) width
 
--- "A rule's sides are K × n rounded up"
+-- a rule's record, its sides rounded up (rule 7.8)
 abbrev pub ruleAdded : Setting → State → ℤ → ℤ → Added
 ruleAdded setting s height width =
     cond (isVisible height width)
@@ -103,22 +103,22 @@ abbrev pub setRule : Setting → State → ℤ → ℤ → Outcome
 setRule setting s height width =
     movesTo Direction.Sideways s width (ruleMoved (setting .ruler) (s .font .scale) width (s .level)) (ruleAdded setting s height width)
 
--- a move sideways or down by its own distance
+-- a move sideways or down by its own distance (rule 7.9)
 abbrev pub plainMove : Direction → Setting → State → List ℕ → Outcome
 plainMove direction setting s params =
     let n = distance params in movesTo direction s n (movedBy direction (setting .ruler) (s .font .scale) n (s .level)) nothing
 
--- w0, x0, y0, z0 have no distance of their own and take the register's
+-- w0, x0, y0, z0 have no distance of their own and take the register's (rule 7.9)
 abbrev pub distanceOr : ℤ → List ℕ → ℤ
 distanceOr register params = cond (eqb (length params) 0) register (distance params)
 
--- a move by a register, which is set to the distance
+-- a move by a register, which is set to the distance (rule 7.9)
 abbrev pub registerMove : Register → Setting → State → List ℕ → Outcome
 registerMove register setting s params =
     let n = distanceOr (registerOf register (s .level)) params in
     movesTo (directionOf register) s n (movedByRegister register (setting .ruler) (s .font .scale) n (s .level)) nothing
 
--- by its kind, in appendix A's order; bop, eop and what stands outside pages are none of a page's own commands
+-- by its kind; bop, eop and what stands outside pages are none of a page's own commands (section 7 of the rules)
 abbrev pub afterKind : Kind → Setting → State → Command → Outcome
 afterKind SetCharacter setting s c =
     setCharacter setting s (characterCode (c .opcode) (c .params)) (lookedFor setting (s .font) (characterCode (c .opcode) (c .params)))
@@ -146,31 +146,31 @@ afterKind Post setting s c = continues s nothing
 afterKind PostPost setting s c = continues s nothing
 afterKind Undefined setting s c = continues s nothing
 
--- "Each command takes the page's state and hands back the next"
+-- what a command does to the page's state, and what it adds (rule 8.3)
 unfoldable pub after : Setting → State → Command → Outcome
 after setting s c = afterKind (kindOfCommand c) setting s c
 
 -- ---- what the page's list comes to
 
--- its placements, in the order of their commands, and how many missing characters and specials
+-- its placements, in the order of their commands, and how many missing characters and specials (rule 8.3)
 pub record Contents : Type 0 where
   pub placements : List Record
   pub missing-characters : ℕ
   pub specials : ℕ
 
--- with what a command before them adds
+-- with what a command before them adds (rule 8.3)
 abbrev pub adding : Added → Contents → Contents
 adding nothing p = p
 adding (placed r) p = record { placements = r ∷ p .placements; missing-characters = p .missing-characters; specials = p .specials }
 adding missing p = record { placements = p .placements; missing-characters = p .missing-characters + 1; specials = p .specials }
 adding special p = record { placements = p .placements; missing-characters = p .missing-characters; specials = p .specials + 1 }
 
--- 16: "h or v would leave −2,147,483,647 to 2,147,483,647; place of that command"
+-- 16 at a command's place, or what it adds before what follows (rules 7.5, 8.3)
 abbrev pub onOutcome : ℕ → Outcome → (State → Answer Contents) → Answer Contents
 onOutcome place leavesRange next = refused positionOutOfRange place
 onOutcome place (continues s added) next = andThen (next s) (λ p. given (adding added p))
 
--- the commands one after the other, from a state on
+-- the commands one after the other, from a state on (rule 8.3)
 unfoldable pub placing : Setting → State → List Located → Answer Contents
 placing setting s [] = given (record { placements = []; missing-characters = 0; specials = 0 })
 placing setting s (c ∷ rest) = onOutcome (c .at) (after setting s (c .command)) (λ next. placing setting next rest)

@@ -1,4 +1,4 @@
--- The printed example of document 01: its file, what placing its page gives, and the bytes of its two records. Assumes nothing.
+-- The printed example: its file, what placing its page gives, and the bytes of its two records. Assumes nothing.
 use Prim.Native.Nat.{ℕ}
 use mathlib.Core.Path.{_≡_, refl}
 use mathlib.Core.List.{List, [], _∷_, _++_}
@@ -20,7 +20,7 @@ use Rattle.page.specs.Records.{recordBytes, allBytes}
 use Rattle.page.specs.Placing.{Contents, after, placing}
 use Rattle.page.specs.Answers.{placedPage}
 
--- "M with six right1 5, set_rule 4 7, put_rule 1 1 put before eop (pointers mended)"
+-- the smallest file with six moves by 5, a rule set and a rule put on its page
 abbrev pub example : List ℕ
 example =
     (247 ∷ 2 ∷ 0 ∷ 0 ∷ 0 ∷ 254 ∷ 0 ∷ 0 ∷ 0 ∷ 1 ∷ 0 ∷ 0 ∷ 3 ∷ 232 ∷ 0 ∷ [])
@@ -33,15 +33,15 @@ example =
     ++ (249 ∷ 0 ∷ 0 ∷ 0 ∷ 91 ∷ 2 ∷ [])
     ++ replicate 4 223
 
--- a rule of page 1 with vv 0, "r 1 0 hh 0 height width"
+-- a rule of page 1 with vv 0
 abbrev pub rule : ℤ → ℤ → ℤ → Record
 rule hh height width = record { kind = 2; font = 0; page = 1; hh = hh; vv = pos 0; content = height; extent = width }
 
--- "r 1 0 9 0 2 3", "r 1 0 11 0 1 1", "end 2 0 0"
+-- its two rules, no missing character, no special
 abbrev pub printed : Contents
 printed = record { placements = rule (pos 9) (pos 2) (pos 3) ∷ rule (pos 11) (pos 1) (pos 1) ∷ []; missing-characters = 0; specials = 0 }
 
--- "empty table, R 300, page 1, prints in whole": into an area that just holds it
+-- placed by an empty table at 300 dots per inch, into an area that just holds it
 pub printed-placed : placedPage example [] 300 1 40 ≡ given printed
 unfolding unsignedAt nearestWhole commonDivisor divisorWithin lowest checkedFrom kindOf lengths fixedLength innerLength sizeOf frontAfter sameBytes tail judgedFrom judged history historyFrom after placing
 printed-placed = refl

@@ -1,4 +1,4 @@
--- All starred examples of document 01, as one list, and what it means that one holds. Assumes nothing.
+-- All starred examples, as one list, and what it means that one holds. Assumes nothing.
 use mathlib.Core.Path.{_≡_}
 use mathlib.Core.List.{List, [], _∷_, _++_, map}
 use Rattle.units.specs.Starred.{UnitExample, RoundingExample, unitExamples, roundingExamples, unitFound, roundingFound}
@@ -20,7 +20,7 @@ starred =
     map of-file fileExamples
     ++ (map of-unit unitExamples ++ (map of-rounding roundingExamples ++ (map of-moves moveExamples ++ map of-width widthExamples)))
 
--- an example holds if the definitions give what document 01 prints
+-- an example holds if the definitions give what they must
 abbrev pub Holds : Example → Type 0
 Holds (of-file e) = fileFound e ≡ e .printed
 Holds (of-unit e) = unitFound e ≡ e .printed

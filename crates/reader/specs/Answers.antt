@@ -1,4 +1,4 @@
--- What each entry's answer says: document 01's number and place of a refusal, or the values of the result. Assumes nothing.
+-- What each entry's answer says: number and place of a refusal, or the values of the result. Assumes nothing.
 use Prim.Native.Nat.{ℕ, zero, suc, _+_}
 use lib.IntN.{ℤ}
 use Rattle.refusals.specs.Answer.{Answer, refused, given}
@@ -23,53 +23,53 @@ use Rattle.reader.specs.declared.Rounded.the-variants as Rounded
 use Rattle.reader.specs.declared.Placed.{Placed}
 use Rattle.reader.specs.declared.Placed.the-variants as Placed
 
--- read_command: the opcode, where its parameters start, and the place after them
+-- read_command: the opcode, where its parameters start, and the place behind them (rule 9.3)
 abbrev pub commandAnswer : CommandRead → Answer Reading
 commandAnswer (CommandRead.Command opcode start next) = given (record { opcode = opcode; start = start; next = next })
 commandAnswer (CommandRead.Refused number place) = refused number place
 
--- check_file: "the number of pages, the number of fonts, the greatest stack depth and the place of post"
+-- check_file: pages, fonts, greatest depth, the place of post (rule 9.2)
 abbrev pub fileAnswer : FileChecked → Answer Summary
 fileAnswer (FileChecked.Accepted pages fonts depth post) = given (record { pages = pages; fonts = fonts; depth = depth; post = post })
 fileAnswer (FileChecked.Refused number place) = refused number place
 
--- the file is accepted
+-- the file is accepted (rule 9.2)
 abbrev pub Accepts : FileChecked → Type 0
 Accepts (FileChecked.Accepted pages fonts depth post) = Unit {0}
 Accepts (FileChecked.Refused number place) = ⊥
 
--- font_name, of the number, the place and how long the part is: with number 0 the part that starts at the place, else the refusal
+-- font_name, of the number, the place and how long the part is: with number 0 the part that starts at the place, else the refusal (rule 9.4)
 abbrev pub nameAnswer : ℕ → ℕ → ℕ → Answer Part
 nameAnswer zero start long = given (record { start = start; end = start + long })
 nameAnswer (suc less) place long = refused (suc less) place
 
--- scale_width: the width
+-- scale_width: the width (rule 9.6)
 abbrev pub scaledAnswer : Scaled → Answer ℤ
 scaledAnswer (Scaled.To width) = given width
 scaledAnswer (Scaled.Refused number place) = refused number place
 
--- check_table: how many records
+-- check_table: how many records (rule 9.6)
 abbrev pub tableAnswer : TableChecked → Answer ℕ
 tableAnswer (TableChecked.Right records) = given records
 tableAnswer (TableChecked.Refused number place) = refused number place
 
--- look_up: escapement and fix word, or absent
+-- look_up: escapement and fix word, or absent (rule 9.7)
 abbrev pub lookedAnswer : LookedUp → Answer LookUp
 lookedAnswer (LookedUp.Found escapement b0 b1 b2 b3) = given (found (record { escapement = escapement; width = fixWord b0 b1 b2 b3 }))
 lookedAnswer LookedUp.Absent = given absent
 lookedAnswer (LookedUp.Refused number place) = refused number place
 
--- round_distance: the rounded distance
+-- round_distance: the rounded distance (rule 9.5)
 abbrev pub roundedAnswer : Rounded → Answer ℤ
 roundedAnswer (Rounded.To n) = given n
 roundedAnswer (Rounded.Refused number place) = refused number place
 
--- place_page: "the number of records written, of missing characters and of specials on that page"
+-- place_page: how many records, missing characters and specials (rule 9.8)
 abbrev pub placedAnswer : Placed → Answer Counts
 placedAnswer (Placed.Records records missing specials) = given (record { records = records; missing = missing; specials = specials })
 placedAnswer (Placed.Refused number place) = refused number place
 
--- placing is refused
+-- placing is refused (rule 9.1)
 abbrev pub Refuses : Placed → Type 0
 Refuses (Placed.Records records missing specials) = ⊥
 Refuses (Placed.Refused number place) = Unit {0}

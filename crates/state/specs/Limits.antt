@@ -1,10 +1,10 @@
 -- The limits of a page's state. Assumes nothing.
 use Prim.Native.Nat.{ℕ}
 
--- "The stack is one hundred levels"
+-- how many levels can be saved (rule 3.4)
 abbrev pub deepest : ℕ
 deepest = 100
 
--- "number 0 to 255, at most 64 of them"
+-- how many fonts a file may have (rule 3.5)
 abbrev pub mostFonts : ℕ
 mostFonts = 64

@@ -10,24 +10,24 @@ use Rattle.state.specs.declared.moving.Direction.the-variants.{Sideways,
 use Rattle.state.specs.declared.moving.Ruler.{Ruler}
 use Rattle.state.specs.declared.moving.Spot.{Spot}
 
--- 16: "h or v would leave −2,147,483,647 to 2,147,483,647"
+-- a position past the range of h and v (rule 7.5)
 abbrev pub leaves : ℤ → Bool
 leaves position = ltb 2147483647 (natAbs position)
 
--- sideways, "if n ≥ 0 and 5 × n < s, or n < 0 and 10 × |n| < 9 × s"; down, "near when 5 × |n| < 4 × s"
+-- a move so short, measured by the font's scale, that the pixel goes by the rounded distance (rule 7.3)
 abbrev pub near : Direction → ℤ → ℕ → Bool
 near Sideways n scale = cond (ltZ n (pos 0)) (ltb (10 * natAbs n) (9 * scale)) (ltb (5 * natAbs n) scale)
 near Down n scale = ltb (5 * natAbs n) (4 * scale)
 
--- "if hh is further than D from rounded h, it becomes rounded h plus D if it was above, minus D if below"
+-- a pixel that is further than D from its centre, the rounded position, is put D from it on its own side (rule 7.4)
 abbrev pub drifted : ℕ → ℤ → ℤ → ℤ
 drifted drift centre pixel = cond (ltb drift (natAbs (pixel -ℤ centre))) (cond (ltZ centre pixel) (centre +ℤ pos drift) (centre -ℤ pos drift)) pixel
 
--- "After each sideways move, a set character's included …. So with vv and v after each move down"
+-- a new position, with a pixel that is held to it (rule 7.4)
 abbrev pub settled : Ruler → ℤ → ℤ → Spot
 settled ruler position pixel = record { position = position; pixel = drifted (ruler .drift) (rounded (ruler .k) position) pixel }
 
--- a move by n: the position grows by n, and the pixel by rounded n where the move is near, else the pixel is the rounded new position
+-- a move by n: the position grows by n, and the pixel by rounded n where the move is near, else the pixel is the rounded new position (rule 7.3)
 abbrev pub moved : Direction → Ruler → ℕ → ℤ → Spot → Spot
 moved direction ruler scale n spot =
     settled ruler (spot .position +ℤ n) (cond (near direction n scale) (spot .pixel +ℤ rounded (ruler .k) n) (rounded (ruler .k) (spot .position +ℤ n)))

@@ -1,4 +1,4 @@
--- The starred examples of document 01 on moves. Assumes nothing.
+-- The starred examples on moves. Assumes nothing.
 use Prim.Native.Nat.{ℕ, zero, suc}
 use mathlib.Core.Path.{_≡_, refl}
 use mathlib.Core.List.{List, [], _∷_, map}
@@ -9,13 +9,13 @@ use Rattle.state.specs.declared.moving.Ruler.{Ruler}
 use Rattle.state.specs.declared.moving.Spot.{Spot}
 use Rattle.state.specs.Moving.{moved}
 
--- how often a move by how much is made, and the h and hh that document 01 prints
+-- how often a move by how much is made, and the h and hh that it must lead to
 pub record MoveExample : Type 0 where
   pub times : ℕ
   pub distance : ℤ
   pub printed : Spot
 
--- "K 3/10, D 2, s 100"
+-- the ruler of the examples; the font's scale is 100
 abbrev pub ruler : Ruler
 ruler = record { k = record { p = 3; q = 10 }; drift = 2 }
 
@@ -24,7 +24,7 @@ abbrev pub repeated : ℕ → ℤ → Spot → Spot
 repeated zero n spot = spot
 repeated (suc times) n spot = repeated times n (moved Sideways ruler 100 n spot)
 
--- "*right 5 six times gives h 30, hh 11; −5 six times, hh −11"
+-- six moves by 5 and by −5: each rounds up to 2, and D holds the sum back
 abbrev pub moveExamples : List MoveExample
 moveExamples =
     record { times = 6; distance = pos 5; printed = record { position = pos 30; pixel = pos 11 } }
@@ -35,7 +35,7 @@ moveExamples =
 abbrev pub moveFound : MoveExample → Spot
 moveFound e = repeated (e .times) (e .distance) (record { position = pos 0; pixel = pos 0 })
 
--- the definitions give what is printed
+-- the definitions give what they must
 pub moves-hold : map moveFound moveExamples ≡ map (λ e. e .printed) moveExamples
 unfolding nearestWhole
 moves-hold = refl

@@ -1,4 +1,4 @@
--- The starred examples of document 01 on whole files, as entries of a list. Assumes nothing.
+-- The starred examples on whole files, as entries of a list. Assumes nothing.
 use Prim.Native.Nat.{ℕ}
 use mathlib.Core.Path.{_≡_, refl}
 use mathlib.Core.List.{List, [], _∷_, _++_, map}
@@ -13,7 +13,7 @@ use Rattle.volume.specs.declared.Summary.{Summary}
 use Rattle.list.specs.Rules.{sameBytes}
 use Rattle.volume.specs.Judged.{tail, judgedFrom, judged}
 
--- "M is: pre with num 254, den 1, mag 1000, no comment (0–14), bop (15), eop (60), post (61), post_post (90), four 223s; 100 bytes"
+-- the smallest file, M: pre, an empty page, post, post_post and four 223s
 abbrev pub M : List ℕ
 M =
     (247 ∷ 2 ∷ 0 ∷ 0 ∷ 0 ∷ 254 ∷ 0 ∷ 0 ∷ 0 ∷ 1 ∷ 0 ∷ 0 ∷ 3 ∷ 232 ∷ 0 ∷ [])
@@ -23,17 +23,16 @@ M =
     ++ (249 ∷ 0 ∷ 0 ∷ 0 ∷ 61 ∷ 2 ∷ [])
     ++ replicate 4 223
 
--- a file and what document 01 prints of it
+-- a file and what its check must give
 pub record FileExample : Type 0 where
   pub file : List ℕ
   pub printed : Answer Summary
 
--- "1 page, 0 fonts, depth 0, post 61"
+-- what the check gives of M
 abbrev pub onePage : Summary
 onePage = record { pages = 1; fonts = 0; depth = 0; post = 61 }
 
--- "*M: 1 page, 0 fonts, depth 0, post 61. With five 223s: accepted. *M less its last byte: 11 at 99. *First 95 bytes: 2 at 90. *Empty: 2 at 0.
--- *Byte 60 made 142: 6 at 60."
+-- M itself and with one 223 more; cut in its tail, cut before post_post is whole, and empty; a pop in place of eop
 abbrev pub fileExamples : List FileExample
 fileExamples =
     record { file = M; printed = given onePage }
@@ -48,7 +47,7 @@ fileExamples =
 abbrev pub fileFound : FileExample → Answer Summary
 fileFound e = judged (e .file)
 
--- the definitions give what is printed
+-- the definitions give what they must
 pub files-hold : map fileFound fileExamples ≡ map (λ e. e .printed) fileExamples
 unfolding unsignedAt kindOf lengths fixedLength innerLength sizeOf frontAfter sameBytes tail judgedFrom judged
 files-hold = refl
