@@ -28,7 +28,7 @@ abbrev pub commandAnswer : CommandRead → Answer Reading
 commandAnswer (CommandRead.Command opcode start next) = given (record { opcode = opcode; start = start; next = next })
 commandAnswer (CommandRead.Refused number place) = refused number place
 
--- check_file: "the number of pages, the number of fonts, the greatest stack depth and the place of post"
+-- check_file: how many pages and fonts, the depth reached, and where post stands
 abbrev pub fileAnswer : FileChecked → Answer Summary
 fileAnswer (FileChecked.Accepted pages fonts depth post) = given (record { pages = pages; fonts = fonts; depth = depth; post = post })
 fileAnswer (FileChecked.Refused number place) = refused number place
@@ -64,7 +64,7 @@ abbrev pub roundedAnswer : Rounded → Answer ℤ
 roundedAnswer (Rounded.To n) = given n
 roundedAnswer (Rounded.Refused number place) = refused number place
 
--- place_page: "the number of records written, of missing characters and of specials on that page"
+-- place_page: how many records, missing characters and specials
 abbrev pub placedAnswer : Placed → Answer Counts
 placedAnswer (Placed.Records records missing specials) = given (record { records = records; missing = missing; specials = specials })
 placedAnswer (Placed.Refused number place) = refused number place
