@@ -75,7 +75,8 @@ extern "C" {
 #define HURLYBURN_RECORD_BYTES 20
 
 /* The command whose opcode stands at byte `at` of a DVI file; nothing before or behind it is judged. answer: the opcode, where its
-   parameters start, the place after them. Refusal 1; then 2 or 3 with place `at`. */
+   parameters start, the place after them. Refusal 1; then 2 or 3, whose place is `at` (negative in answer where `at` is 2^63 or
+   more). */
 uint32_t hurlyburn_read_command(const uint8_t *file, size_t file_length, size_t at, int64_t *answer, size_t answer_length);
 
 /* The check of a whole DVI file. answer: how many pages it has and how many fonts, the depth that its stack reaches, where post

@@ -88,7 +88,7 @@ static int is_result(uint32_t code, const struct numbers *answer, size_t count)
     else if (code == HURLYBURN_ARRAY_TOO_SHORT)
         puts("array too short");
     else
-        printf("refused %u at %lld\n", code, (long long)answer->number[0]);
+        printf("refused %u at %llu\n", code, (unsigned long long)answer->number[0]);
     return 0;
 }
 

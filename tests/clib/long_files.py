@@ -44,7 +44,7 @@ def three_pages_apart(keep):
     yield "the longest file", [
         (b"check %s" % file, b"accepted 3 64 0 %d" % start),
         (b"read %s %d" % (file, start), b"command 248 %d %d" % (start + 1, start + 29)),
-        (b"read %s %d" % (file, LONGEST - 1), b"refused 2 at %d" % (LONGEST - 1)),
+        (b"read %s %d" % (file, LONGEST - 1), b"command 223 %d %d" % (LONGEST, LONGEST)),
         (b"read %s %d" % (file, LONGEST), b"refused 2 at %d" % LONGEST),
         (b"name %s 63" % file, b"name 16"),
         (b"spell %s 63" % file, b"spelled " + (defined[63].area + defined[63].name).hex().encode()),
