@@ -1,8 +1,8 @@
 /* Hurlyburn, a proved reader of DVI files (DVI Driver Standard, level 0): its C interface.
 
    `rt staticlib clib` writes target/staticlib/libclib.a for x86-64 Linux; link it beside your program and the C library.
-   include/example.c is a whole program. What a file is checked for, and where a page's characters and rules go, is document 01;
-   every function here is proved to answer it exactly (crates/clib, docs/PROMISES.md).
+   include/example.c is a whole program. Every entry of the reader is here, and each is proved to answer exactly what the rules
+   say (crates/clib, docs/PROMISES.md).
 
    How every function works:
 
@@ -24,25 +24,28 @@
 
    Refusals:
 
-        1   file longer than 16,777,216 bytes; place 0
-        2   the file ends where a command or its parameters should be
-        3   opcode 250 to 255
-        4   first command is not pre, its identification is not 2, or num, den or mag is not positive as a signed number
-        5   a command that may not stand there
-        6   pop at depth 0, push at depth 100, eop at depth above 0
-        7   a font definition against the rules
-        8   selection of a font not yet defined; a character before a selection on this page
-        9   a wrong pointer in bop, post or post_post
-       10   num, den, mag, depth or page count in post wrong; identification in post_post not 2
-       11   after post_post, a byte other than 223 (its place), or else fewer than four bytes (place: file length)
-       12   resolution outside 1 to 10,000; place 0
-       13   unit out of range; place 0
-       14   width table wrong; place of the first wrong record's first byte
-       15   page number outside 1 to the page count; place 0
-       16   h or v would leave -2,147,483,647 to 2,147,483,647; place of that command
-       17   output area shorter than the bytes to be written; place 0
+        1   the file has more than 16,777,216 bytes
+        2   no command stands where one is due, or its bytes run past the end of the file
+        3   an opcode of 250 or more
+        4   a bad beginning: a command that is not pre, another identification than 2, or num, den or mag below 1
+        5   a command in a part of the file where it is not allowed
+        6   the stack: a pop from an empty one, a push onto a hundred levels, a page that ends with levels left
+        7   a font definition that breaks the rules for fonts, or one that is not repeated after post
+        8   a font that nothing has defined so far, or a character while the page has selected no font
+        9   a pointer of bop, post or post_post that leads elsewhere
+       10   what post repeats or counts is not what the file has, or post_post's identification is not 2
+       11   at the end, a byte that is not 223, or three 223s or fewer
+       12   a resolution of 0, or above 10,000
+       13   pixels per unit, num x mag x resolution / (den x 254,000,000): above 1/2, or with a numerator above 1,073,741,823 in
+            lowest terms
+       14   a width table, a scale or a fix word against its rules
+       15   a page that the file has not
+       16   h or v at 2^31 or beyond, on either side
+       17   an area that is too short for the records
 
-   The place of 2 to 10 is that of the command's opcode, or where it should stand. */
+   The place of 2 to 10 and of 16 is where the opcode of the wrong command stands, or would have to; of 11 that byte's, or the
+   length of the file; of 14 where the first wrong record begins. It is 0 for all others, for a single distance or width, and for
+   the name of a font that is not defined (8). */
 #ifndef HURLYBURN_H
 #define HURLYBURN_H
 
@@ -59,8 +62,11 @@ extern "C" {
 #define HURLYBURN_ARRAY_TOO_SHORT 255
 
 /* how many numbers answer must hold */
+#define HURLYBURN_COMMAND_NUMBERS 3
 #define HURLYBURN_CHECK_NUMBERS 4
 #define HURLYBURN_PLACE_NUMBERS 3
+#define HURLYBURN_ROUND_NUMBERS 1
+#define HURLYBURN_SCALE_NUMBERS 1
 #define HURLYBURN_TABLE_NUMBERS 1
 #define HURLYBURN_LOOK_NUMBERS 6
 #define HURLYBURN_NAME_NUMBERS 2
@@ -68,8 +74,13 @@ extern "C" {
 /* how many bytes a placed character or rule takes in the area */
 #define HURLYBURN_RECORD_BYTES 20
 
-/* The check of a whole DVI file. answer: the number of pages, the number of fonts, the greatest stack depth, the place of post.
-   Refusals 1 to 11. */
+/* The command whose opcode stands at byte `at` of a DVI file; nothing before or behind it is judged. answer: the opcode, where its
+   parameters start, the place after them. Refusal 1; then 2 or 3, whose place is `at` (negative in answer where `at` is 2^63 or
+   more). */
+uint32_t hurlyburn_read_command(const uint8_t *file, size_t file_length, size_t at, int64_t *answer, size_t answer_length);
+
+/* The check of a whole DVI file. answer: how many pages it has and how many fonts, the depth that its stack reaches, where post
+   stands. Refusals 1 to 11. */
 uint32_t hurlyburn_check_file(const uint8_t *file, size_t file_length, int64_t *answer, size_t answer_length);
 
 /* The placing of one page (counted from 1) of a DVI file, by a width table, at a resolution in dots per inch. The page's records are
@@ -77,24 +88,35 @@ uint32_t hurlyburn_check_file(const uint8_t *file, size_t file_length, int64_t *
    every byte of area. answer: the number of records written, of missing characters, of specials. Refusals 1 to 17: with 17 the page
    is right and area too short for it.
 
-   A record, numbers with the greatest byte first, all but kind, font and page signed: kind 1 byte (1 character, 2 rule), font 1
-   (0 for a rule), page 2, hh 4, vv 4, then code 4 and escapement 4 of a character, or height 4 and width 4 of a rule in pixels. */
+   A record has a byte for its kind, 1 for a character and 2 for a rule; a byte for the font, which is 0 for a rule; two bytes for
+   the page; and four numbers of four bytes: hh, vv, and of a character its code and its escapement, of a rule its height and its
+   width in pixels. The greatest byte comes first. The four-byte numbers are signed, the others are not. */
 uint32_t hurlyburn_place_page(const uint8_t *file, size_t file_length, const uint8_t *widths, size_t widths_length,
                               uint32_t resolution, uint32_t page, uint8_t *area, size_t area_length, int64_t *answer,
                               size_t answer_length);
+
+/* A distance n of a file whose units are num, den and mag, in pixels at a resolution in dots per inch. answer: the distance, which
+   may be negative. Refusals 4 (num, den or mag below 1), 12, 13. */
+uint32_t hurlyburn_round_distance(int32_t num, int32_t den, int32_t mag, uint32_t resolution, int32_t n, int64_t *answer,
+                                  size_t answer_length);
+
+/* The width that a TFM fix word, bytes b0 to b3, stands for at a font's scale. answer: the width, which may be negative. Refusal 14. */
+uint32_t hurlyburn_scale_width(uint32_t scale, uint8_t b0, uint8_t b1, uint8_t b2, uint8_t b3, int64_t *answer,
+                               size_t answer_length);
 
 /* The check of a width table: records of 16 bytes. answer: the number of records. Refusal 14. */
 uint32_t hurlyburn_check_table(const uint8_t *table, size_t table_length, int64_t *answer, size_t answer_length);
 
 /* What a width table says of a character, by the font's check sum, its scale and the code mod 256. The whole table is checked first.
-   answer: 1, the escapement in pixels (the only number here that may be negative), and the four bytes of the width; or, where
-   the table has no such character, 0 and nothing more. Refusal 14. */
+   answer: 1, the escapement in pixels, which may be negative, and the four bytes of the width; or, where the table has no such
+   character, 0 and nothing more. Refusal 14. */
 uint32_t hurlyburn_look_up(const uint8_t *table, size_t table_length, uint32_t checksum, uint32_t scale, int32_t code,
                            int64_t *answer, size_t answer_length);
 
-/* Where the name of a font stands in the file, area first, as its definition before post has it. The whole file is checked first.
-   answer: the place of its first byte, and the place past its last. Refusals 1 to 11; 8 with place 0 for a font that is not defined. */
-uint32_t hurlyburn_font_name_place(const uint8_t *file, size_t file_length, int32_t font, int64_t *answer, size_t answer_length);
+/* The name of a font, area first, as its definition before post has it: a part of the caller's own file. The whole file is checked
+   first. answer: the place of the part's first byte, and the place past its last. Refusals 1 to 11; 8 with place 0 for a font that
+   is not defined. */
+uint32_t hurlyburn_font_name(const uint8_t *file, size_t file_length, int32_t font, int64_t *answer, size_t answer_length);
 
 #ifdef __cplusplus
 }

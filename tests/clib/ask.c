@@ -1,5 +1,4 @@
-/* Answers the desk's lines for check, place, table, look and name (README.md at the top) through the C interface, for files of up to
-   17 MiB and areas of up to 32 MiB. What a call must leave alone is looked at after each: where it did not, the answer is `guard broken`,
+/* Answers every line of the desk (README.md at the top) through the C interface, for files of up to 17 MiB and areas of up to 32 MiB. What a call must leave alone is looked at after each: where it did not, the answer is `guard broken`,
    which no other program gives. */
 #include "hurlyburn.h"
 #include "lent.h"
@@ -40,9 +39,10 @@ static int read_number(const char *word, uint64_t greatest, uint64_t *number)
     for (; *word; word++) {
         if (*word < '0' || *word > '9')
             return 0;
-        value = value * 10 + (uint64_t)(*word - '0');
-        if (value > greatest)
+        uint64_t digit = (uint64_t)(*word - '0');
+        if (digit > greatest || value > (greatest - digit) / 10)
             return 0;
+        value = value * 10 + digit;
     }
     *number = value;
     return 1;
@@ -54,6 +54,15 @@ static int read_unsigned(const char *word, uint32_t *number)
     if (!read_number(word, UINT32_MAX, &value))
         return 0;
     *number = (uint32_t)value;
+    return 1;
+}
+
+static int read_byte(const char *word, uint8_t *number)
+{
+    uint64_t value;
+    if (!read_number(word, UINT8_MAX, &value))
+        return 0;
+    *number = (uint8_t)value;
     return 1;
 }
 
@@ -79,8 +88,24 @@ static int is_result(uint32_t code, const struct numbers *answer, size_t count)
     else if (code == HURLYBURN_ARRAY_TOO_SHORT)
         puts("array too short");
     else
-        printf("refused %u at %lld\n", code, (long long)answer->number[0]);
+        printf("refused %u at %llu\n", code, (unsigned long long)answer->number[0]);
     return 0;
+}
+
+static void command(char *words[])
+{
+    struct input file;
+    struct numbers answer;
+    uint64_t at;
+    if (!read_number(words[2], UINT64_MAX, &at) || !lend_file(words[1], &file)) {
+        no_input();
+        return;
+    }
+    lend_numbers(&answer);
+    uint32_t code = hurlyburn_read_command(file.bytes, file.length, (size_t)at, answer.number, HURLYBURN_COMMAND_NUMBERS);
+    if (is_result(code, &answer, HURLYBURN_COMMAND_NUMBERS))
+        printf("command %lld %lld %lld\n", (long long)answer.number[0], (long long)answer.number[1], (long long)answer.number[2]);
+    take_back(&file);
 }
 
 static void check(const char *name)
@@ -97,6 +122,38 @@ static void check(const char *name)
         printf("accepted %lld %lld %lld %lld\n", (long long)answer.number[0], (long long)answer.number[1],
                (long long)answer.number[2], (long long)answer.number[3]);
     take_back(&file);
+}
+
+static void rounded(char *words[])
+{
+    struct numbers answer;
+    int32_t num, den, mag, n;
+    uint32_t resolution;
+    if (!read_signed(words[1], &num) || !read_signed(words[2], &den) || !read_signed(words[3], &mag) ||
+        !read_unsigned(words[4], &resolution) || !read_signed(words[5], &n)) {
+        no_input();
+        return;
+    }
+    lend_numbers(&answer);
+    uint32_t code = hurlyburn_round_distance(num, den, mag, resolution, n, answer.number, HURLYBURN_ROUND_NUMBERS);
+    if (is_result(code, &answer, HURLYBURN_ROUND_NUMBERS))
+        printf("rounded %lld\n", (long long)answer.number[0]);
+}
+
+static void scaled(char *words[])
+{
+    struct numbers answer;
+    uint32_t scale;
+    uint8_t b[4];
+    if (!read_unsigned(words[1], &scale) || !read_byte(words[2], &b[0]) || !read_byte(words[3], &b[1]) ||
+        !read_byte(words[4], &b[2]) || !read_byte(words[5], &b[3])) {
+        no_input();
+        return;
+    }
+    lend_numbers(&answer);
+    uint32_t code = hurlyburn_scale_width(scale, b[0], b[1], b[2], b[3], answer.number, HURLYBURN_SCALE_NUMBERS);
+    if (is_result(code, &answer, HURLYBURN_SCALE_NUMBERS))
+        printf("width %lld\n", (long long)answer.number[0]);
 }
 
 static void table(const char *name)
@@ -139,7 +196,16 @@ static void look(char *words[])
     take_back(&widths);
 }
 
-static void name(char *words[])
+/* The bytes from a place of the caller's file up to another. */
+static void print_bytes(const struct input *file, int64_t start, int64_t end)
+{
+    printf(start == end ? "spelled -" : "spelled ");
+    for (int64_t i = start; i < end; i++)
+        printf("%02x", file->bytes[i]);
+    printf("\n");
+}
+
+static void name(char *words[], int spelled)
 {
     struct input file;
     struct numbers answer;
@@ -149,9 +215,13 @@ static void name(char *words[])
         return;
     }
     lend_numbers(&answer);
-    uint32_t code = hurlyburn_font_name_place(file.bytes, file.length, font, answer.number, HURLYBURN_NAME_NUMBERS);
-    if (is_result(code, &answer, HURLYBURN_NAME_NUMBERS))
-        printf("name %lld %lld\n", (long long)answer.number[0], (long long)answer.number[1]);
+    uint32_t code = hurlyburn_font_name(file.bytes, file.length, font, answer.number, HURLYBURN_NAME_NUMBERS);
+    if (is_result(code, &answer, HURLYBURN_NAME_NUMBERS)) {
+        if (spelled)
+            print_bytes(&file, answer.number[0], answer.number[1]);
+        else
+            printf("name %lld %lld\n", (long long)answer.number[0], (long long)answer.number[1]);
+    }
     take_back(&file);
 }
 
@@ -214,7 +284,15 @@ static void answer_line(char *line)
     else if (count == 5 && !strcmp(words[0], "look"))
         look(words);
     else if (count == 3 && !strcmp(words[0], "name"))
-        name(words);
+        name(words, 0);
+    else if (count == 3 && !strcmp(words[0], "spell"))
+        name(words, 1);
+    else if (count == 3 && !strcmp(words[0], "read"))
+        command(words);
+    else if (count == 6 && !strcmp(words[0], "round"))
+        rounded(words);
+    else if (count == 6 && !strcmp(words[0], "scale"))
+        scaled(words);
     else if (count == 6 && !strcmp(words[0], "place"))
         place(words);
     else

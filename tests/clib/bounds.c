@@ -24,11 +24,18 @@ static void expect(int holds, const char *what, const char *call, size_t length)
     printf("%s: %s, with %zu\n", call, what, length);
 }
 
-/* ---- the calls: each is asked with a right input and with one cut short by a byte, which is refused */
+/* ---- the calls: each is asked rightly and, with `less` 1, so that it is refused: an input cut short by a byte, or a number out of range */
 
 static uint32_t number_at(const uint8_t *bytes)
 {
     return (uint32_t)bytes[0] << 24 | (uint32_t)bytes[1] << 16 | (uint32_t)bytes[2] << 8 | bytes[3];
+}
+
+/* post_post and its tail, 10 bytes; at the file's end no command begins */
+static uint32_t command(size_t less, struct output *area, int64_t *answer, size_t length)
+{
+    (void)area;
+    return hurlyburn_read_command(file.bytes, file.length, less ? file.length : file.length - 10, answer, length);
 }
 
 static uint32_t check(size_t less, struct output *area, int64_t *answer, size_t length)
@@ -41,6 +48,18 @@ static uint32_t place(size_t less, struct output *area, int64_t *answer, size_t 
 {
     return hurlyburn_place_page(file.bytes, file.length, widths.bytes, widths.length - less, RESOLUTION, PAGE, area->bytes,
                                 area->length, answer, length);
+}
+
+static uint32_t rounded(size_t less, struct output *area, int64_t *answer, size_t length)
+{
+    (void)area;
+    return hurlyburn_round_distance(254, 1, 1000, less ? 501 : 500, -3, answer, length);
+}
+
+static uint32_t scaled(size_t less, struct output *area, int64_t *answer, size_t length)
+{
+    (void)area;
+    return hurlyburn_scale_width(less ? 0 : 100, 255, 255, 255, 255, answer, length);
 }
 
 static uint32_t table(size_t less, struct output *area, int64_t *answer, size_t length)
@@ -67,7 +86,7 @@ static uint32_t look_absent(size_t less, struct output *area, int64_t *answer, s
 static uint32_t name(size_t less, struct output *area, int64_t *answer, size_t length)
 {
     (void)area;
-    return hurlyburn_font_name_place(file.bytes, file.length - less, font, answer, length);
+    return hurlyburn_font_name(file.bytes, file.length - less, font, answer, length);
 }
 
 static const struct call {
@@ -75,9 +94,15 @@ static const struct call {
     size_t least, written; /* of a result */
     uint32_t (*ask)(size_t less, struct output *area, int64_t *answer, size_t length);
 } calls[] = {
-    {"check", HURLYBURN_CHECK_NUMBERS, 4, check},     {"place", HURLYBURN_PLACE_NUMBERS, 3, place},
-    {"table", HURLYBURN_TABLE_NUMBERS, 1, table},     {"look", HURLYBURN_LOOK_NUMBERS, 6, look},
-    {"look, absent", HURLYBURN_LOOK_NUMBERS, 1, look_absent}, {"name", HURLYBURN_NAME_NUMBERS, 2, name},
+    {"read", HURLYBURN_COMMAND_NUMBERS, 3, command},
+    {"check", HURLYBURN_CHECK_NUMBERS, 4, check},
+    {"place", HURLYBURN_PLACE_NUMBERS, 3, place},
+    {"round", HURLYBURN_ROUND_NUMBERS, 1, rounded},
+    {"scale", HURLYBURN_SCALE_NUMBERS, 1, scaled},
+    {"table", HURLYBURN_TABLE_NUMBERS, 1, table},
+    {"look", HURLYBURN_LOOK_NUMBERS, 6, look},
+    {"look, absent", HURLYBURN_LOOK_NUMBERS, 1, look_absent},
+    {"name", HURLYBURN_NAME_NUMBERS, 2, name},
 };
 
 #define CALLS (sizeof calls / sizeof calls[0])
@@ -184,7 +209,9 @@ static void nothing_lent(void)
     lend_numbers(&answer);
     uint32_t code = hurlyburn_check_file(NULL, 0, answer.number, HURLYBURN_CHECK_NUMBERS);
     expect(code == 2 && answer.number[0] == 0, "the empty file is not 2 at 0", "check", 0);
-    code = hurlyburn_font_name_place(NULL, 0, font, answer.number, HURLYBURN_NAME_NUMBERS);
+    code = hurlyburn_read_command(NULL, 0, 7, answer.number, HURLYBURN_COMMAND_NUMBERS);
+    expect(code == 2 && answer.number[0] == 7, "a command of the empty file is not 2 at its place", "read", 0);
+    code = hurlyburn_font_name(NULL, 0, font, answer.number, HURLYBURN_NAME_NUMBERS);
     expect(code == 2 && answer.number[0] == 0, "the empty file is not 2 at 0", "name", 0);
     code = hurlyburn_place_page(NULL, 0, NULL, 0, RESOLUTION, PAGE, NULL, 0, answer.number, HURLYBURN_PLACE_NUMBERS);
     expect(code == 2 && answer.number[0] == 0, "the empty file is not 2 at 0", "place", 0);

@@ -43,8 +43,13 @@ def three_pages_apart(keep):
     file, empty = keep(data), keep(b"")
     yield "the longest file", [
         (b"check %s" % file, b"accepted 3 64 0 %d" % start),
+        (b"read %s %d" % (file, start), b"command 248 %d %d" % (start + 1, start + 29)),
+        (b"read %s %d" % (file, LONGEST - 1), b"command 223 %d %d" % (LONGEST, LONGEST)),
+        (b"read %s %d" % (file, LONGEST), b"refused 2 at %d" % LONGEST),
         (b"name %s 63" % file, b"name 16"),
+        (b"spell %s 63" % file, b"spelled " + (defined[63].area + defined[63].name).hex().encode()),
         (b"name %s 64" % file, b"refused 8 at 0"),
+        (b"spell %s 64" % file, b"refused 8 at 0"),
         (b"place %s %s 300 3 20" % (file, empty), b"r 3 0 300 0 1 1\nend 1 0 0"),
         (b"place %s %s 300 3 19" % (file, empty), b"refused 17 at 0"),
         (b"place %s %s 300 4 20" % (file, empty), b"refused 15 at 0"),
@@ -53,6 +58,8 @@ def three_pages_apart(keep):
     yield "a byte too long", [
         (b"check %s" % longer, b"refused 1 at 0"),
         (b"name %s 0" % longer, b"refused 1 at 0"),
+        (b"spell %s 0" % longer, b"refused 1 at 0"),
+        *((b"read %s %d" % (longer, at), b"refused 1 at 0") for at in (0, 15, LONGEST, LONGEST + 1, (1 << 64) - 1)),
         (b"place %s %s 0 0 0" % (longer, empty), b"refused 1 at 0"),
     ]
     yield "far too long", [(b"check %s" % keep(bytes(17 << 20)), b"refused 1 at 0")]

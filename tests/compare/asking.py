@@ -15,6 +15,7 @@ ANSWERS = {
     b"read": rb"command \d+ \d+ \d+",
     b"check": rb"accepted \d+ \d+ \d+ \d+",
     b"name": rb"name \d+ \d+",
+    b"spell": rb"spelled (?:-|(?:[0-9a-f]{2})+)",
     b"round": rb"rounded -?\d+",
     b"scale": rb"width -?\d+",
     b"table": rb"right \d+",

@@ -5,7 +5,7 @@ from dvi import (
     BOP, EOP, FNT1, FNT_DEF1, FNT_NUM_0, FURTHEST, GREATEST_SCALE, MARK, NOTHING, PLAIN_UNITS, POPPED, POST, POST_POST, PRE, PUSHED,
     TAIL, TEX_UNITS, Font, big, character, down, page, right, rule, select, sized, special, volume,
 )
-from made_up import RESOLUTIONS, place, random_volume, unit_of
+from made_up import RESOLUTIONS, naming, place, random_volume, unit_of
 from tables import table_for
 
 
@@ -193,7 +193,7 @@ class Asker:
                     resolution, number = self.rng.choice(RESOLUTIONS), self.rng.choice([1, 1, 1, 2])
                     group.ask(place(file, self.rng.choice([table, table, empty]), resolution, number))
                 if self.rng.random() < 0.05:
-                    group.ask(b"name %s %d" % (file, self.rng.choice([0, 1, 200, self.rng.randrange(256)])))
+                    group.ask(*naming(file, self.rng.choice([0, 1, 200, self.rng.randrange(256)])))
 
 
 def groups(gather, rng, published, count, long):

@@ -26,6 +26,11 @@ def edges(size):
     return [-most, 1 - most, -1, 0, 1, most - 1]
 
 
+def naming(file, font):
+    """Both questions about a font's name: where it stands, and its bytes."""
+    return b"name %s %d" % (file, font), b"spell %s %d" % (file, font)
+
+
 def place(file, table, resolution, number=1, area=WHOLE_AREA):
     return b"place %s %s %d %d %d" % (file, table, resolution, number, area)
 
@@ -148,13 +153,13 @@ def many_fonts(group, rng):
         table = group.keep(table_for(rng, fonts, unit_of(TEX_UNITS, 300), 0.9))
         group.ask(b"check %s" % file, b"table %s" % table)
         group.lines += [place(file, table, 300, n + 1) for n in range(len(parts) + 1)]
-        group.lines += [b"name %s %d" % (file, n) for n in (*range(256), 256, -1, 65_536, FURTHEST, -FURTHEST - 1)]
+        group.lines += [line for n in (*range(256), 256, -1, 65_536, FURTHEST, -FURTHEST - 1) for line in naming(file, n)]
     for number, size in ((255, 1), (255, 4), (256, 2), (256, 4), (-1, 4), (-256, 4), (1 << 24, 4), (0xFFFFFF, 3), (0, 3)):
         font = Font(number, 1, 100)
         for used in ([], [select(number, 4)], [select(0, 1)], [select(255, 1), b"A"], [select(number, 4), b"A", b"B"]):
             body = [font.definition(size), *page([right(3), *used, MARK])]
             file = group.keep(volume(PLAIN_UNITS, body, after=[font.definition(size)]))
-            group.ask(b"check %s" % file, b"name %s %d" % (file, number))
+            group.ask(b"check %s" % file, *naming(file, number))
 
 
 def deepest(group, rng):
@@ -294,7 +299,7 @@ def greatest_sizes(group, rng):
         for body, tail in ((head, 4 + more), ([*[NOTHING] * more, *head], 4),
                            ([font.definition(), *page([special(bytes(more - 5), 4), select(0), b"A", MARK])], 4)):
             file = group.keep(volume(PLAIN_UNITS, body, [font], tail=tail))
-            group.ask(b"check %s" % file, b"name %s 0" % file, b"read %s %d" % (file, length - 1), b"read %s %d" % (file, length))
+            group.ask(b"check %s" % file, *naming(file, 0), b"read %s %d" % (file, length - 1), b"read %s %d" % (file, length))
     table = group.keep(table_for(rng, [font], Fraction(3, 10)))
     for records in (2999, 3000, 3001):
         file = group.keep(volume(PLAIN_UNITS, [font.definition(), *page([select(0), *[b"AB" + right(7) + MARK] * (records // 3),

@@ -1,7 +1,7 @@
 """Questions about whole DVI files that others made: published ones and those that TeX writes here."""
 
 import dvi
-from made_up import LONGEST_FILE, RESOLUTIONS, WHOLE_AREA, place, unit_of
+from made_up import LONGEST_FILE, RESOLUTIONS, WHOLE_AREA, naming, place, unit_of
 from tables import table_for
 
 
@@ -29,7 +29,7 @@ def ask_about(group, rng, data):
     defined = {font.number for font in fonts}
     undefined = [n for n in range(256) if n not in defined]
     numbers = [*sorted(defined), *rng.sample(undefined, min(3, len(undefined))), -1, 256, dvi.FURTHEST]
-    group.lines += [b"name %s %d" % (file, number) for number in numbers]
+    group.lines += [line for number in numbers for line in naming(file, number)]
     group.lines += [b"read %s %d" % (file, at) for at in some_places(rng, commands, len(data))]
     for number in sorted({1, (pages + 1) // 2, pages}):
         for resolution in RESOLUTIONS:
@@ -47,6 +47,6 @@ def groups(gather, rng, paths):
             data = path.read_bytes()
             if len(data) > LONGEST_FILE:
                 file = group.keep(data)  # no input, whatever is asked
-                group.ask(b"check %s" % file, b"name %s 0" % file, b"read %s 0" % file, place(file, group.keep(b""), 300))
+                group.ask(b"check %s" % file, *naming(file, 0), b"read %s 0" % file, place(file, group.keep(b""), 300))
             else:
                 ask_about(group, rng, data)

@@ -1,7 +1,7 @@
 """Lines that need no DVI file worth the name, numbers at their edges, and lines that are `no input`."""
 
 from dvi import FURTHEST, GREATEST_SCALE, PLAIN_UNITS, TEX_UNITS, Font, page, right, select, volume
-from made_up import edge_units
+from made_up import edge_units, naming
 from tables import record
 
 DISTANCES = (0, 1, -1, 2, -2, 3, -3, 5, 499, 500, 501, FURTHEST, -FURTHEST, -FURTHEST - 1, FURTHEST - 1, 1_073_741_823, -1_073_741_824)
@@ -64,7 +64,7 @@ def no_input(group, rng):
     data = volume(PLAIN_UNITS, page([]))
     file, table = group.keep(data), group.keep(record(1, 2, 3, 4, bytes(4)))
     right_lines = [
-        b"read %s 15" % file, b"check %s" % file, b"name %s 0" % file, b"round 254 1 1000 300 5", b"scale 655360 0 9 199 28", b"table %s" % table,
+        b"read %s 15" % file, b"check %s" % file, *naming(file, 0), b"round 254 1 1000 300 5", b"scale 655360 0 9 199 28", b"table %s" % table,
         b"look %s 1 2 3" % table, b"place %s %s 300 1 60000" % (file, table),
     ]
     for line in right_lines:

@@ -9,5 +9,7 @@ typedef __UINT8_TYPE__ uint8_t;
 typedef __UINT16_TYPE__ uint16_t;
 typedef __UINT32_TYPE__ uint32_t;
 typedef __UINT64_TYPE__ uint64_t;
+#define UINT8_MAX 255
 #define UINT32_MAX 4294967295u
+#define UINT64_MAX 18446744073709551615u
 #endif

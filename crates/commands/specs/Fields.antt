@@ -19,7 +19,7 @@ signedIn field params = signedAt params (field .at) (field .size)
 abbrev pub asSigned : UnsignedField → SignedField
 asSigned field = record { at = field .at; size = field .size }
 
--- ---- set_rule and put_rule: a[+4] b[+4]
+-- ---- set_rule and put_rule: height, then width
 
 -- a, how far it goes up (rule 2.6)
 abbrev pub ruleHeightField : SignedField
@@ -29,7 +29,7 @@ ruleHeightField = record { at = 0; size = 4 }
 abbrev pub ruleWidthField : SignedField
 ruleWidthField = record { at = 4; size = 4 }
 
--- ---- bop: c0[+4] to c9[+4], then p[+4]
+-- ---- bop: ten counts, then a pointer
 
 -- c0 to c9, the counts that name a page, by an index from 0 (rule 2.6)
 abbrev pub bopCount : ℕ → SignedField
@@ -39,7 +39,7 @@ bopCount index = record { at = 4 * index; size = 4 }
 abbrev pub bopPointer : SignedField
 bopPointer = record { at = 40; size = 4 }
 
--- ---- pre: i[1] num[4] den[4] mag[4] k[1], then the comment's k bytes
+-- ---- pre: identification, three units, the comment's length, then the comment
 
 -- i, which form of file this is (rule 2.6)
 abbrev pub preIdentification : UnsignedField
@@ -61,7 +61,7 @@ preMag = record { at = 9; size = 4 }
 abbrev pub preCommentLength : UnsignedField
 preCommentLength = record { at = 13; size = 1 }
 
--- ---- post: p[4] num[4] den[4] mag[4] l[4] u[4] s[2] t[2]
+-- ---- post: a pointer, the three units, tallest and widest page, depth, pages
 
 -- p, the place of the last bop; it is read as the pointer of a bop is (rule 2.6)
 abbrev pub postPointer : SignedField
@@ -95,7 +95,7 @@ postDepth = record { at = 24; size = 2 }
 abbrev pub postPages : UnsignedField
 postPages = record { at = 26; size = 2 }
 
--- ---- post_post: q[4] i[1]
+-- ---- post_post: a pointer, then the identification
 
 -- q, the place of post; it is read as the pointer of a bop is (rule 2.6)
 abbrev pub endPointer : SignedField
@@ -117,7 +117,7 @@ specialLength opcode = record { at = 0; size = opcode - 238 }
 abbrev pub selectionNumberSize : ℕ → ℕ
 selectionNumberSize opcode = opcode - 234
 
--- ---- a font definition: the font's number in as many bytes as its opcode tells, then c[4] s[4] d[4] a[1] l[1] and the name's a + l bytes
+-- ---- a font definition: the font's number in as many bytes as its opcode tells, then check sum, two sizes, two lengths, and the name
 
 -- how many, of fnt_def1 (243) to fnt_def4 (rule 2.6)
 abbrev pub definitionNumberSize : ℕ → ℕ

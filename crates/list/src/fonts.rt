@@ -54,7 +54,7 @@ pub fn lawful_selection(fonts: &[u32; 256], opcode: u8, params: &[u8]) -> bool
     entry_of(fonts, number) != 0
 }
 
-// The part of the file that holds what the definition at a place says: check sum, s, d, a, l and name. The empty part at the file's start where none stands.
+// The part of the file that holds what the definition at a place says, from its check sum to the end of its name. The empty part at the file's start where none stands.
 pub fn saying_at(file: &[u8], at: usize) -> Part
     ensures { λ r. ⌜ SayingAt (now (file .entry)) at r ⌝ }
 {

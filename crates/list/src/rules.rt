@@ -118,7 +118,7 @@ fn post_post_may_stand(stage: Stage) -> bool
     }
 }
 
-// 6: pop at depth 0, push at depth 100, eop at depth above 0.
+// 6: a pop with nothing to pop, a push onto a full stack, the end of a page with something left on it.
 pub fn wrong_at_depth(kind: Kind, depth: usize) -> bool
     ensures { λ r. ⌜ r ≡ wrongAtDepth kind depth ⌝ }
 {

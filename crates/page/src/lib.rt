@@ -25,7 +25,7 @@ pub struct Record {
     pub extent: i64,
 }
 
-// The number of records written, of missing characters and of specials on a page
+// How many records, missing characters and specials a page has
 pub struct Counts {
     pub records: usize,
     pub missing: usize,

@@ -239,7 +239,7 @@ pub fn look_up(table: &[u8], checksum: u32, scale: u32, code: i32) -> LookedUp
     }
 }
 
-// The number of records written, of missing characters and of specials, or refusal 1 to 17
+// How many records were written, how many characters are missing, how many specials the page has; or refusal 1 to 17
 pub enum Placed {
     Records {
         records: usize,

@@ -14,7 +14,7 @@ ghost use Rattle.state.specs.Steps.{pageState, withLevel, withFont, Rule
 pub mod moving;
 pub mod registers;
 
-// h, v, w, x, y, z and the pixel pair hh, vv
+// The eight numbers that push saves: the position, the registers, the pixel
 pub struct Level {
     pub h: i64,
     pub v: i64,
