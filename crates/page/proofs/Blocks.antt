@@ -1,6 +1,6 @@
 -- A block gives back what was there: after push, a run in which each push has its pop, and pop, the level and the saved levels are those of before,
 -- and the font is the one that was selected last. Assumes nothing.
-use mathlib.Core.Path.{_≡_, refl, sym, ap, ap₂, _∙_, subst}
+use mathlib.Core.Path.{_≡_, refl, sym, ap, _∙_, subst}
 use mathlib.Core.Bool.{Bool, true, false, cond, true≢false}
 use mathlib.Core.List.{List, [], _∷_, _++_, map}
 use Prim.Native.Nat.{ℕ}

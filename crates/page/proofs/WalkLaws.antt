@@ -9,7 +9,7 @@ use lib.Dec.{leb, eqb}
 use lib.ListN.{length, drop}
 use borrow.Author.Tests.{leb-false, eqb-false}
 use Rattle.refusals.specs.Numbers.{positionOutOfRange}
-use Rattle.refusals.specs.Answer.{Answer, refused, given, andThen}
+use Rattle.refusals.specs.Answer.{refused, given, andThen}
 use Rattle.commands.specs.declared.Kind.{Kind}
 use Rattle.commands.specs.declared.Kind.the-variants.{Eop, Push, Pop}
 use Rattle.commands.specs.Commands.{Command, kindOfCommand, whole, front}

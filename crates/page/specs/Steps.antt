@@ -34,8 +34,7 @@ use Rattle.state.specs.declared.moving.Ruler.{Ruler}
 use Rattle.state.specs.declared.registers.Register.{Register}
 use Rattle.state.specs.declared.registers.Register.the-variants as Register
 use Rattle.state.specs.Moving.{leaves}
-use Rattle.state.specs.Registers.{State, freshState, pushed, popped, spotOf, movedBy, characterMoved, ruleMoved, registerOf, directionOf, movedByRegister}
-use Rattle.state.specs.Steps.{Bounded}
+use Rattle.state.specs.Registers.{State, pushed, popped, spotOf, movedBy, characterMoved, ruleMoved, registerOf, directionOf, movedByRegister}
 use Rattle.page.specs.declared.Record.{Record}
 use Rattle.page.specs.declared.Counts.{Counts}
 use Rattle.page.specs.declared.Terms.{Terms}
@@ -52,7 +51,7 @@ use Rattle.page.specs.declared.PagePlaced.the-variants as PagePlaced
 use Rattle.page.specs.Records.{placementRecordSize, recordBytes, ruleRecord}
 use Rattle.page.specs.PageList.{Located, pageOf}
 use Rattle.page.specs.Blocks.{Frame, opening, closing, ending, inside, frameOf}
-use Rattle.page.specs.Placing.{Setting, Added, nothing, placed, missing, special, Outcome, continues, leavesRange, withNumbers, fontBy, lookedFor, setCharacter, putCharacter, isVisible, distanceOr, after, Contents, placing}
+use Rattle.page.specs.Placing.{Setting, Added, nothing, placed, missing, special, Outcome, continues, leavesRange, withNumbers, fontBy, lookedFor, setCharacter, putCharacter, isVisible, distanceOr, after, Contents}
 
 -- ---- records
 

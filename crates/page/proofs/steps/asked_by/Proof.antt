@@ -7,7 +7,6 @@ use Prim.Native.Nat.{ℕ, _<_, _≤_}
 use native.Mathlib.Omega.{arith}
 use borrow.Author.Needs.{needs, sfits-of}
 use borrow.Author.Tests.{lt-ltb, le-ltb}
-use lib.Dec.{ltb}
 use lib.ListN.{length, getD}
 use lib.IntN.{ℤ}
 use denote.Ref.{now}
@@ -130,12 +129,13 @@ module _ (c : tie.After-character) where
   begun = start kinded
 
   -- the code that was read, as it is handed on
-  asked : (sets : Bool) → ltb (begun .args .opcode) 132 ≡ sets
+  asked : {test : Bool} → CharacterAsks (begun .args .terms) (now (begun .args .widths)) (begun .args .level) (begun .args .font) test (toZ w64 (ofZ w64 (c .before .character-code .result))) (c .character .result)
+      → (sets : Bool) → test ≡ sets
       → CharacterAsks (begun .args .terms) (now (begun .args .widths)) (begun .args .level) (begun .args .font) sets (characterCode (begun .args .opcode) (now (begun .args .params))) (c .character .result)
-  asked sets sets-is =
+  asked {test} asks sets sets-is =
       subst (λ (t : Bool). CharacterAsks (begun .args .terms) (now (begun .args .widths)) (begun .args .level) (begun .args .font) t (characterCode (begun .args .opcode) (now (begun .args .params))) (c .character .result)) sets-is
-      (subst (λ (code : ℤ). CharacterAsks (begun .args .terms) (now (begun .args .widths)) (begun .args .level) (begun .args .font) (ltb (begun .args .opcode) 132) code (c .character .result))
-      (toZ-ofZ (sfits-of (c .before .character-code .ok)) ∙ c .before .character-code .ensures .0) (c .character .ensures))
+      (subst (λ (code : ℤ). CharacterAsks (begun .args .terms) (now (begun .args .widths)) (begun .args .level) (begun .args .font) test code (c .character .result))
+      (toZ-ofZ (sfits-of (c .before .character-code .ok)) ∙ c .before .character-code .ensures .0) asks)
 
   range : {kind : Kind} → kinded .kind-of .result ≡ kind → (first kind ≤ begun .args .opcode) × (begun .args .opcode ≤ last kind)
   range told = kind-range (begun .args .opcode) (omega (arith, start kinded .pre .0 .0 .defined)) (kind-is kinded told)
@@ -145,13 +145,13 @@ module _ (c : tie.After-character) where
 
   sets : kinded .kind-of .result ≡ Kind.SetCharacter → Answered
   sets told =
-      let both = asked true (lt-ltb (begun .args .opcode) 132 (omega (arith, range told .1))) (history (now (begun .args .file))) in
+      let both = asked (c .character .ensures) true (lt-ltb (begun .args .opcode) _ (omega (arith, range told .1))) (history (now (begun .args .file))) in
       let comes = both .0 in
       asks kinded told (c .character .result) (record { does = comes .does; safe = comes .safe; words = comes .words }) (both .1)
 
   puts : kinded .kind-of .result ≡ Kind.PutCharacter → Answered
   puts told =
-      let both = asked false (le-ltb (begun .args .opcode) 132 (omega (arith, range told .0))) (history (now (begun .args .file))) in
+      let both = asked (c .character .ensures) false (le-ltb (begun .args .opcode) _ (omega (arith, range told .0))) (history (now (begun .args .file))) in
       let comes = both .0 in
       asks kinded told (c .character .result) (record { does = comes .does; safe = comes .safe; words = comes .words }) (both .1)
 

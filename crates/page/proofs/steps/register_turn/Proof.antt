@@ -8,7 +8,7 @@ use mir.Syntax.{w64}
 use mir.Val.{toZ, ofZ}
 use mir.Facts.{toZ-ofZ}
 use Rattle.state.specs.declared.moving.Direction.{Direction}
-use Rattle.state.specs.Registers.{registerOf, directionOf}
+use Rattle.state.specs.Registers.{registerOf}
 use Rattle.state.proofs.Levels.{register-in}
 use Rattle.page.specs.declared.Turn.{Turn}
 use Rattle.page.specs.declared.Turn.the-variants as Turn
