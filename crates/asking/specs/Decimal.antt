@@ -30,7 +30,7 @@ unfoldable pub decimalFrom : ℕ → ℕ → List ℕ → Unsigned
 decimalFrom most value [] = Is value
 decimalFrom most value (byte ∷ rest) = cond (mayFollow most value byte) (decimalFrom most (appended value byte) rest) Not
 
--- "a decimal number", of one digit or more
+-- a decimal number of one digit or more (rule 10.2)
 abbrev pub decimalOf : ℕ → List ℕ → Unsigned
 decimalOf most [] = Not
 decimalOf most (byte ∷ rest) = decimalFrom most 0 (byte ∷ rest)

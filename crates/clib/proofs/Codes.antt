@@ -20,12 +20,7 @@ use Rattle.volume.specs.Judged.{judged}
 use Rattle.volume.specs.Names.{namePlace}
 use Rattle.page.specs.Answers.{placedPage, placedCounts}
 use Rattle.reader.proofs.Listed.{command-listed, file-listed, name-listed, rounded-listed, scaled-listed, table-listed, looked-listed, placed-listed}
-use Rattle.clib.specs.Answers.{numberOf, Given, code}
-
--- what two of the codes say of the array and the answer; any other code is a refusal's number
-pub record Tells {A : Type 0} (least : ℕ) (array : List ℕ) (answer : Answer A) : Type 0 where
-  pub at-zero : code least array answer ≡ 0 → (least ≤ length array) × Given answer
-  pub at-255 : code least array answer ≡ 255 → length array < least
+use Rattle.clib.specs.Answers.{numberOf, Given, code, Tells}
 
 module _ {A : Type 0} (least : ℕ) (array : List ℕ) (answer : Answer A) (listed : Listed answer) where
   number-is : (a : Answer A) → Listed a → numberOf a ≡ 0 → Given a

@@ -1,7 +1,7 @@
 -- The kinds and their opcodes: an opcode lies in the range of its kind, and each opcode of a kind's range is of that kind. Assumes nothing.
 use mathlib.Core.Path.{_≡_, refl}
 use mathlib.Core.List.{List, [], _∷_, _++_}
-use mathlib.Core.Logic.{⊎-elim, _↔_}
+use mathlib.Core.Logic.{⊎-elim}
 use Prim.Native.Nat.{ℕ, suc, _+_, _-_, _<_, _≤_}
 use native.Mathlib.Omega.{arith}
 use lib.ListN.{length, replicate, length-append}
@@ -63,6 +63,3 @@ from-250 opcode h = past-rows rows opcode h
 -- a kind's opcodes begin at its first, however large the number
 pub kind-from : {k : Kind} (opcode : ℕ) → kindOf opcode ≡ k → first k ≤ opcode
 kind-from opcode e = ⊎-elim (λ h. kind-range opcode h e .0) (λ h. rw (← e, from-250 opcode (omega arith)) (omega arith)) (below-or-not opcode 256)
-
-pub undefined-iff : (opcode : ℕ) → (kindOf opcode ≡ Undefined) ↔ (250 ≤ opcode)
-undefined-iff opcode = (kind-from opcode, from-250 opcode)

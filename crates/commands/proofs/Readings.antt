@@ -2,7 +2,6 @@
 -- Assumes nothing.
 use mathlib.Core.Path.{_≡_, refl, ap, sym, _∙_}
 use mathlib.Core.List.{List, _++_}
-use mathlib.Core.Logic.{_⊎_, inl, inr}
 use Prim.Native.Nat.{ℕ, _+_, _-_, _<_, _≤_}
 use native.Mathlib.Omega.{arith}
 use lib.ListN.{length, getD, take, drop, length-drop}
@@ -57,11 +56,6 @@ pub record Reads (file : List ℕ) (at : ℕ) (r : Reading) : Type 0 where
   pub stands : drop at file ≡ form (commandAt file r) ++ drop (r .next) file
   pub ahead : front (drop at file) ≡ whole (commandAt file r) (drop (r .next) file)
 
--- what a refusal tells: the file ends where a command should be, or an opcode of no command stands there
-pub record ReadRefuses (file : List ℕ) (at number place : ℕ) : Type 0 where
-  pub place-is : place ≡ at
-  pub reason : ((number ≡ fileEnds) × (front (drop at file) ≡ cut)) ⊎ ((number ≡ undefinedOpcode) × (front (drop at file) ≡ undefined))
-
 module _ (file : List ℕ) (at : ℕ) where
   whole-reads : (c : Command) (rest : List ℕ) → front (drop at file) ≡ whole c rest
       → Reads file at (record { opcode = c .opcode; start = at + 1; next = at + 1 + length (c .params) })
@@ -90,11 +84,3 @@ module _ (file : List ℕ) (at : ℕ) where
       go (whole c rest) f e =
           let reading-is : record { opcode = c .opcode; start = at + 1; next = at + 1 + length (c .params) } ≡ r = cc in
           rw (← reading-is) (whole-reads c rest f)
-
-  pub refused-reads : (number place : ℕ) → readAt file at ≡ refused number place → ReadRefuses file at number place
-  refused-reads number place e = go (front (drop at file)) refl e
-    where
-      go : (x : Front) → front (drop at file) ≡ x → reading at x ≡ refused number place → ReadRefuses file at number place
-      go cut f e = record { place-is = cc; reason = inl (cc, f) }
-      go undefined f e = record { place-is = cc; reason = inr (cc, f) }
-      go (whole c rest) f e = let z : _≡_ {A = ℕ} 0 1 = cc in absurd (omega arith)

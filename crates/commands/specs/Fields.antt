@@ -1,6 +1,6 @@
 -- The fields among the parameters of commands: the name of each, where it starts, how many bytes it has, and by its type whether it has a sign.
 -- Assumes nothing.
-use Prim.Native.Nat.{ℕ, _*_, _-_}
+use Prim.Native.Nat.{ℕ, _-_}
 use mathlib.Core.List.{List}
 use lib.IntN.{ℤ}
 use Rattle.numbers.specs.Bytes.{unsignedAt, signedAt}
@@ -31,10 +31,6 @@ ruleWidthField = record { at = 4; size = 4 }
 
 -- ---- bop: ten counts, then a pointer
 
--- c0 to c9, the counts that name a page, by an index from 0 (rule 2.6)
-abbrev pub bopCount : ℕ → SignedField
-bopCount index = record { at = 4 * index; size = 4 }
-
 -- p, the place of the bop before (rule 2.6)
 abbrev pub bopPointer : SignedField
 bopPointer = record { at = 40; size = 4 }
@@ -61,7 +57,7 @@ preMag = record { at = 9; size = 4 }
 abbrev pub preCommentLength : UnsignedField
 preCommentLength = record { at = 13; size = 1 }
 
--- ---- post: a pointer, the three units, tallest and widest page, depth, pages
+-- ---- post: a pointer, the three units, two free numbers, depth, pages
 
 -- p, the place of the last bop; it is read as the pointer of a bop is (rule 2.6)
 abbrev pub postPointer : SignedField
@@ -78,14 +74,6 @@ postDen = record { at = 8; size = 4 }
 -- mag, once more (rule 2.6)
 abbrev pub postMag : UnsignedField
 postMag = record { at = 12; size = 4 }
-
--- l, how tall the tallest page is (rule 2.6)
-abbrev pub postTallest : UnsignedField
-postTallest = record { at = 16; size = 4 }
-
--- u, how wide the widest page is (rule 2.6)
-abbrev pub postWidest : UnsignedField
-postWidest = record { at = 20; size = 4 }
 
 -- s, the greatest depth (rule 2.6)
 abbrev pub postDepth : UnsignedField

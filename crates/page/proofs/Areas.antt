@@ -65,12 +65,6 @@ module _ (out : List ℕ) (counts : Counts) where
   finish-adding special (given p) =
       ap (λ (n : ℕ). ended (stored out (counts .records) (p .placements)) (counts .records + length (p .placements)) (counts .missing + p .missing-characters) n) (omega arith)
 
--- with no room nothing is written
-pub stored-none : (index : ℕ) (records : List Record) → stored [] index records ≡ []
-stored-none index [] = refl
-stored-none index (r ∷ records) =
-    ap (λ (area : List ℕ). stored area (index + 1) records) (no-room [] index r (omega arith)) ∙ stored-none (index + 1) records
-
 -- before a part that was pasted in, and behind it
 module _ (out bytes : List ℕ) (at more : ℕ) (size : length bytes ≡ placementRecordSize) (h : at + placementRecordSize + more ≤ length out) where
   front : take (at + placementRecordSize) (paste out at bytes placementRecordSize) ≡ take at out ++ bytes

@@ -1,5 +1,5 @@
 -- The counts and the records of a placed page are tied to the page's own commands. Assumes nothing.
-use mathlib.Core.Path.{_≡_, refl, sym, ap, ap₂, _∙_, subst}
+use mathlib.Core.Path.{_≡_, refl, sym, ap₂, _∙_, subst}
 use mathlib.Core.Bool.{Bool, true, false, cond}
 use mathlib.Core.List.{List, [], _∷_, map}
 use Prim.Native.Nat.{ℕ, _+_}
@@ -237,11 +237,6 @@ module _ (setting : Setting) where
     -- the records say, in order, what the commands that make one say; each names this page
     pub records-in-order : map saidBy (p .placements) ≡ map (saidOf setting) (those (makesRecord setting) (withFonts setting (s .font) cs))
     records-in-order = tied s cs p e .record-order
-
-  -- a page without commands has no records
-  pub empty-page : (s : State) (p : Contents) → placing setting s [] ≡ given p → p .placements ≡ []
-  unfolding placing
-  empty-page s p e = sym (ap (λ (q : Contents). q .placements) (given-same _ p e))
 
   -- ---- a refusal
 

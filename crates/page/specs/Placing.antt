@@ -98,7 +98,7 @@ ruleAdded setting s height width =
     (placed (ruleRecord (setting .page) (s .level) (roundedUp (setting .ruler .k) height) (roundedUp (setting .ruler .k) width)))
     nothing
 
--- a rule that is set moves by its width, whether it gives a record or not
+-- a rule that is set moves by its width, whether it gives a record or not (rule 7.8)
 abbrev pub setRule : Setting → State → ℤ → ℤ → Outcome
 setRule setting s height width =
     movesTo Direction.Sideways s width (ruleMoved (setting .ruler) (s .font .scale) width (s .level)) (ruleAdded setting s height width)

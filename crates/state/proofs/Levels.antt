@@ -20,7 +20,7 @@ use Rattle.state.specs.Moving.{leaves, near, settled}
 use Rattle.state.specs.declared.registers.Register.{Register}
 use Rattle.state.specs.declared.registers.Register.the-variants.{W, X, Y, Z}
 use Rattle.state.specs.Registers.{zeroLevel, spotOf, atSpot, movedBy, characterMoved, ruleMoved, registerOf, withRegister, directionOf, movedByRegister}
-use Rattle.state.specs.Steps.{savedOf, pageState, Ruled, Bounded, AllBounded}
+use Rattle.state.specs.Steps.{savedOf, pageState, Ruled, Bounded}
 use Rattle.state.proofs.Nearness.{settled-small}
 
 -- ---- ranges
@@ -132,11 +132,6 @@ pub saved-last : (depth : ℕ) (stack : List Level) → 0 < depth → savedOf de
 saved-last zero stack some = absurd (omega arith)
 saved-last (suc depth) stack some = rw sub-one
 
--- as many levels are saved as the depth says
-pub saved-depth : (depth : ℕ) (stack : List Level) → length (savedOf depth stack) ≡ depth
-saved-depth zero stack = refl
-saved-depth (suc depth) stack = ap suc (saved-depth depth stack)
-
 -- a store above the levels that are saved does not change them
 saved-kept : (depth at : ℕ) (stack : List Level) (l : Level) → depth ≤ at → savedOf depth (set stack at l) ≡ savedOf depth stack
 saved-kept zero at stack l below = refl
@@ -151,7 +146,3 @@ stored p room = (
   ap (λ (levels : List Level). record { level = p .now; saved = levels; font = p .font }) (saved-kept (p .depth) (p .depth) (p .stack) (p .now) (omega arith)),
   getD-set-same (p .stack) (p .depth) (p .now) zeroLevel room,
 )
-
--- what pop goes back to is in its ranges where all that is saved is
-pub bounded-last : (depth : ℕ) (stack : List Level) → 0 < depth → AllBounded (savedOf depth stack) → Bounded (getD stack (depth - 1) zeroLevel)
-bounded-last depth stack some all = subst AllBounded (saved-last depth stack some) all .0

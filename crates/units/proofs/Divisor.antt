@@ -68,9 +68,6 @@ gcd-scale c h = gcd-ind (λ a b. commonDivisor (a * c) (b * c) ≡ commonDivisor
 pub apart-gcd : (a b : ℕ) → Apart a b → commonDivisor a b ≡ 1
 apart-gcd a b p = p (commonDivisor a b) (gcd-divides a b .0) (gcd-divides a b .1)
 
-pub gcd-apart : (a b : ℕ) → commonDivisor a b ≡ 1 → Apart a b
-gcd-apart a b e d p q = eq-one-of-dvd-one (subst (λ (x : ℕ). d ∣ x) e (gcd-greatest d a b p q))
-
 pub apart-sym : (a b : ℕ) → Apart a b → Apart b a
 apart-sym a b p d x y = p d y x
 

@@ -3,7 +3,7 @@ use Prim.Native.Nat.{ℕ, zero, suc, _+_, _≤_}
 use mathlib.Core.Path.{_≡_, refl}
 use mathlib.Core.Bool.{Bool, true, false, cond}
 use mathlib.Core.List.{List, [], _∷_}
-use mathlib.Core.Logic.{_⊎_, inl, inr, ⊎-elim}
+use mathlib.Core.Logic.{_⊎_, inl, inr}
 use native.Mathlib.Omega.{arith}
 use lib.Dec.{ltb, eqb}
 use lib.IntN.{ℤ}
@@ -41,10 +41,6 @@ fault-number past c =
     by : (broken : Bool) (n next : ℕ) → (wrongPreamble ≤ n) × (n ≤ wrongPostamble) → RuleNumber next → RuleNumber (cond broken n next)
     by true n next h rest = inr h
     by false n next h rest = rest
-
--- 10 is the greatest
-pub fault-low : (past : List Command) (c : Command) → fault past c ≤ 10
-fault-low past c = ⊎-elim (λ (none-broken : fault past c ≡ 0). omega (arith, none-broken)) (λ broken. broken .1) (fault-number past c)
 
 -- ---- the check
 
