@@ -17,6 +17,8 @@ pub struct Survey {
     pub pages: Vec<usize>,
     /// The definitions before *post*.
     pub fonts: Vec<FontDefinition>,
+    /// The most pushes open at a time, as counted on the pages; the file's own number is not
+    /// taken over.
     pub greatest_depth: usize,
     pub post: usize,
 }
@@ -217,14 +219,16 @@ impl Passed<'_> {
         }
     }
 
-    /// The postamble tells of another file: of other units, another depth, another number of
-    /// pages or another format.
+    /// The postamble does not go with this file: its units, its number of pages or its format
+    /// are others, or it promises a stack that the pages outgrew.
     fn refused_10(&self, says: &Meaning) -> bool {
         match *says {
             // Two bytes count the pages, so no file of more than 65,535 gets past here.
+            // The depth has a lower bound alone: a writer that counts pushes and then leaves some
+            // out promises too much, and that does no harm, even beyond `DEEPEST`.
             Meaning::Post { num, den, mag, depth, pages, .. } => {
                 self.units != Some((num, den, mag))
-                    || depth as usize != self.greatest_depth
+                    || (depth as usize) < self.greatest_depth
                     || pages as usize != self.pages.len()
             }
             Meaning::PostPost { identification, .. } => identification != 2,

@@ -128,6 +128,7 @@ pub enum Meaning {
         num: i32,
         den: i32,
         mag: i32,
+        /// How deep the writer says the stack gets, which may be deeper than it does.
         depth: u32,
         pages: u32,
     },

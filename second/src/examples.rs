@@ -31,7 +31,7 @@ struct Parts {
     pages: Vec<Vec<u8>>, // the insides of the pages
     last: Vec<u8>,       // between post and post_post
     units: [i64; 3],
-    depth: u16,
+    depth: u16, // s in post
 }
 
 fn parts() -> Parts {
@@ -287,11 +287,12 @@ fn order_at_one_command() {
     assert_eq!(checked(&changed(changed(m(), 65, 16), 89, 2)), "refused 9 at 61");
     assert_eq!(checked(&changed(changed(m(), 94, 60), 95, 3)), "refused 9 at 90");
     assert_eq!(checked(&changed(m(), 95, 3)), "refused 10 at 90");
-    for at in [69, 73, 77, 87] {
+    for at in [69, 73, 77, 89] {
         assert_eq!(checked(&changed(m(), at, 77)), "refused 10 at 61");
     }
-    // What no rule looks at: l, u and the counts in bop.
-    for at in (16..56).chain(78..86) {
+    // What no rule looks at: l, u and the counts in bop; and s, on whose bytes 86 and 87 a file
+    // without a push makes no demand.
+    for at in (16..56).chain(78..88) {
         assert_eq!(checked(&changed(m(), at, 77)), "1 0 0 61");
     }
     // 7 before 9 before 10 at post_post.
@@ -327,11 +328,75 @@ fn the_stack() {
     assert_eq!(deep(101, 101, 101), "refused 6 at 160");
     assert_eq!(deep(2, 1, 2), "refused 6 at 63");
     assert_eq!(deep(1, 2, 1), "refused 6 at 62");
+    // A promise of more room gives no more room.
+    assert_eq!(deep(101, 101, 65_535), "refused 6 at 160");
     assert_eq!(deep(1, 1, 0), "refused 10 at 63");
-    assert_eq!(deep(1, 1, 2), "refused 10 at 63");
+    assert_eq!(deep(1, 1, 1), "1 0 1 63");
+    assert_eq!(deep(1, 1, 2), "1 0 1 63");
+    assert_eq!(deep(100, 100, 99), "refused 10 at 261");
+    assert_eq!(deep(100, 100, 101), "1 0 100 261");
+    assert_eq!(deep(100, 100, 65_535), "1 0 100 261");
     // The greatest depth is of all pages.
-    let two = Parts { pages: vec![vec![141, 141, 142, 142], vec![141, 142]], depth: 2, ..parts() };
-    assert_eq!(checked(&two.build()), "2 0 2 113");
+    for (first, second) in [(2, 1), (1, 2), (2, 2)] {
+        let page = |depth| [vec![141; depth], vec![142; depth]].concat();
+        let two =
+            |depth| checked(&Parts { pages: vec![page(first), page(second)], depth, ..parts() }.build());
+        let post = 15 + 2 * 46 + 2 * (first + second);
+        assert_eq!(two(1), format!("refused 10 at {post}"));
+        for s in [2, 3, 101, 65_535] {
+            assert_eq!(two(s), format!("2 0 2 {post}"));
+        }
+    }
+}
+
+// Each number that two bytes can hold: too small below the depth reached, right from there on.
+// The answer tells the depth reached.
+#[test]
+fn every_depth_in_post() {
+    for reached in [0, 1, 2] {
+        let page = [vec![141; reached], vec![142; reached]].concat();
+        let mut file = Parts { pages: vec![page], ..parts() }.build();
+        let post = 61 + 2 * reached;
+        for s in 0..=u16::MAX {
+            file[post + 25..post + 27].copy_from_slice(&s.to_be_bytes());
+            let wanted = if usize::from(s) < reached {
+                format!("refused 10 at {post}")
+            } else {
+                format!("1 0 {reached} {post}")
+            };
+            assert_eq!(checked(&file), wanted, "s {s}");
+        }
+    }
+}
+
+// A push with its pop right behind it does nothing. With the pair left out and s kept, the file
+// is still right, and its depth is that of the pushes left.
+#[test]
+fn pairs_left_out() {
+    let given = |page: Vec<u8>, depth| checked(&Parts { pages: vec![page], depth, ..parts() }.build());
+    assert_eq!(given(vec![141, 142], 1), "1 0 1 63");
+    assert_eq!(given(vec![], 1), "1 0 0 61");
+    assert_eq!(given(vec![141, 141, 142, 143, 5, 142], 2), "1 0 2 67");
+    assert_eq!(given(vec![141, 143, 5, 142], 2), "1 0 1 65");
+}
+
+// What else is wrong in post is found whether s is too small, just right or more than needed.
+#[test]
+fn depth_beside_other_faults() {
+    let file = |depth| Parts { pages: vec![vec![141, 142]], depth, ..parts() }.build();
+    for s in [0, 1, 2, 101, 65_535] {
+        // Pointer; num, den, mag; t; t and the pointer.
+        assert_eq!(checked(&changed(file(s), 67, 16)), "refused 9 at 63", "s {s}");
+        for at in [71, 75, 79, 91] {
+            assert_eq!(checked(&changed(file(s), at, 77)), "refused 10 at 63", "s {s}");
+        }
+        assert_eq!(checked(&changed(changed(file(s), 67, 16), 91, 77)), "refused 9 at 63", "s {s}");
+    }
+    for s in [1, 2, 101, 65_535] {
+        // Nothing follows from s for what stands behind it.
+        assert_eq!(checked(&changed(file(s), 97, 3)), "refused 10 at 92", "s {s}");
+        assert_eq!(checked(&file(s)[..101]), "refused 11 at 101", "s {s}");
+    }
 }
 
 #[test]
@@ -551,6 +616,55 @@ fn registers_and_stack_placed() {
     let lines = ["r 2 0 24 -6 1 1", "r 2 0 30 0 1 1", "r 2 0 24 -6 1 1", "r 2 0 27 -15 1 1", "end 4 0 0"];
     assert_eq!(placed(&file, &[], 300, 2, 80), lines);
     assert_eq!(placed(&file, &[], 300, 1, 0), ["end 0 0 0"]);
+}
+
+// More s than needed changes no answer about a file: not the check's, not a name's, not what a
+// page holds or why it can't be placed. Too little is refused by all of them.
+#[test]
+fn more_depth_changes_no_answer() {
+    let pages = vec![
+        [vec![174, 141, 65, 157, 50, 141, 143, 5, 66, 142, 67], put_rule(), vec![142, 239, 1, 0, 65]]
+            .concat(),
+        // The second h leaves the range.
+        [vec![141, 151], four(2_147_483_647).to_vec(), vec![147, 142]].concat(),
+        put_rule(),
+    ];
+    let definition = font(1, 3, 9, 100, 100, "a", "bc");
+    let made = |depth| {
+        let whole = Parts::with_font(definition.clone(), vec![]);
+        Parts { pages: pages.clone(), depth, ..whole }.build()
+    };
+    let answers = |depth| {
+        let file = written(&format!("depth-{depth}.dvi"), &made(depth));
+        let table = written("depth.table", &character_table());
+        let mut lines = vec![format!("check {file}"), format!("name {file} 3"), format!("spell {file} 3")];
+        for page in 0..=4 {
+            for area in [0, 20, 60_000] {
+                lines.push(format!("place {file} {table} 300 {page} {area}"));
+            }
+        }
+        let answers: Vec<String> = lines.iter().map(|line| answer(line.as_bytes(), DESK)).collect();
+        answers
+    };
+    let exact = answers(2);
+    assert_eq!(exact[..3], ["accepted 3 1 2 214", "name 31 34", "spelled 616263"]);
+    // The last of each page's three, from page 1 on.
+    let first = "c 1 3 0 0 65 31\nc 1 3 33 15 66 -30\nr 1 0 31 15 1 1\nc 1 3 0 0 65 31\nend 4 1 1";
+    assert_eq!(exact[8], first);
+    assert_eq!(exact[11], "refused 16 at 156");
+    assert_eq!(exact[14], "r 3 0 0 0 1 1\nend 1 0 0");
+    assert_eq!(exact[17], "refused 15 at 0");
+    for s in [3, 100, 101, 255, 256, 32_768, 65_535] {
+        assert_eq!(answers(s), exact, "s {s}");
+    }
+    for s in [0, 1] {
+        assert!(answers(s).iter().all(|line| line == "refused 10 at 214"), "s {s}");
+    }
+    // The records byte by byte.
+    let records = |depth| place(&made(depth), &character_table(), 300, 1, 80).unwrap().records;
+    for s in [3, 101, 65_535] {
+        assert_eq!(records(s), records(2), "s {s}");
+    }
 }
 
 // A pop gives the pixels back as they were, but leaves the font selected meanwhile.
