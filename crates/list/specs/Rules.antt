@@ -127,11 +127,11 @@ pointerWrong past c =
 
 -- ---- 10: the postamble
 
--- the depth that post states against the greatest that was reached (rule 3.8)
+-- s may be above the greatest depth, as in files of TeX, which counts a push that it drops with its pop; too small is wrong (rule 3.8)
 abbrev pub rightDepth : ℕ → ℕ → Bool
-rightDepth stated reached = eqb stated reached
+rightDepth stated reached = leb reached stated
 
--- post has the three units of pre once more, the greatest depth and the number of pages (rule 3.8)
+-- post has the three units of pre once more, a depth that is not too small, and the number of pages (rule 3.8)
 abbrev pub lawfulPostamble : ℕ → ℕ → ℕ → ℕ → ℕ → List ℕ → Bool
 lawfulPostamble num den mag greatest pages params =
     eqb (unsignedIn postNum params) num

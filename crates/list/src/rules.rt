@@ -138,7 +138,7 @@ pub fn points_to(pointer: SignedField, params: &[u8], place: i64) -> bool
     numbers::same_number(fields::signed_in(pointer, params), place)
 }
 
-// 10: whether post repeats num, den and mag, and states depth and pages.
+// 10: whether post repeats num, den and mag, states the depth or more, and the pages.
 pub fn lawful_postamble(
     num: u64,
     den: u64,
@@ -159,7 +159,7 @@ pub fn lawful_postamble(
     if fields::unsigned_in(fields::POST_MAG, params) != mag {
         return false;
     }
-    if fields::unsigned_in(fields::POST_DEPTH, params) != greatest as u64 {
+    if fields::unsigned_in(fields::POST_DEPTH, params) < greatest as u64 {
         return false;
     }
     fields::unsigned_in(fields::POST_PAGES, params) == pages as u64

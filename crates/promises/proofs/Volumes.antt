@@ -8,7 +8,7 @@ use lib.Dec.{lit<, leb, eqb}
 use lib.ListN.{length, getD, drop, length-append}
 use lib.Seq.{drop-at}
 use lib.IntN.{pos}
-use borrow.Author.Tests.{not-false, eqb-true, leb-false, ltb-true, ltb-false}
+use borrow.Author.Tests.{not-false, eqb-true, leb-true, leb-false, ltb-true, ltb-false}
 use Rattle.numbers.specs.Bytes.{unsignedAt}
 use Rattle.numbers.proofs.Signed.{same-number-true}
 use Rattle.numbers.specs.Sizes.{lawfulSize}
@@ -260,7 +260,7 @@ module _ {cs : List Command} (keeps : Keeps cs) {past : List Command} {c : Comma
   -- what post says of the list before it (rule 3.8)
   pub post-repeats : kindOfCommand c ≡ Post
       → (unsignedIn postPages (c .params) ≡ pages past)
-      × (unsignedIn postDepth (c .params) ≡ greatest past)
+      × (greatest past ≤ unsignedIn postDepth (c .params))
       × (unsignedIn postNum (c .params) ≡ num past)
       × (unsignedIn postDen (c .params) ≡ den past)
       × (unsignedIn postMag (c .params) ≡ mag past)
@@ -270,9 +270,9 @@ module _ {cs : List Command} (keeps : Keeps cs) {past : List Command} {c : Comma
       let from-num = and-eq-true-iff (eqb (unsignedIn postNum p) (num past)) _ .0 rules in
       let from-den = and-eq-true-iff (eqb (unsignedIn postDen p) (den past)) _ .0 (from-num .1) in
       let from-mag = and-eq-true-iff (eqb (unsignedIn postMag p) (mag past)) _ .0 (from-den .1) in
-      let from-depth = and-eq-true-iff (eqb (unsignedIn postDepth p) (greatest past)) _ .0 (from-mag .1) in (
+      let from-depth = and-eq-true-iff (leb (greatest past) (unsignedIn postDepth p)) _ .0 (from-mag .1) in (
         eqb-true _ _ (from-depth .1),
-        eqb-true _ _ (from-depth .0),
+        leb-true _ _ (from-depth .0),
         eqb-true _ _ (from-num .0),
         eqb-true _ _ (from-den .0),
         eqb-true _ _ (from-mag .0),

@@ -3,3 +3,4 @@ pub mod Calls
 pub mod Standing
 pub mod Fractions
 pub mod OfTheList
+pub mod StatedDepth

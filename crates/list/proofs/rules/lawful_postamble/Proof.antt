@@ -3,7 +3,7 @@ use mathlib.Core.Path.{ap}
 use Prim.Native.Nat.{ℕ}
 use lib.Dec.{eqb}
 use borrow.Author.Needs.{needs}
-use borrow.Author.Tests.{eq-eqb, ne-eqb}
+use borrow.Author.Tests.{eq-eqb, ne-eqb, lt-leb, le-leb}
 use Rattle.list.proofs.rules.lawful_postamble.Statement.{statement}
 use Rattle.list.proofs.rules.lawful_postamble.Tie as tie
 
@@ -29,13 +29,13 @@ unsigned-in-requires-4 : tie.Need-unsigned-in-requires-4
 unsigned-in-requires-4 c κs = search needs
 
 returns-4 : tie.Need-returns-4
-returns-4 c = rw (← c .before .before .before .before .before .before .before .unsigned-in .ensures .0, eq-eqb _ _ (c .before .before .before .before .before .before .if1 .left), ← c .before .before .before .before .before .unsigned-in2 .ensures .0, eq-eqb _ _ (c .before .before .before .before .if2 .left), ← c .before .before .before .unsigned-in3 .ensures .0, eq-eqb _ _ (c .before .before .if3 .left), ← c .before .unsigned-in4 .ensures .0, ne-eqb _ _ (c .if4 .taken))
+returns-4 c = rw (← c .before .before .before .before .before .before .before .unsigned-in .ensures .0, eq-eqb _ _ (c .before .before .before .before .before .before .if1 .left), ← c .before .before .before .before .before .unsigned-in2 .ensures .0, eq-eqb _ _ (c .before .before .before .before .if2 .left), ← c .before .before .before .unsigned-in3 .ensures .0, eq-eqb _ _ (c .before .before .if3 .left), ← c .before .unsigned-in4 .ensures .0, lt-leb _ _ (c .if4 .taken))
 
 unsigned-in-requires-5 : tie.Need-unsigned-in-requires-5
 unsigned-in-requires-5 c κs = search needs
 
 returns-5 : tie.Need-returns-5
-returns-5 c = rw (← c .before .before .before .before .before .before .before .before .unsigned-in .ensures .0, eq-eqb _ _ (c .before .before .before .before .before .before .before .if1 .left), ← c .before .before .before .before .before .before .unsigned-in2 .ensures .0, eq-eqb _ _ (c .before .before .before .before .before .if2 .left), ← c .before .before .before .before .unsigned-in3 .ensures .0, eq-eqb _ _ (c .before .before .before .if3 .left), ← c .before .before .unsigned-in4 .ensures .0, eq-eqb _ _ (c .before .if4 .left))
+returns-5 c = rw (← c .before .before .before .before .before .before .before .before .unsigned-in .ensures .0, eq-eqb _ _ (c .before .before .before .before .before .before .before .if1 .left), ← c .before .before .before .before .before .before .unsigned-in2 .ensures .0, eq-eqb _ _ (c .before .before .before .before .before .if2 .left), ← c .before .before .before .before .unsigned-in3 .ensures .0, eq-eqb _ _ (c .before .before .before .if3 .left), ← c .before .before .unsigned-in4 .ensures .0, le-leb _ _ (c .before .if4 .left))
     (ap (λ (stated : ℕ). eqb stated (c .before .before .before .before .before .before .before .before .before .before .args .pages)) (c .unsigned-in5 .ensures .0))
 
 pub lawful-postamble-spec : {M : Type 1} → statement M
