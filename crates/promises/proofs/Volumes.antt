@@ -118,6 +118,21 @@ deep (and-one {past = past} {c = c} kept allowed) = by (isA Push c) refl (isA Po
     by false e true h = omega arith
     by false e false h = h
 
+-- ---- what holds of every kind that may stand
+
+-- what is so of a kind where it may stand at a stage, only pre at the start; else what should be
+abbrev pub compared : {A : Type 0} → (Stage → Kind → A) → (Stage → Kind → A) → Stage → Kind → A
+compared does lawful at kind = cond (cond (isAtStart at) (is kind Pre) (mayStand at kind)) (does at kind) (lawful at kind)
+
+-- where all kinds that may stand at a stage do as they should, a command that keeps the rules does
+pub does-lawfully : {A : Type 0} (does lawful : Stage → Kind → A) → ((at : Stage) (kind : Kind) → compared does lawful at kind ≡ lawful at kind)
+    → {past : List Command} {c : Command} → Allowed past c → does (stage past) (kindOfCommand c) ≡ lawful (stage past) (kindOfCommand c)
+does-lawfully does lawful all {past} {c} allowed = rw (by (isAtStart (stage past)) refl) at (all (stage past) (kindOfCommand c))
+  where
+    by : (start : Bool) → isAtStart (stage past) ≡ start → cond start (isA Pre c) (mayStand (stage past) (kindOfCommand c)) ≡ true
+    by true e = first-pre past c allowed e .0
+    by false e = not-false (mayStand (stage past) (kindOfCommand c)) (allowed .standing)
+
 -- ---- what is after the first bop, and what is no longer at the start
 
 -- after the first bop
@@ -137,28 +152,20 @@ does at kind = (begun (stageAfter kind at), isAtStart (stageAfter kind at), is k
 abbrev lawful : Stage → Kind → Bool × Bool × Bool
 lawful at kind = (is kind Bop || begun at, false, false)
 
--- what is done where the kind may stand, only pre at the start, else as it should be
-abbrev compared : Stage → Kind → Bool × Bool × Bool
-compared at kind = cond (cond (isAtStart at) (is kind Pre) (mayStand at kind)) (does at kind) (lawful at kind)
-
 -- all kinds that may stand at a stage do as they should
-all-lawful : (at : Stage) (kind : Kind) → compared at kind ≡ lawful at kind
+all-lawful : (at : Stage) (kind : Kind) → compared does lawful at kind ≡ lawful at kind
 all-lawful at =
-    on-kinds (compared at) (lawful at) (elim at [ AtStart ↦ refl | BeforePages ↦ refl | OnPage ↦ refl | BetweenPages ↦ refl | AfterPost ↦ refl | AfterEnd ↦ refl ])
+    on-kinds (compared does lawful at) (lawful at) (elim at [ AtStart ↦ refl | BeforePages ↦ refl | OnPage ↦ refl | BetweenPages ↦ refl | AfterPost ↦ refl | AfterEnd ↦ refl ])
 
--- so a command that keeps the rules does as it should
-does-lawfully : {past : List Command} {c : Command} → Allowed past c → does (stage past) (kindOfCommand c) ≡ lawful (stage past) (kindOfCommand c)
-does-lawfully {past} {c} allowed = rw (by (isAtStart (stage past)) refl) at (all-lawful (stage past) (kindOfCommand c))
-  where
-    by : (start : Bool) → isAtStart (stage past) ≡ start → cond start (isA Pre c) (mayStand (stage past) (kindOfCommand c)) ≡ true
-    by true e = first-pre past c allowed e .0
-    by false e = not-false (mayStand (stage past) (kindOfCommand c)) (allowed .standing)
+-- so does a command that keeps the rules
+begins-lawfully : {past : List Command} {c : Command} → Allowed past c → does (stage past) (kindOfCommand c) ≡ lawful (stage past) (kindOfCommand c)
+begins-lawfully = does-lawfully does lawful all-lawful
 
 -- a page has begun only where one is counted
 some-page : {past : List Command} → PastKeeps past → begun (stage past) ≡ true → 1 ≤ pages past
 some-page no-more e = absurd (true≢false (sym e))
 some-page (and-one {past = past} {c = c} kept allowed) e =
-    by (isA Bop c) (sym (ap (λ (a : Bool × Bool × Bool). a .0) (does-lawfully allowed)) ∙ e) (some-page kept)
+    by (isA Bop c) (sym (ap (λ (a : Bool × Bool × Bool). a .0) (begins-lawfully allowed)) ∙ e) (some-page kept)
   where
     by : (bop : Bool) → (bop || begun (stage past)) ≡ true → (begun (stage past) ≡ true → 1 ≤ pages past) → 1 ≤ cond bop (pages past + 1) (pages past)
     by true e before = omega arith
@@ -177,8 +184,8 @@ one-page-at-least keeps = let (kept, end) = whole-kept no-more keeps in some-pag
 only-pre : {past : List Command} {c : Command} → PastKeeps past → Allowed past c → kindOfCommand c ≡ Pre → past ≡ []
 only-pre no-more allowed k = refl
 only-pre {past} (and-one kept earlier) allowed k =
-    let begun-yet : isAtStart (stage past) ≡ false = ap (λ (a : Bool × Bool × Bool). a .1) (does-lawfully earlier) in
-    absurd (true≢false (rw (k, begun-yet) at (ap (λ (a : Bool × Bool × Bool). a .2) (does-lawfully allowed))))
+    let begun-yet : isAtStart (stage past) ≡ false = ap (λ (a : Bool × Bool × Bool). a .1) (begins-lawfully earlier) in
+    absurd (true≢false (rw (k, begun-yet) at (ap (λ (a : Bool × Bool × Bool). a .2) (begins-lawfully allowed))))
 
 -- ---- the rules of one command
 
@@ -220,6 +227,27 @@ right {past} {c} allowed k =
       early = λ t. (not-there _ (before t .0), ltb-true (fontCount false past) 64 (before t .1));
     }
 
+-- what a post that keeps the rules says
+pub repeats : {past : List Command} {c : Command} → Allowed past c → kindOfCommand c ≡ Post
+    → (unsignedIn postPages (c .params) ≡ pages past)
+    × (greatest past ≤ unsignedIn postDepth (c .params))
+    × (unsignedIn postNum (c .params) ≡ num past)
+    × (unsignedIn postDen (c .params) ≡ den past)
+    × (unsignedIn postMag (c .params) ≡ mag past)
+repeats {past} {c} allowed k =
+    let p = c .params in
+    let rules : lawfulPostamble (num past) (den past) (mag past) (greatest past) (pages past) p ≡ true = holds _ (rw k at (allowed .postamble)) in
+    let from-num = and-eq-true-iff (eqb (unsignedIn postNum p) (num past)) _ .0 rules in
+    let from-den = and-eq-true-iff (eqb (unsignedIn postDen p) (den past)) _ .0 (from-num .1) in
+    let from-mag = and-eq-true-iff (eqb (unsignedIn postMag p) (mag past)) _ .0 (from-den .1) in
+    let from-depth = and-eq-true-iff (leb (greatest past) (unsignedIn postDepth p)) _ .0 (from-mag .1) in (
+      eqb-true _ _ (from-depth .1),
+      leb-true _ _ (from-depth .0),
+      eqb-true _ _ (from-num .0),
+      eqb-true _ _ (from-den .0),
+      eqb-true _ _ (from-mag .0),
+    )
+
 module _ {cs : List Command} (keeps : Keeps cs) {past : List Command} {c : Command} (there : StandsAmong cs past c) where
   -- the commands before it and it itself keep the rules
   pub kept-there : PastKeeps past × Allowed past c
@@ -257,26 +285,14 @@ module _ {cs : List Command} (keeps : Keeps cs) {past : List Command} {c : Comma
   pub depth-at-most-100 : (depth past ≤ 100) × (depth (c ∷ past) ≤ 100)
   depth-at-most-100 = let (kept, allowed) = kept-there in (deep kept, deep (and-one kept allowed))
 
-  -- what post says of the list before it (rule 3.8)
+  -- what post says of the list before it: s is not below the depth that was reached, the rest is the list's own (rule 3.8)
   pub post-repeats : kindOfCommand c ≡ Post
       → (unsignedIn postPages (c .params) ≡ pages past)
       × (greatest past ≤ unsignedIn postDepth (c .params))
       × (unsignedIn postNum (c .params) ≡ num past)
       × (unsignedIn postDen (c .params) ≡ den past)
       × (unsignedIn postMag (c .params) ≡ mag past)
-  post-repeats k =
-      let p = c .params in
-      let rules : lawfulPostamble (num past) (den past) (mag past) (greatest past) (pages past) p ≡ true = holds _ (rw k at (kept-there .1 .postamble)) in
-      let from-num = and-eq-true-iff (eqb (unsignedIn postNum p) (num past)) _ .0 rules in
-      let from-den = and-eq-true-iff (eqb (unsignedIn postDen p) (den past)) _ .0 (from-num .1) in
-      let from-mag = and-eq-true-iff (eqb (unsignedIn postMag p) (mag past)) _ .0 (from-den .1) in
-      let from-depth = and-eq-true-iff (leb (greatest past) (unsignedIn postDepth p)) _ .0 (from-mag .1) in (
-        eqb-true _ _ (from-depth .1),
-        leb-true _ _ (from-depth .0),
-        eqb-true _ _ (from-num .0),
-        eqb-true _ _ (from-den .0),
-        eqb-true _ _ (from-mag .0),
-      )
+  post-repeats k = repeats (kept-there .1) k
 
 -- ---- the printed example
 
