@@ -24,7 +24,9 @@ use Rattle.reader.specs.declared.Placed.the-variants as Placed
 use Rattle.reader.specs.Answers.{Accepts, Refuses}
 use Rattle.reader.proofs.check_file.Reads as check-file
 use Rattle.reader.proofs.place_page.Reads as place-page
-use Rattle.promises.proofs.OneToOne.{placed-one-to-one}
+use Rattle.promises.proofs.OneToOne.{file-one-to-one, placed-one-to-one}
+use Rattle.promises.proofs.StatedDepth.{other-s-judged}
+use Rattle.promises.specs.StatedDepth.{stating}
 use Rattle.promises.specs.Calls.{Arguments, file, table, resolution, page, area, meant, IsPrinted}
 
 -- ---- the check of a file
@@ -50,6 +52,11 @@ not-accepting-all κs file (FileChecked.Refused number place) x m p a = a
 pub not-constant : (κs κs′ : Lfts 1) → (file empty : _) → (r : FileChecked) → (x y : _) → now file ≡ M → now empty ≡ []
     → check-file.Post κs (file, tt) r x → check-file.Post κs′ (empty, tt) r y → ⊥
 not-constant κs κs′ file empty r x y m e p q = given-not-refused onePage fileEnds 0 (sym M-accepted ∙ ap judged (sym m) ∙ sym (p .0) ∙ q .0 ∙ ap judged e ∙ empty-refused)
+
+-- asking that s is the depth, or reporting s: M with s 1 is accepted, and its depth is 0 all the same
+pub not-by-the-stated-depth : (κs : Lfts 1) → (file : _) → (r : FileChecked) → (x : _) → now file ≡ stating 0 1 61 M → check-file.Post κs (file, tt) r x
+    → r ≡ FileChecked.Accepted 1 0 0 61
+not-by-the-stated-depth κs file r x m p = file-one-to-one r (FileChecked.Accepted 1 0 0 61) (p .0 ∙ ap judged m ∙ other-s-judged 0 1 M onePage M-accepted)
 
 -- ---- the placing of a page
 
