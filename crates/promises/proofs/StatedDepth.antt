@@ -17,6 +17,7 @@ use Rattle.refusals.specs.Numbers.{wrongPostamble}
 use Rattle.refusals.specs.Answer.{Answer, refused, given, refuseIf}
 use Rattle.numbers.specs.Bytes.{unsignedAt}
 use Rattle.numbers.specs.Signs.{fromTwos}
+use Rattle.numbers.proofs.Bytes.{unsigned-more, unsigned-one, unsigned-drop}
 use Rattle.commands.specs.declared.Kind.{Kind}
 use Rattle.commands.specs.declared.Kind.the-variants.{Push, Pop, Post, PostPost}
 use Rattle.commands.specs.Kinds.{kindOf, is}
@@ -247,8 +248,8 @@ module _ (high low : ℕ) where
 
   stating-beyond : (front rest : List ℕ) (skip at : ℕ) → at ≡ length front + skip → stating high low at (front ++ rest) ≡ front ++ stating high low skip rest
   stating-beyond front rest skip at e =
-      ap (λ (l : List ℕ). set l (at + 26) low) (set-beyond front rest (skip + 25) (at + 25) high (omega (arith, e)))
-      ∙ set-beyond front (set rest (skip + 25) high) (skip + 26) (at + 26) low (omega (arith, e))
+      ap (λ (l : List ℕ). set l (at + 1 + 24 + 1) low) (set-beyond front rest (skip + 1 + 24) (at + 1 + 24) high (omega (arith, e)))
+      ∙ set-beyond front (set rest (skip + 1 + 24) high) (skip + 1 + 24 + 1) (at + 1 + 24 + 1) low (omega (arith, e))
 
   -- what a list that goes on by the rules, up to its post and behind it, becomes
   record Restated (past cs : List Command) : Type 0 where
@@ -335,7 +336,7 @@ module _ (high low : ℕ) where
     written-so = other-list .forms ∙ ap (λ (at : ℕ). stating high low at (written cs)) skip-is ∙ ap (stating high low (found .post)) (list-of .1 .2)
 
     no-longer : length changed ≤ longestFile
-    no-longer = omega (arith, list-of .0, length-set (set file (found .post + 25) high) (found .post + 26) low, length-set file (found .post + 25) high)
+    no-longer = omega (arith, list-of .0, length-set (set file (found .post + 1 + 24) high) (found .post + 1 + 24 + 1) low, length-set file (found .post + 1 + 24) high)
 
     module _ (h : found .depth ≤ stated) where
       other-kept : Keeps (other-list .list) × Agree (pastOf cs) (pastOf (other-list .list))
@@ -379,20 +380,23 @@ module _ (high low : ℕ) where
 
 -- s of an accepted file is not below the depth that its commands reach: stated as it is, it would be refused (rule 3.8)
 pub stated-not-below : (file : List ℕ) (found : Summary) → judged file ≡ given found → found .depth ≤ statedDepth file (found .post)
-unfolding unsignedAt
-stated-not-below file found accepted = ⊎-elim (λ below. absurd (contradiction below)) (λ h. omega (arith, h, same-byte 0, same-byte 1)) (below-or-not (stated high low) (found .depth))
+stated-not-below file found accepted =
+    ⊎-elim (λ below. absurd (contradiction below)) (λ (h : found .depth ≤ stated high low). omega (arith, h, own-bytes)) (below-or-not (stated high low) (found .depth))
   where
+    at : ℕ
+    at = found .post + 1 + 24
+
     high : ℕ
-    high = getD file (found .post + 25) 0
+    high = getD file at 0
 
     low : ℕ
-    low = getD file (found .post + 26) 0
+    low = getD file (at + 1) 0
 
-    same-byte : (n : ℕ) → getD file (found .post + 25 + n) 0 ≡ getD file (found .post + (25 + n)) 0
-    same-byte n = ap (λ (i : ℕ). getD file i 0) (omega arith)
+    own-bytes : statedDepth file (found .post) ≡ stated high low
+    own-bytes = unsigned-drop file (found .post + 1) 24 2 ∙ unsigned-more file at 1 ∙ ap (λ (n : ℕ). n * 256 + low) (unsigned-one file at)
 
     itself : stating high low (found .post) file ≡ file
-    itself = ap (λ (l : List ℕ). set l (found .post + 26) low) (set-getD file (found .post + 25) 0) ∙ set-getD file (found .post + 26) 0
+    itself = ap (λ (l : List ℕ). set l (at + 1) low) (set-getD file at 0) ∙ set-getD file (at + 1) 0
 
     contradiction : stated high low < found .depth → ⊥
     contradiction below = refused-given (sym (ap judged itself) ∙ refused-so high low file found accepted below) accepted
