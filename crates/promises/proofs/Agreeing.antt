@@ -1,10 +1,9 @@
 -- Two lists of commands, the newest first, of which everything that a later command is judged or placed by is the same. Assumes nothing.
-use Prim.Native.Nat.{ℕ, _+_, max}
-use mathlib.Core.Path.{_≡_, refl, sym, ap, ap₂, _∙_}
+use Prim.Native.Nat.{ℕ}
+use mathlib.Core.Path.{_≡_, refl, sym, ap, _∙_}
 use mathlib.Core.Bool.{Bool, true, false, cond, _||_}
 use mathlib.Core.List.{List, [], _∷_}
 use lib.IntN.{ℤ}
-use lib.ListN.{length}
 use Rattle.refusals.specs.Numbers.{noSuchPage}
 use Rattle.refusals.specs.Answer.{Answer, refused, given, refuseIf, andThen}
 use Rattle.units.specs.declared.Ratio.{Ratio}
@@ -21,7 +20,6 @@ use Rattle.commands.specs.Commands.{Command, kindOfCommand}
 use Rattle.list.specs.Past.{isA, place, stage, depth, greatest, pages, lastBop, postPlace, unitIn, num, den, mag, selected, fontNumber, definitionOf, fontCount}
 use Rattle.list.specs.Rules.{fault, Allowed}
 use Rattle.list.specs.Lawful.{Follows, ends, goes}
-use Rattle.volume.specs.declared.Summary.{Summary}
 use Rattle.volume.specs.Judged.{summary}
 use Rattle.volume.specs.OfList.{upToLast}
 use Rattle.list.proofs.FaultLaws.{none-broken, all-kept}

@@ -54,9 +54,9 @@ pub not-constant : (κs κs′ : Lfts 1) → (file empty : _) → (r : FileCheck
 not-constant κs κs′ file empty r x y m e p q = given-not-refused onePage fileEnds 0 (sym M-accepted ∙ ap judged (sym m) ∙ sym (p .0) ∙ q .0 ∙ ap judged e ∙ empty-refused)
 
 -- asking that s is the depth, or reporting s: M with s 1 is accepted, and its depth is 0 all the same
-pub not-by-the-stated-depth : (κs : Lfts 1) → (file : _) → (r : FileChecked) → (x : _) → now file ≡ stating 0 1 61 M → check-file.Post κs (file, tt) r x
+pub not-by-the-stated-depth : (κs : Lfts 1) → (file : _) → (r : FileChecked) → (x : _) → now file ≡ stating 1 61 M → check-file.Post κs (file, tt) r x
     → r ≡ FileChecked.Accepted 1 0 0 61
-not-by-the-stated-depth κs file r x m p = file-one-to-one r (FileChecked.Accepted 1 0 0 61) (p .0 ∙ ap judged m ∙ other-s-judged 0 1 M onePage M-accepted)
+not-by-the-stated-depth κs file r x m p = file-one-to-one r (FileChecked.Accepted 1 0 0 61) (p .0 ∙ ap judged m ∙ other-s-judged 1 M onePage M-accepted)
 
 -- ---- the placing of a page
 
