@@ -33,7 +33,8 @@
         7   a font definition that breaks the rules for fonts, or one that is not repeated after post
         8   a font that nothing has defined so far, or a character while the page has selected no font
         9   a pointer of bop, post or post_post that leads elsewhere
-       10   what post repeats or counts is not what the file has, or post_post's identification is not 2
+       10   what post repeats is not what the file has, it counts other pages, or states a depth below the one that is reached; or
+            post_post's identification is not 2
        11   at the end, a byte that is not 223, or three 223s or fewer
        12   a resolution of 0, or above 10,000
        13   pixels per unit, num x mag x resolution / (den x 254,000,000): above 1/2, or with a numerator above 1,073,741,823 in
@@ -79,8 +80,8 @@ extern "C" {
    more). */
 uint32_t hurlyburn_read_command(const uint8_t *file, size_t file_length, size_t at, int64_t *answer, size_t answer_length);
 
-/* The check of a whole DVI file. answer: how many pages it has and how many fonts, the depth that its stack reaches, where post
-   stands. Refusals 1 to 11. */
+/* The check of a whole DVI file. answer: how many pages it has and how many fonts, the depth that its stack reaches (post may
+   state more), where post stands. Refusals 1 to 11. */
 uint32_t hurlyburn_check_file(const uint8_t *file, size_t file_length, int64_t *answer, size_t answer_length);
 
 /* The placing of one page (counted from 1) of a DVI file, by a width table, at a resolution in dots per inch. The page's records are
