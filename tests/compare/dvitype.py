@@ -232,13 +232,13 @@ def unlike(answer, rows):
         fields = given[at].split(" ") if at < len(given) else []
         wanted = rows[at] if at < len(rows) else []
         if len(fields) != len(wanted) or any(b is not None and a != str(b) for a, b in zip(fields, wanted)):
-            return f"row {at + 1}: {' '.join(fields) or '(none)'}, DVItype: {' '.join('?' if b is None else str(b) for b in wanted) or '(none)'}"
+            return f"row {at + 1}: {' '.join(fields) or '(none)'}, but it must be: {' '.join('?' if b is None else str(b) for b in wanted) or '(none)'}"
     return None
 
 
 class Testimony:
-    """What DVItype says of a file: how many pages and fonts, the depth and the place of *post*; widths; pages with h and v, and for each R
-    the pages with hh, vv and sides in pixels."""
+    """What DVItype says of a file: how many pages and fonts, the depth reached and the place of *post*; widths; pages with h and v, and for
+    each R the pages with hh, vv and sides in pixels."""
 
     def __init__(self, data, rows, volume, widths, pages, placed):
         self.data, self.rows, self.volume, self.widths, self.pages, self.placed = data, rows, volume, widths, pages, placed
