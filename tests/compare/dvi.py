@@ -227,6 +227,12 @@ def post_place(commands):
     return next(place for command, place in zip(commands, places_of(commands)) if command[0] == POST)
 
 
+def summary(file):
+    """What the check answers about a file that keeps the rules: pages, fonts, the depth reached, the place of *post*."""
+    commands, _ = commands_of(file)
+    return [page_count(commands), len(fonts_of(commands)), greatest_depth(commands), post_place(commands)]
+
+
 def stated_depth(file):
     """The s in *post*."""
     at = post_place(commands_of(file)[0]) + 25

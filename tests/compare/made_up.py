@@ -433,10 +433,9 @@ def random_pages(group, rng, count):
         resolutions = rng.sample([1, 10, 50, 72, 99, 100, 101, 199, 200, 201, 300, 600, 1200, 2400, 10_000], 2)
         table = group.keep(table_for(rng, fonts, min(unit_of(units, resolutions[0]), Fraction(1, 2)), rng.choice([1, 0.8])))
         file = group.keep(data)
-        commands, _ = dvi.commands_of(data)
         line = b"check %s" % file
         group.ask(line)
-        group.expect(line, [["accepted", dvi.page_count(commands), len(fonts), dvi.greatest_depth(commands), dvi.post_place(commands)]])
+        group.expect(line, [["accepted", *dvi.summary(data)]])
         group.lines += [place(file, table, r, n, rng.choice([WHOLE_AREA, WHOLE_AREA, rng.randrange(2000)]))
                         for r in resolutions for n in (1, 2)]
 

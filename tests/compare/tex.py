@@ -166,17 +166,17 @@ def groups(gather, rng, folder, long):
     print(f"DVItype: {counts[2]} files, h and v of {counts[0]} characters and rules, {counts[1]} numbers hh or vv", flush=True)
 
 
-def witness_others(gather, paths):
-    """DVItype's word on files that others made, as far as their fonts are at hand."""
+def witness_others(gather, lawful, others):
+    """DVItype's word on files that others made, as far as their fonts are at hand: those that are known to keep the rules, and any others."""
     counts, reasons = [0, 0, 0], {}
-    for path in paths:
+    for path in lawful + others:
         try:
             testimony = hear(path.read_bytes(), OTHERS_RESOLUTIONS)
         except NoWitness as reason:
             reasons[str(reason)] = reasons.get(str(reason), 0) + 1
             continue
         with gather(f"DVItype: {path.name}") as group:
-            for at, count in enumerate(testimony.ask(group, refusable=True)):
+            for at, count in enumerate(testimony.ask(group, refusable=path not in lawful)):
                 counts[at] += count
             counts[2] += 1
     print(f"DVItype: {counts[2]} published files, h and v of {counts[0]} characters and rules, {counts[1]} numbers hh or vv; not asked about:",
