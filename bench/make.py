@@ -31,7 +31,7 @@ big = dvi.big
 
 
 class Volume:
-    """A lawful file that grows page by page; pointers, depth and page count are kept right."""
+    """A lawful file that grows page by page; pointers, stated depth and page count are kept right."""
 
     def __init__(self, units=dvi.TEX_UNITS, fonts=()):
         self.units, self.fonts = units, list(fonts)
@@ -40,7 +40,7 @@ class Volume:
         self.last_bop, self.pages, self.depth = -1, 0, 0
 
     def add(self, inside, depth=0, counts=bytes(40)):
-        """A page: the bytes between bop and eop, and the greatest depth reached there."""
+        """A page: the bytes between bop and eop, and the greatest depth reached there or, as a file may state, more."""
         page = bytes([dvi.BOP]) + counts + big(self.last_bop, 4) + inside + bytes([dvi.EOP])
         self.last_bop, self.pages, self.depth = self.length, self.pages + 1, max(self.depth, depth)
         self.parts.append(page)
@@ -175,8 +175,9 @@ def one_byte_commands(rng, most):
 
 
 def characters_only(most):
+    """Characters without a push; post states a depth of 2, as where TeX counted pushes and then dropped them."""
     font = dvi.Font(0, 1, 655_360)
-    return filled(lambda room: (bytes([dvi.FNT_NUM_0]) + bytes(i % 128 for i in range(128)) * ((room - 1) // 128), 0), most, [font])
+    return filled(lambda room: (bytes([dvi.FNT_NUM_0]) + bytes(i % 128 for i in range(128)) * ((room - 1) // 128), 2), most, [font])
 
 
 def pushes_and_pops(most):

@@ -261,8 +261,9 @@ static struct refusal scan(const uint8_t *file, size_t length, uint32_t wanted_p
                 return refuse(5, at);
             if (unsigned4(parameters) != bop)
                 return refuse(9, at);
+            /* the depth may be stated greater than it is: TeX counts pushes that it then drops */
             if (unsigned4(parameters + 4) != num || unsigned4(parameters + 8) != den
-                || unsigned4(parameters + 12) != mag || unsigned2(parameters + 24) != deepest
+                || unsigned4(parameters + 12) != mag || unsigned2(parameters + 24) < deepest
                 || unsigned2(parameters + 26) != pages)
                 return refuse(10, at);
             stage = AFTER_POST;

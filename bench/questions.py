@@ -29,6 +29,9 @@ class Group:
     def ask(self, *lines):
         self.lines += lines
 
+    def expect(self, line, rows, refusable=False):
+        """tests/compare holds its programs to these; here the two readers are held to each other."""
+
     def jobs(self, name):
         """Those lines that an entry of the bench answers."""
         for line in self.lines:

@@ -77,6 +77,7 @@ def damaged_at(keep, data, post):
         (changed(middle, 250), b"refused 3 at %d" % middle),
         (changed(middle, dvi.POP), b"refused 5 at %d" % middle),
         (changed(post + 4, data[post + 4] ^ 1), b"refused 9 at %d" % post),
+        (changed(post + 25, 255), b"accepted 3 64 0 %d" % post),  # no damage: s may be above the depth
         (changed(post + 28, data[post + 28] ^ 1), b"refused 10 at %d" % post),
         (changed(LONGEST - 1, 0), b"refused 11 at %d" % (LONGEST - 1)),
         (b"check %s" % keep(data[:-1]), b"refused 11 at %d" % (LONGEST - 1)),

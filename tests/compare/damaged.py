@@ -19,7 +19,8 @@ def small_bases():
     fonts = volume(TEX_UNITS, [two.definition(2), NOTHING, *page([one.definition(), select(200, 1), b"B", select(1), b"C"]), NOTHING,
                                *page([select(1, 4), character(66, 1, dvi.PUT1)])], after=[one.definition(3), NOTHING, two.definition()],
                    comment=b"c", tail=6)
-    return [plain, letters, nested, fonts]
+    left_out = volume(PLAIN_UNITS, page([PUSHED, right(5), POPPED, MARK]), stated=3)  # as TeX leaves it where it dropped the two inner pushes
+    return [plain, letters, nested, fonts, left_out]
 
 
 def intruders(commands):
@@ -58,7 +59,7 @@ def field_changes(command, at):
         return beside(command, 41, 4, -1, 0, at, 15) + beside(command, 1, 4, -FURTHEST - 1)
     if opcode == POST:
         changed = [c for start in (1, 5, 9, 13) for c in beside(command, start, 4, -1, 0, at)]
-        changed += [c for start in (25, 27) for c in beside(command, start, 2, 0, -1)]
+        changed += beside(command, 25, 2, 0, 101, 256, -1) + beside(command, 27, 2, 0, -1)
         return changed + beside(command, 17, 4) + beside(command, 21, 4)
     if opcode == POST_POST:
         return beside(command, 1, 4, -1, 0, at) + beside(command, 5, 1, 0)

@@ -106,19 +106,21 @@ def page(commands, counts=(1, 0, 0, 0, 0, 0, 0, 0, 0, 0)):
     return [bop(counts), *commands, bytes([EOP])]
 
 
-def volume(units, body, fonts=(), comment=b"", tail=4, after=None):
+def volume(units, body, fonts=(), comment=b"", tail=4, after=None, stated=0):
     """A whole file: *pre*, the body (pages and what stands between), *post*, definitions, *post_post*, tail.
 
-    `after` are the commands between *post* and *post_post*; if none are given, the definitions of `fonts`.
+    `after` are the commands between *post* and *post_post*; if none are given, the definitions of `fonts`. The s in *post* is `stated`,
+    or the greatest depth where that is more.
     """
     repeated = [font.definition() for font in fonts] if after is None else list(after)
-    post = bytes([POST]) + bytes(16) + big(1000, 4) + big(1000, 4) + bytes(4)
+    post = bytes([POST]) + bytes(16) + big(1000, 4) + big(1000, 4) + big(stated, 2) + bytes(2)
     last = [bytes([POST_POST]) + bytes(4) + bytes([2]), bytes([TAIL]) * tail]
     return b"".join(mended([pre(units, comment), *body, post, *repeated, *last]))
 
 
 def mended(commands):
-    """The same commands with every pointer right, and num, den, mag, depth and page count in *post*."""
+    """The same commands with every pointer right, and num, den, mag, depth and page count in *post*. Where *post* states more than the
+    greatest depth, which it may, that stays."""
     result, place, last_bop, post, units = [], 0, -1, 0, bytes(12)
     depth = deepest = pages = 0
     for command in commands:
@@ -135,7 +137,8 @@ def mended(commands):
             depth = max(depth - 1, 0)
         elif opcode == POST and len(command) == 29:
             post = place
-            command = bytes([POST]) + big(last_bop, 4) + units + command[17:25] + big(deepest, 2) + big(pages, 2)
+            stated = max(deepest, unsigned(command[25:27]))
+            command = bytes([POST]) + big(last_bop, 4) + units + command[17:25] + big(stated, 2) + big(pages, 2)
         elif opcode == POST_POST and len(command) == 6:
             command = bytes([POST_POST]) + big(post, 4) + command[5:]
         result.append(command)
@@ -209,3 +212,34 @@ def fonts_of(commands):
 
 def page_count(commands):
     return sum(1 for command in commands if command[0] == BOP)
+
+
+def greatest_depth(commands):
+    """The most pushes open at a time, whatever *post* states."""
+    depth = deepest = 0
+    for command in commands:
+        depth += (command[0] == PUSH) - (command[0] == POP)
+        deepest = max(deepest, depth)
+    return deepest
+
+
+def post_place(commands):
+    return next(place for command, place in zip(commands, places_of(commands)) if command[0] == POST)
+
+
+def summary(file):
+    """What the check answers about a file that keeps the rules: pages, fonts, the depth reached, the place of *post*."""
+    commands, _ = commands_of(file)
+    return [page_count(commands), len(fonts_of(commands)), greatest_depth(commands), post_place(commands)]
+
+
+def stated_depth(file):
+    """The s in *post*."""
+    at = post_place(commands_of(file)[0]) + 25
+    return unsigned(file[at : at + 2])
+
+
+def restated(file, s):
+    """The file with this s in *post*."""
+    at = post_place(commands_of(file)[0]) + 25
+    return file[:at] + big(s, 2) + file[at + 2 :]

@@ -19,7 +19,7 @@ from tables import MOST_RECORDS, record
 MOST_IN_AREA = WHOLE_AREA // 20
 
 COMMAND = re.compile(r"(\d+): ([a-z]+)(\d*)(.*)")
-LEVEL = re.compile(r"level \d+:\(h=(-?\d+),v=(-?\d+),.*,hh=(-?\d+),vv=(-?\d+)\)")
+LEVEL = re.compile(r"level (\d+):\(h=(-?\d+),v=(-?\d+),.*,hh=(-?\d+),vv=(-?\d+)\)")
 MOVE = re.compile(r" ([hv]):=-?\d+([+-]\d+)=(-?\d+), (?:hh|vv):=(-?\d+)")
 RULE = re.compile(r" height (-?\d+), width (-?\d+) (?:\((\d+)x(\d+) pixels\)|\(invisible\))")
 CODE = re.compile(r" (-?\d+)")
@@ -66,8 +66,8 @@ class Witness:
     def __init__(self, scales):
         self.scales = scales  # by font number
         self.pages, self.widths = [], {}  # widths by font number and code mod 256, as DVItype adds them to h
-        self.post = self.depth = self.page_count = None
-        self.font_count = 0
+        self.post = self.stated_depth = self.page_count = None
+        self.font_count = self.depth = 0
         self.begin()
 
     def begin(self):
@@ -80,8 +80,12 @@ class Witness:
                 self.pages.append(Page())
                 self.begin()
             elif level := LEVEL.match(line):
-                self.at = {"h": int(level[1]), "v": int(level[2])}
-                self.pixels = {"h": int(level[3]), "v": int(level[4])}
+                self.at = {"h": int(level[2]), "v": int(level[3])}
+                self.pixels = {"h": int(level[4]), "v": int(level[5])}
+                if self.last == "push":
+                    # Not DVItype's maxstackdepth, which is the s that the file states and may be above the depth: its own count of the levels.
+                    # Behind a push it names the level that was saved, the outermost 0.
+                    self.depth = max(self.depth, int(level[1]) + 1)
             elif not self.pages:
                 self.heading(line)
             elif not line.startswith("["):  # a line with a bracket repeats the text set
@@ -99,7 +103,7 @@ class Witness:
         if found := POSTAMBLE.match(line):
             self.post = int(found[1])
         elif found := TOTALS.match(line):
-            self.depth, self.page_count = int(found[1]), int(found[2])
+            self.stated_depth, self.page_count = int(found[1]), int(found[2])
         elif LOADED.match(line):
             self.font_count += 1
 
@@ -232,13 +236,13 @@ def unlike(answer, rows):
         fields = given[at].split(" ") if at < len(given) else []
         wanted = rows[at] if at < len(rows) else []
         if len(fields) != len(wanted) or any(b is not None and a != str(b) for a, b in zip(fields, wanted)):
-            return f"row {at + 1}: {' '.join(fields) or '(none)'}, DVItype: {' '.join('?' if b is None else str(b) for b in wanted) or '(none)'}"
+            return f"row {at + 1}: {' '.join(fields) or '(none)'}, but it must be: {' '.join('?' if b is None else str(b) for b in wanted) or '(none)'}"
     return None
 
 
 class Testimony:
-    """What DVItype says of a file: how many pages and fonts, the depth and the place of *post*; widths; pages with h and v, and for each R
-    the pages with hh, vv and sides in pixels."""
+    """What DVItype says of a file: how many pages and fonts, the depth reached and the place of *post*; widths; pages with h and v, and for
+    each R the pages with hh, vv and sides in pixels."""
 
     def __init__(self, data, rows, volume, widths, pages, placed):
         self.data, self.rows, self.volume, self.widths, self.pages, self.placed = data, rows, volume, widths, pages, placed
@@ -330,6 +334,8 @@ def hear(data, resolutions, used_alone=False):
     first = next(iter(heard.values()))
     if len(first.pages) != dvi.page_count(commands):
         raise NoWitness("DVItype does not read all its pages")
+    if first.depth > first.stated_depth:
+        raise NoWitness("it goes deeper than it states")
     used = {(mark.font, mark.value % 256) for page in first.pages for mark in page.marks if mark.kind == "c"}
     rows = None if used_alone else true_widths(fonts)
     if rows is None or len(rows) > MOST_RECORDS:

@@ -2,7 +2,7 @@
 
 NAME.dvi is what TeX wrote, NAME.widths the width table of its characters (escapements 0), NAME.typed what DVItype said:
 
-    volume PAGES FONTS DEPTH POST                the whole file
+    volume PAGES FONTS DEPTH POST                the whole file; DEPTH by the levels that it counted, whatever the file states
     dpi R R ...                                  the resolutions of the columns below
     w FONT CODE WIDTH                            what setting this character adds to h
     page MISSING SPECIALS                        a page begins; its marks follow in order

@@ -179,12 +179,53 @@ def deepest(group, rng):
             file, empty = group.keep(data), group.keep(b"")
             group.ask(b"check %s" % file)
             group.lines += [place(file, empty, r, n) for r in RESOLUTIONS for n in (1, 2, 3)]
-            for wrong in (-1, 1):  # s in post one off
-                parts, tail = dvi.commands_of(data)
-                index = next(i for i, c in enumerate(parts) if c[0] == dvi.POST)
-                s = dvi.unsigned(parts[index][25:27]) + wrong
-                parts[index] = parts[index][:25] + big(s, 2) + parts[index][27:]
-                group.ask(b"check %s" % group.keep(b"".join(parts) + tail))
+            for off in (-1, 1):  # s in post too small; above the depth, which it may be
+                group.ask(b"check %s" % group.keep(dvi.restated(data, dvi.stated_depth(data) + off)))
+
+
+def nested(levels, innermost=()):
+    """A mark inside so many levels, each 10 further right than the one around it, and a mark outside of them."""
+    return [*[PUSHED, right(10)] * levels, *innermost, MARK, *[POPPED] * levels, MARK]
+
+
+def stated_depths(group, rng):
+    """Every s in *post* that is worth a try, for several depths: too small it is refused, and otherwise it changes no answer; the depth
+    answered is the one reached. TeX counts a *push* that its *pop* follows at once before it leaves both out: here such pairs stand at the
+    greatest depth, or are left out. The answers are worked out from the rules."""
+    font = Font(7, 7, 1000, area=b"a:", name=b"bc")
+    empty = group.keep(b"")
+
+    def built(pages):
+        body = [font.definition(), *(c for levels, innermost in pages for c in page(nested(levels, innermost)))]
+        return volume(PLAIN_UNITS, body, [font])
+
+    def ask(line, answer):
+        group.ask(line)
+        group.expect(line, answer)
+
+    for depth in (0, 1, 2, 99, 100):
+        three = [(depth, []), (depth // 2, []), (0, [])]  # the deepest page is the first, the last, the middle one
+        shapes = [(three[turn:] + three[:turn], depth) for turn in range(3)]
+        if depth:
+            shapes += [([(depth - 1, [PUSHED, POPPED] * 3), (depth - 1, [])], depth), ([(depth - 1, [])] * 2, depth - 1)]
+        for pages, reached in shapes:
+            data = built(pages)
+            post = len(data) - 4 - 6 - len(font.definition()) - 29
+            for s in sorted({0, depth - 1, depth, depth + 1, 100, 101, 255, 256, 32_768, 65_535} - {-1}):
+                file = group.keep(dvi.restated(data, s))
+                refused = [["refused", 10, "at", post]] if s < reached else None
+                ask(b"check %s" % file, refused or [["accepted", len(pages), 1, reached, post]])
+                where, spelled = naming(file, 7)  # the definition stands behind the 15 bytes of pre, the name behind 16 of its own
+                ask(where, refused or [["name", 31, 35]])
+                ask(spelled, refused or [["spelled", b"a:bc".hex()]])
+                for number, (levels, _) in enumerate(pages, 1):
+                    # K is 3/10 and no font is selected, so every move is far: three pixels a level.
+                    marks = [["r", number, 0, 3 * levels, 0, 1, 1], ["r", number, 0, 0, 0, 1, 1]]
+                    ask(place(file, empty, 300, number), refused or [*marks, ["end", 2, 0, 0]])
+                ask(place(file, empty, 300, len(pages) + 1), refused or [["refused", 15, "at", 0]])
+    for s in (100, 101, 65_535):  # a greater s makes no room for a push at depth 100
+        file = group.keep(dvi.restated(built([(101, [])]), s))
+        ask(b"check %s" % file, [["refused", 6, "at", 15 + len(font.definition()) + 45 + 100 * len(PUSHED + right(10))]])
 
 
 def codes(group, rng):
@@ -381,7 +422,8 @@ def random_volume(rng, length):
                      tuple(rng.randrange(-9, 99) for _ in range(10)))
         body += [NOTHING] * rng.choice([0, 0, 2])
     after = [font.definition(rng.choice([1, 2, 3, 4])) for font in rng.sample(fonts, len(fonts))]
-    return units, fonts, volume(units, body, after=after, comment=bytes(rng.randrange(20)), tail=rng.randrange(4, 9))
+    stated = rng.choice([0, 0, 0, 0, 1, 3, 100, 101, 256, 65_535])
+    return units, fonts, volume(units, body, after=after, comment=bytes(rng.randrange(20)), tail=rng.randrange(4, 9), stated=stated)
 
 
 def random_pages(group, rng, count):
@@ -391,15 +433,17 @@ def random_pages(group, rng, count):
         resolutions = rng.sample([1, 10, 50, 72, 99, 100, 101, 199, 200, 201, 300, 600, 1200, 2400, 10_000], 2)
         table = group.keep(table_for(rng, fonts, min(unit_of(units, resolutions[0]), Fraction(1, 2)), rng.choice([1, 0.8])))
         file = group.keep(data)
-        group.ask(b"check %s" % file)
+        line = b"check %s" % file
+        group.ask(line)
+        group.expect(line, [["accepted", *dvi.summary(data)]])
         group.lines += [place(file, table, r, n, rng.choice([WHOLE_AREA, WHOLE_AREA, rng.randrange(2000)]))
                         for r in resolutions for n in (1, 2)]
 
 
 def groups(gather, rng, long):
     """All of them, one group a notion; the random ones many times in the long form."""
-    for make in (every_opcode, near_and_far, edge_of_range, many_fonts, deepest, codes, order_of_refusals, tables_right_and_wrong,
-                 greatest_sizes):
+    for make in (every_opcode, near_and_far, edge_of_range, many_fonts, deepest, stated_depths, codes, order_of_refusals,
+                 tables_right_and_wrong, greatest_sizes):
         with gather("made up: " + make.__name__.replace("_", " ")) as group:
             make(group, rng)
     for turn in range(100 if long else 2):

@@ -40,8 +40,8 @@ def ask_about(group, rng, data):
         group.ask(b"look %s %d %d %d" % (table, font.check_sum, font.scale, rng.randrange(-300, 300)))
 
 
-def groups(gather, rng, paths):
-    """One group a file."""
+def groups(gather, rng, paths, lawful=False):
+    """One group a file. Of files that are all known to keep the rules the check's whole answer is known too."""
     for path in paths:
         with gather(f"published: {path.name}") as group:
             data = path.read_bytes()
@@ -50,3 +50,5 @@ def groups(gather, rng, paths):
                 group.ask(b"check %s" % file, *naming(file, 0), b"read %s 0" % file, place(file, group.keep(b""), 300))
             else:
                 ask_about(group, rng, data)
+                if lawful:
+                    group.expect(b"check %s" % group.keep(data), [["accepted", *dvi.summary(data)]])
