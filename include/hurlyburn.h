@@ -33,8 +33,8 @@
         7   a font definition that breaks the rules for fonts, or one that is not repeated after post
         8   a font that nothing has defined so far, or a character while the page has selected no font
         9   a pointer of bop, post or post_post that leads elsewhere
-       10   what post repeats is not what the file has, it counts other pages, or states a depth below the one that is reached; or
-            post_post's identification is not 2
+       10   post repeats other units than those of pre, counts other pages than there are, or states a depth below the one that
+            is reached; or post_post's identification is not 2
        11   at the end, a byte that is not 223, or three 223s or fewer
        12   a resolution of 0, or above 10,000
        13   pixels per unit, num x mag x resolution / (den x 254,000,000): above 1/2, or with a numerator above 1,073,741,823 in

@@ -6,10 +6,10 @@ use Prim.Native.Nat.{ℕ, _+_, _-_, _≤_, _<_}
 use native.Mathlib.Omega.{arith}
 use lib.Dec.{eqb}
 use lib.ListN.{length, drop}
-use borrow.Author.Tests.{ltb-false, not-false, eqb-true, eqb-false, ne-eqb}
+use borrow.Author.Tests.{ltb-false, eqb-true, eqb-false, ne-eqb}
 use Rattle.refusals.specs.Answer.{given}
 use Rattle.commands.specs.declared.Kind.{Kind}
-use Rattle.commands.specs.declared.Kind.the-variants.{Bop, Eop, Push, Pop, Pre}
+use Rattle.commands.specs.declared.Kind.the-variants.{Bop, Eop, Push, Pop}
 use Rattle.commands.specs.Kinds.{is}
 use Rattle.commands.specs.Commands.{Command, kindOfCommand}
 use Rattle.commands.proofs.Fronts.{front-sound}
@@ -19,7 +19,7 @@ use Rattle.list.specs.declared.Stage.the-variants.{AtStart, BeforePages, OnPage
 use Rattle.volume.specs.declared.Summary.{Summary}
 use Rattle.list.specs.Past.{isA, place, stage, stageAfter, depth, pages}
 use Rattle.list.specs.Steps.{bopOf}
-use Rattle.list.specs.Rules.{isAtStart, mayStand, wrongAtDepth, Allowed}
+use Rattle.list.specs.Rules.{wrongAtDepth, Allowed}
 use Rattle.volume.specs.Judged.{judged}
 use Rattle.volume.specs.History.{history}
 use Rattle.list.proofs.Arms.{on-kinds, is-kind}
@@ -27,14 +27,11 @@ use Rattle.volume.proofs.History.{history-counts}
 use Rattle.volume.proofs.Going.{after-command}
 use Rattle.page.specs.PageList.{Located, isOnPage, isOn, pageOf}
 use Rattle.page.specs.Steps.{Runs, ends, onward}
+use Rattle.list.proofs.Standing.{compared, does-lawfully}
 use Rattle.page.specs.Trace.{Trace, start, more}
-use Rattle.page.proofs.Traces.{first-pre, accepted-trace, accepted-end}
+use Rattle.page.proofs.Traces.{accepted-trace, accepted-end}
 
 -- ---- what may stand, by stage and kind
-
--- a kind may stand at a stage, only pre at the start
-abbrev stands : Stage → Kind → Bool
-stands at kind = cond (isAtStart at) (is kind Pre) (mayStand at kind)
 
 -- what a kind does at a stage: whether a page is open after it, whether it is a bop on a page, whether it changes the depth outside pages
 abbrev does : Stage → Kind → Bool × Bool × Bool
@@ -44,45 +41,29 @@ does at kind = (isOnPage (stageAfter kind at), is kind Bop && isOnPage at, not (
 abbrev lawful : Stage → Kind → Bool × Bool × Bool
 lawful at kind = (cond (is kind Bop) true (cond (is kind Eop) false (isOnPage at)), false, false)
 
--- what is done where the kind may stand, else as it should be
-abbrev compared : Stage → Kind → Bool × Bool × Bool
-compared at kind = cond (stands at kind) (does at kind) (lawful at kind)
-
 -- all kinds that may stand at a stage do as they should
-all-lawful : (at : Stage) (kind : Kind) → compared at kind ≡ lawful at kind
-all-lawful AtStart = on-kinds (compared AtStart) (lawful AtStart) refl
-all-lawful BeforePages = on-kinds (compared BeforePages) (lawful BeforePages) refl
-all-lawful OnPage = on-kinds (compared OnPage) (lawful OnPage) refl
-all-lawful BetweenPages = on-kinds (compared BetweenPages) (lawful BetweenPages) refl
-all-lawful AfterPost = on-kinds (compared AfterPost) (lawful AfterPost) refl
-all-lawful AfterEnd = on-kinds (compared AfterEnd) (lawful AfterEnd) refl
+all-lawful : (at : Stage) (kind : Kind) → compared does lawful at kind ≡ lawful at kind
+all-lawful at =
+    on-kinds (compared does lawful at) (lawful at) (elim at [ AtStart ↦ refl | BeforePages ↦ refl | OnPage ↦ refl | BetweenPages ↦ refl | AfterPost ↦ refl | AfterEnd ↦ refl ])
 
 -- ---- one command
 
 module _ (past : List Command) (c : Command) (allowed : Allowed past c) where
-  -- a command that keeps the rules may stand where it does
-  stands-there : stands (stage past) (kindOfCommand c) ≡ true
-  stands-there = by (isAtStart (stage past)) refl
-    where
-      by : (first : Bool) → isAtStart (stage past) ≡ first → cond first (isA Pre c) (mayStand (stage past) (kindOfCommand c)) ≡ true
-      by true e = first-pre past c allowed e .0
-      by false e = not-false (mayStand (stage past) (kindOfCommand c)) (allowed .standing)
-
-  -- so it does as it should
-  does-lawfully : does (stage past) (kindOfCommand c) ≡ lawful (stage past) (kindOfCommand c)
-  does-lawfully = rw stands-there at (all-lawful (stage past) (kindOfCommand c))
+  -- a command that keeps the rules does as it should
+  so : does (stage past) (kindOfCommand c) ≡ lawful (stage past) (kindOfCommand c)
+  so = does-lawfully does lawful all-lawful allowed
 
   -- only bop begins a page, only eop ends one
   page-after : isOnPage (stage (c ∷ past)) ≡ cond (isA Bop c) true (cond (isA Eop c) false (isOnPage (stage past)))
-  page-after = ap (λ (a : Bool × Bool × Bool). a .0) does-lawfully
+  page-after = ap (λ (a : Bool × Bool × Bool). a .0) so
 
   -- bop stands outside pages
   bop-outside : isA Bop c ≡ true → isOnPage (stage past) ≡ false
-  bop-outside e = rw e at (ap (λ (a : Bool × Bool × Bool). a .1) does-lawfully)
+  bop-outside e = rw e at (ap (λ (a : Bool × Bool × Bool). a .1) so)
 
   -- outside pages the depth does not change
   depth-stays : isOnPage (stage past) ≡ false → depth (c ∷ past) ≡ depth past
-  depth-stays e = by (isA Push c) (isA Pop c) (rw e at (ap (λ (a : Bool × Bool × Bool). a .2) does-lawfully))
+  depth-stays e = by (isA Push c) (isA Pop c) (rw e at (ap (λ (a : Bool × Bool × Bool). a .2) so))
     where
       by : (push pop : Bool) → (push || pop) ≡ false → cond push (depth past + 1) (cond pop (depth past - 1) (depth past)) ≡ depth past
       by true pop e = absurd (true≢false e)

@@ -33,6 +33,7 @@ use Rattle.volume.specs.History.{historyFrom, history}
 use Rattle.list.proofs.Arms.{is-kind}
 use Rattle.list.proofs.FaultLaws.{all-kept}
 use Rattle.list.proofs.FontTables.{defines-kind}
+use Rattle.list.proofs.Standing.{first-pre}
 use Rattle.volume.proofs.Turns.{judged-short, judged-cut, judged-undefined, judged-faulty, judged-onward, history-start, history-last, history-onward, Turn, at-cut, at-undefined, at-fault, at-last, onward, turn}
 use Rattle.volume.proofs.Accepts.{refused-given, accepts-lawful}
 use Rattle.volume.proofs.Going.{after-command}
@@ -172,13 +173,7 @@ only-first AfterPost e = refl
 only-first AfterEnd e = refl
 
 module _ (past : List Command) (c : Command) (allowed : Allowed past c) where
-  -- the first command is a lawful pre
-  pub first-pre : isAtStart (stage past) ≡ true → (isA Pre c ≡ true) × (lawfulPreamble (c .params) ≡ true)
-  first-pre e =
-      let broken : (isAtStart (stage past) && not (isA Pre c && lawfulPreamble (c .params))) ≡ false = allowed .preamble in
-      and-eq-true-iff (isA Pre c) (lawfulPreamble (c .params)) .0 (not-false _ (rw e at broken))
-
-  -- a later one is none
+  -- a command that is not the first is no pre
   later-other : isAtStart (stage past) ≡ false → isA Pre c ≡ false
   later-other e = by (isA Pre c) refl
     where

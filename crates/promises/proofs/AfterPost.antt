@@ -16,10 +16,7 @@ use Rattle.list.specs.Lawful.{Follows, ends, goes}
 use Rattle.list.proofs.Arms.{on-kinds}
 use Rattle.volume.specs.OfList.{upToLast}
 use Rattle.page.specs.PageList.{isOnPage}
-use Rattle.reader.proofs.check_file.Reads as check-file
-use Rattle.reader.proofs.place_page.Reads as place-page
-use Rattle.promises.specs.Calls.{page}
-use Rattle.promises.proofs.Volumes.{compared, does-lawfully}
+use Rattle.list.proofs.Standing.{compared, does-lawfully}
 
 -- what a kind does at a stage: whether post has passed after it; whether it is a post on a page or after another, a post_post before post, a push or pop after it
 abbrev does : Stage → Kind → Bool × Bool × Bool × Bool

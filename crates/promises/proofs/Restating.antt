@@ -4,6 +4,7 @@ use Prim.Native.Nat.{ℕ, zero, suc, _+_, _*_, _^_, _<_, _≤_}
 use mathlib.Core.Path.{_≡_, refl, sym, ap, _∙_, subst}
 use mathlib.Core.Bool.{Bool, true, false, not, or-false, and-true}
 use mathlib.Core.List.{List, [], _∷_, _++_}
+use mathlib.Core.Logic.{_⊎_, inl, inr, ⊎-elim}
 use native.Mathlib.Omega.{arith}
 use lib.Dec.{leb}
 use lib.ListN.{length, set, length-set}
@@ -13,8 +14,9 @@ use Rattle.refusals.specs.Numbers.{wrongPostamble}
 use Rattle.numbers.specs.Bytes.{unsignedAt}
 use Rattle.numbers.specs.Signs.{fromTwos}
 use Rattle.commands.specs.declared.Kind.the-variants.{Push, Pop, Post, PostPost}
-use Rattle.commands.specs.Kinds.{kindOf, is}
-use Rattle.commands.specs.Fields.{signedIn, postPointer}
+use Rattle.commands.specs.Kinds.{kindOf}
+use Rattle.commands.specs.declared.fields.UnsignedField.{UnsignedField}
+use Rattle.commands.specs.Fields.{unsignedIn, signedIn, postPointer, postNum, postDen, postMag, postDepth, postPages}
 use Rattle.commands.specs.Lengths.{lengths, fixedLength, innerLength, sizeOf}
 use Rattle.commands.specs.Commands.{Command, kindOfCommand, Whole, form, written}
 use Rattle.commands.proofs.Opcodes.{kind-range}
@@ -25,14 +27,12 @@ use Rattle.list.proofs.Arms.{is-kind}
 use Rattle.volume.specs.OfList.{upToLast}
 use Rattle.volume.specs.Refusing.{RefusesAt, breaks, later}
 use Rattle.page.specs.PageList.{isOnPage}
-use Rattle.reader.proofs.check_file.Reads as check-file
-use Rattle.reader.proofs.place_page.Reads as place-page
 use Rattle.promises.specs.Calls.{page}
 use Rattle.promises.proofs.Agreeing.{Agree, agree-follows}
 use Rattle.promises.proofs.Volumes.{repeats}
 use Rattle.promises.proofs.AfterPost.{passes-post, post-between, end-after, greatest-stays, after-post}
 
--- a number in bytes among which another is stored does not change
+-- a byte that is stored outside of a number's bytes does not change it
 unsigned-elsewhere : (bytes : List ℕ) (i byte at count : ℕ) → ((j : ℕ) → j < count → at + j ≡ i → ⊥) → unsignedAt (set bytes i byte) at count ≡ unsignedAt bytes at count
 unfolding unsignedAt
 unsigned-elsewhere bytes i byte at zero h = refl
@@ -51,13 +51,15 @@ module _ (high low : ℕ) where
   abbrev other : List ℕ → List ℕ
   other params = set (set params 24 high) 25 low
 
-  -- the fields before s and after it
-  kept-field : (params : List ℕ) (at count : ℕ) → ((j : ℕ) → j < count → at + j ≡ 24 → ⊥) → ((j : ℕ) → j < count → at + j ≡ 25 → ⊥)
-      → unsignedAt (other params) at count ≡ unsignedAt params at count
-  kept-field params at count h l = unsigned-elsewhere (set params 24 high) 25 low at count l ∙ unsigned-elsewhere params 24 high at count h
+  -- a field that ends before s or starts behind it
+  kept-field : (field : UnsignedField) (params : List ℕ) → (field .at + field .size ≤ postDepth .at) ⊎ (postDepth .at + 2 ≤ field .at)
+      → unsignedIn field (other params) ≡ unsignedIn field params
+  kept-field field params apart =
+      unsigned-elsewhere (set params 24 high) 25 low (field .at) (field .size) (λ j l e. ⊎-elim (λ h. omega arith) (λ h. omega arith) apart)
+      ∙ unsigned-elsewhere params 24 high (field .at) (field .size) (λ j l e. ⊎-elim (λ h. omega arith) (λ h. omega arith) apart)
 
   -- and s
-  other-s : (params : List ℕ) → length params ≡ 28 → unsignedAt (other params) 24 2 ≡ stated
+  other-s : (params : List ℕ) → length params ≡ 28 → unsignedIn postDepth (other params) ≡ stated
   unfolding unsignedAt
   other-s params l =
       rw (
@@ -107,7 +109,7 @@ module _ (high low : ℕ) where
 
       -- its p, and what it says of the list, where s is enough or not
       pointer-kept : signedIn postPointer (other (c .params)) ≡ signedIn postPointer (c .params)
-      pointer-kept = ap (fromTwos (256 ^ 4)) (kept-field (c .params) 0 4 (λ j l e. omega arith) (λ j l e. omega arith))
+      pointer-kept = ap (fromTwos (256 ^ 4)) (kept-field (record { at = postPointer .at; size = postPointer .size }) (c .params) (inl (omega arith)))
 
       says : (enough : Bool) → leb (greatest past) stated ≡ enough
           → lawfulPostamble (num past) (den past) (mag past) (greatest past) (pages past) (other (c .params)) ≡ enough
@@ -115,12 +117,12 @@ module _ (high low : ℕ) where
           let (pages-is, _, num-is, den-is, mag-is) = repeats allowed k in
           let p = c .params in
           rw (
-            eq-eqb (unsignedAt (other p) 4 4) (num past) (kept-field p 4 4 (λ j l e. omega arith) (λ j l e. omega arith) ∙ num-is),
-            eq-eqb (unsignedAt (other p) 8 4) (den past) (kept-field p 8 4 (λ j l e. omega arith) (λ j l e. omega arith) ∙ den-is),
-            eq-eqb (unsignedAt (other p) 12 4) (mag past) (kept-field p 12 4 (λ j l e. omega arith) (λ j l e. omega arith) ∙ mag-is),
+            eq-eqb (unsignedIn postNum (other p)) (num past) (kept-field postNum p (inl (omega arith)) ∙ num-is),
+            eq-eqb (unsignedIn postDen (other p)) (den past) (kept-field postDen p (inl (omega arith)) ∙ den-is),
+            eq-eqb (unsignedIn postMag (other p)) (mag past) (kept-field postMag p (inl (omega arith)) ∙ mag-is),
             other-s p has-28,
             e,
-            eq-eqb (unsignedAt (other p) 26 2) (pages past) (kept-field p 26 2 (λ j l e. omega arith) (λ j l e. omega arith) ∙ pages-is),
+            eq-eqb (unsignedIn postPages (other p)) (pages past) (kept-field postPages p (inr (omega arith)) ∙ pages-is),
           ) (and-true enough)
 
       ten : (enough : Bool) → leb (greatest past) stated ≡ enough → postambleWrong past (restated c) ≡ not enough
@@ -167,7 +169,7 @@ module _ (high low : ℕ) where
       ap (λ (l : List ℕ). set l (at + 1 + 24 + 1) low) (set-beyond front rest (skip + 1 + 24) (at + 1 + 24) high (omega (arith, e)))
       ∙ set-beyond front (set rest (skip + 1 + 24) high) (skip + 1 + 24 + 1) (at + 1 + 24 + 1) low (omega (arith, e))
 
-  -- what a list that goes on by the rules, up to its post and behind it, becomes
+  -- the list that a list becomes, from before its post on: after how many bytes post stands, its written form, and what is so of it by the new s
   pub record Restated (past cs : List Command) : Type 0 where
     pub list : List Command
     pub skip : ℕ

@@ -2,7 +2,7 @@
 -- at post where that one is below; and names and placing are the same where it is not. Assumes nothing.
 use Prim.Native.Nat.{ℕ, _+_, _*_, _/_, _%_, _<_, _≤_}
 use mathlib.Core.Path.{_≡_, refl, sym, ap, ap₂, _∙_, subst}
-use mathlib.Core.Bool.{false, not}
+use mathlib.Core.Bool.{false}
 use mathlib.Core.List.{List, []}
 use mathlib.Core.Logic.{inr, ⊎-elim}
 use native.Mathlib.Omega.{arith}
@@ -17,19 +17,17 @@ use Rattle.refusals.specs.Numbers.{wrongPostamble}
 use Rattle.refusals.specs.Answer.{refused, given, refuseIf}
 use Rattle.numbers.proofs.Bytes.{unsigned-more, unsigned-one, unsigned-drop}
 use Rattle.commands.specs.declared.Kind.the-variants.{Post}
-use Rattle.commands.specs.Kinds.{is}
 use Rattle.commands.specs.Commands.{Command, written}
 use Rattle.commands.specs.Reading.{longestFile}
 use Rattle.commands.proofs.Ranges.{below-or-not}
-use Rattle.list.specs.Past.{place, depth, greatest, pages}
-use Rattle.list.specs.Rules.{fault}
+use Rattle.list.specs.Past.{greatest, pages}
 use Rattle.list.specs.Lawful.{Keeps, Lawful}
 use Rattle.volume.specs.declared.Summary.{Summary}
 use Rattle.volume.specs.Judged.{judged}
 use Rattle.volume.specs.History.{history}
 use Rattle.volume.specs.Names.{namedBy, namePlace}
 use Rattle.volume.specs.OfList.{pastOf, counts}
-use Rattle.volume.specs.Refusing.{RefusesAt, later}
+use Rattle.volume.specs.Refusing.{RefusesAt}
 use Rattle.volume.proofs.Accepts.{accepts-lawful, counts-own, refused-given}
 use Rattle.volume.proofs.Refused.{refuses-file}
 use Rattle.page.specs.Answers.{placedPage, placedCounts, areaAfter}
@@ -81,7 +79,7 @@ module _ (high low : ℕ) where
       other-kept : Keeps (other-list .list) × Agree (pastOf cs) (pastOf (other-list .list))
       other-kept = other-list .goes-on (omega (arith, depth-is))
 
-      -- the commands that later notions speak of are no others
+      -- a later command finds the same in both histories
       same-history : Agree (history file) (history changed)
       same-history =
           subst (λ (past : List Command). Agree past (history changed))
@@ -133,7 +131,7 @@ module _ (s : ℕ) (file : List ℕ) (found : Summary) (accepted : judged file �
       (λ (h : found .depth ≤ s). rw (le-ltb s (found .depth) h) (other-s-same h))
       (below-or-not s (found .depth))
 
--- s of an accepted file is not below the depth that its commands reach: stated as it is, it would be refused (rule 3.8)
+-- s of an accepted file is not below the depth that its commands reach, else the file with its own s would be refused (rule 3.8)
 pub stated-not-below : (file : List ℕ) (found : Summary) → judged file ≡ given found → found .depth ≤ statedDepth file (found .post)
 stated-not-below file found accepted =
     ⊎-elim (λ below. absurd (contradiction below)) (λ (h : found .depth ≤ stated high low). omega (arith, h, own-bytes)) (below-or-not (stated high low) (found .depth))

@@ -23,13 +23,13 @@ use Rattle.commands.proofs.Opcodes.{kind-range}
 use Rattle.list.specs.declared.Stage.{Stage}
 use Rattle.list.specs.declared.Stage.the-variants.{AtStart, BeforePages, OnPage, BetweenPages, AfterPost, AfterEnd}
 use Rattle.list.specs.Past.{isA, stage, stageAfter, isAfterPost, depth, greatest, pages, lastBop, postPlace, num, den, mag, fontNumber, body, Definition, none, stands, definitionOf, isDefined, fontCount}
-use Rattle.list.specs.Rules.{isAtStart, mayStand, wrongAtDepth, lawfulFont, says, lawfulDefinition, lawfulPostamble, Allowed}
+use Rattle.list.specs.Rules.{isAtStart, wrongAtDepth, lawfulFont, says, lawfulDefinition, lawfulPostamble, Allowed}
 use Rattle.list.specs.Lawful.{fillers, Follows, ends, goes, Keeps, Lawful}
 use Rattle.volume.specs.OfList.{upToLast, pastOf}
 use Rattle.volume.specs.Starred.{M}
 use Rattle.list.proofs.Arms.{on-kinds, is-kind}
 use Rattle.list.proofs.FaultLaws.{all-kept}
-use Rattle.page.proofs.Traces.{first-pre}
+use Rattle.list.proofs.Standing.{first-pre, compared, does-lawfully}
 use Rattle.promises.specs.Standing.{StandsAfter, first, later, StandsAmong, listOfM}
 
 -- ---- the file's two ends
@@ -117,21 +117,6 @@ deep (and-one {past = past} {c = c} kept allowed) = by (isA Push c) refl (isA Po
         omega (arith, leb-false 100 (depth past) right)
     by false e true h = omega arith
     by false e false h = h
-
--- ---- what holds of every kind that may stand
-
--- what is so of a kind where it may stand at a stage, only pre at the start; else what should be
-abbrev pub compared : {A : Type 0} → (Stage → Kind → A) → (Stage → Kind → A) → Stage → Kind → A
-compared does lawful at kind = cond (cond (isAtStart at) (is kind Pre) (mayStand at kind)) (does at kind) (lawful at kind)
-
--- where all kinds that may stand at a stage do as they should, a command that keeps the rules does
-pub does-lawfully : {A : Type 0} (does lawful : Stage → Kind → A) → ((at : Stage) (kind : Kind) → compared does lawful at kind ≡ lawful at kind)
-    → {past : List Command} {c : Command} → Allowed past c → does (stage past) (kindOfCommand c) ≡ lawful (stage past) (kindOfCommand c)
-does-lawfully does lawful all {past} {c} allowed = rw (by (isAtStart (stage past)) refl) at (all (stage past) (kindOfCommand c))
-  where
-    by : (start : Bool) → isAtStart (stage past) ≡ start → cond start (isA Pre c) (mayStand (stage past) (kindOfCommand c)) ≡ true
-    by true e = first-pre past c allowed e .0
-    by false e = not-false (mayStand (stage past) (kindOfCommand c)) (allowed .standing)
 
 -- ---- what is after the first bop, and what is no longer at the start
 
