@@ -25,7 +25,7 @@ use Rattle.list.specs.Lawful.{Keeps, Lawful}
 use Rattle.volume.specs.declared.Summary.{Summary}
 use Rattle.volume.specs.Judged.{judged}
 use Rattle.volume.specs.History.{history}
-use Rattle.volume.specs.Names.{namedBy, namePlace}
+use Rattle.volume.specs.Names.{namedBy, namePlace, nameOf}
 use Rattle.volume.specs.OfList.{pastOf, counts}
 use Rattle.volume.specs.Refusing.{RefusesAt}
 use Rattle.volume.proofs.Accepts.{accepts-lawful, counts-own, refused-given}
@@ -34,13 +34,16 @@ use Rattle.page.specs.Answers.{placedPage, placedCounts, areaAfter}
 use Rattle.reader.specs.declared.FileChecked.{FileChecked}
 use Rattle.reader.specs.declared.Placed.{Placed}
 use Rattle.reader.specs.Answers.{fileAnswer}
+use Rattle.page.proofs.Traces.{accepted-trace}
 use Rattle.reader.proofs.check_file.Reads as check-file
+use Rattle.reader.proofs.font_name.Reads as font-name
 use Rattle.reader.proofs.place_page.Reads as place-page
 use Rattle.promises.specs.Calls.{Arguments, file, table, resolution, page, area, meant}
 use Rattle.promises.specs.StatedDepth.{statedDepth, stating}
 use Rattle.promises.proofs.Agreeing.{Agree, same-summary, same-placed}
-use Rattle.promises.proofs.OneToOne.{file-one-to-one, placed-one-to-one}
+use Rattle.promises.proofs.OneToOne.{file-one-to-one, name-one-to-one, placed-one-to-one}
 use Rattle.promises.proofs.OfTheList.{history-of-the-list, checked-by-the-list}
+use Rattle.promises.proofs.NameBytes.{nameIn, named-bytes}
 use Rattle.promises.proofs.Restating.{stated, storing, Restated, restate}
 
 -- ---- the definitions
@@ -116,6 +119,16 @@ module _ (s : ℕ) (file : List ℕ) (found : Summary) (accepted : judged file �
     other-s-named font =
         rw (accepted, other-s-same) (ap namedBy (sym (same-history (s / 256) (s % 256) file found accepted large .same-definition false font)))
 
+    -- nor its bytes,
+    pub other-s-spelled : (font : ℤ) → nameOf (stating s (found .post) file) font ≡ nameOf file font
+    other-s-spelled font =
+        let changed = stating s (found .post) file in
+        let same = same-history (s / 256) (s % 256) file found accepted large .same-definition false font in
+        rw (accepted, other-s-same)
+        (named-bytes changed (history changed) (accepted-trace changed found other-s-same) false font
+        ∙ ap nameIn (sym same)
+        ∙ sym (named-bytes file (history file) (accepted-trace file found accepted) false font))
+
     -- nor how a page is placed (rule 9.8)
     pub other-s-placed : (table : List ℕ) (resolution page room : ℕ)
         → placedPage (stating s (found .post) file) table resolution page room ≡ placedPage file table resolution page room
@@ -170,6 +183,18 @@ module _ (κs κs′ : Lfts 1) (lent changed : _) (r r′ : FileChecked) (x y : 
     -- too large is no fault: the answer is that of the right s
     pub larger-s-same-answer : found .depth ≤ s → r′ ≡ r
     larger-s-same-answer h = file-one-to-one r′ r (post′ .0 ∙ ap judged only-s ∙ other-s-same s (now lent) found (sym (post .0) ∙ says) h ∙ sym says)
+
+-- font_name, of a file that is accepted and of one with another s that is not too small: the same bytes, number and place
+pub larger-s-same-name : (κs κs′ : Lfts 3) (lent changed : _) (font : ℤ) (number place number′ place′ : _) (r r′ : _) (x y : _)
+    → font-name.Post κs (lent, (font, (number, (place, tt)))) r x → font-name.Post κs′ (changed, (font, (number′, (place′, tt)))) r′ y
+    → (found : Summary) → judged (now lent) ≡ given found
+    → (s : ℕ) → found .depth ≤ s → now changed ≡ stating s (found .post) (now lent)
+    → (now r′ ≡ now r) × (now (y .1 .1 .0) ≡ now (x .1 .1 .0)) × (now (y .1 .1 .1 .0) ≡ now (x .1 .1 .1 .0))
+larger-s-same-name κs κs′ lent changed font number place number′ place′ r r′ x y p q found accepted s enough only-s =
+    let told =
+    name-one-to-one _ _ _ _ _ _
+    (q .1 .1 .0 ∙ ap (λ (file : List ℕ). namePlace file font) only-s ∙ other-s-named s (now lent) found accepted enough font ∙ sym (p .1 .1 .0)) in
+    (q .0 ∙ ap (λ (file : List ℕ). nameOf file font) only-s ∙ other-s-spelled s (now lent) found accepted enough font ∙ sym (p .0), told .0, told .1)
 
 -- place_page, of a file that is accepted and of one with another s that is not too small: the same answer and the same bytes
 pub larger-s-same-page : (κs κs′ : Lfts 3) (a b x y : Arguments) (r r′ : Placed) → place-page.Post κs a r x → place-page.Post κs′ b r′ y
