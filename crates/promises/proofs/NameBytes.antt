@@ -9,10 +9,10 @@ use lib.ListN.{length, take, drop}
 use lib.Seq.{take-at, drop-drop}
 use Rattle.numbers.specs.Signs.{sameNumber}
 use Rattle.commands.specs.Fields.{definitionNumberSize, definitionName}
-use Rattle.commands.specs.Commands.{Command, kindOfCommand, form, whole, front}
+use Rattle.commands.specs.Commands.{Command, kindOfCommand, whole, front}
 use Rattle.commands.proofs.Fronts.{front-sound}
 use Rattle.list.specs.Past.{place, stage, fontNumber, defines, Definition, none, stands, definitionOf}
-use Rattle.volume.specs.Names.{namePart, partOf, namedBy}
+use Rattle.volume.specs.Names.{partOf, namedBy}
 use Rattle.page.specs.Trace.{Trace, start, more}
 
 -- from a place on to the end of some bytes that others follow
