@@ -205,7 +205,7 @@ def stated_depths(group, rng):
 
     for depth in (0, 1, 2, 99, 100):
         three = [(depth, []), (depth // 2, []), (0, [])]  # the deepest page is the first, the last, the middle one
-        shapes = [(three[turn:] + three[:turn], depth) for turn in range(3)]
+        shapes = [(three[turn:] + three[:turn], depth) for turn in range(3 if depth else 1)]
         if depth:
             shapes += [([(depth - 1, [PUSHED, POPPED] * 3), (depth - 1, [])], depth), ([(depth - 1, [])] * 2, depth - 1)]
         for pages, reached in shapes:

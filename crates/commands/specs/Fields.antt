@@ -75,7 +75,7 @@ postDen = record { at = 8; size = 4 }
 abbrev pub postMag : UnsignedField
 postMag = record { at = 12; size = 4 }
 
--- s, a depth that no command leads beyond (rule 2.6)
+-- s, the depth that post states (rule 2.6)
 abbrev pub postDepth : UnsignedField
 postDepth = record { at = 24; size = 2 }
 

@@ -3,4 +3,4 @@ pub mod SameBytes
 pub mod FontTables
 pub mod Sayings
 pub mod FaultLaws
-pub mod Standing
+pub mod AtStages

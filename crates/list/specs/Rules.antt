@@ -138,7 +138,7 @@ lawfulPostamble num den mag greatest pages params =
     && (eqb (unsignedIn postDen params) den
     && (eqb (unsignedIn postMag params) mag && (rightDepth (unsignedIn postDepth params) greatest && eqb (unsignedIn postPages params) pages)))
 
--- where 10 applies: what post says of the list is not so, or post_post has another identification than 2 (rules 3.8, 3.9)
+-- where 10 applies: a post that is not lawful, or a post_post with another identification than 2 (rules 3.8, 3.9)
 abbrev pub postambleWrong : List Command → Command → Bool
 postambleWrong past c =
     (isA Post c && not (lawfulPostamble (num past) (den past) (mag past) (greatest past) (pages past) (c .params))) || (isA PostPost c && not (eqb (unsignedIn endIdentification (c .params)) 2))

@@ -27,7 +27,7 @@ use Rattle.volume.proofs.History.{history-counts}
 use Rattle.volume.proofs.Going.{after-command}
 use Rattle.page.specs.PageList.{Located, isOnPage, isOn, pageOf}
 use Rattle.page.specs.Steps.{Runs, ends, onward}
-use Rattle.list.proofs.Standing.{compared, does-lawfully}
+use Rattle.list.proofs.AtStages.{compared, does-lawfully}
 use Rattle.page.specs.Trace.{Trace, start, more}
 use Rattle.page.proofs.Traces.{accepted-trace, accepted-end}
 

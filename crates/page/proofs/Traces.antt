@@ -33,7 +33,7 @@ use Rattle.volume.specs.History.{historyFrom, history}
 use Rattle.list.proofs.Arms.{is-kind}
 use Rattle.list.proofs.FaultLaws.{all-kept}
 use Rattle.list.proofs.FontTables.{defines-kind}
-use Rattle.list.proofs.Standing.{first-pre}
+use Rattle.list.proofs.AtStages.{first-pre}
 use Rattle.volume.proofs.Turns.{judged-short, judged-cut, judged-undefined, judged-faulty, judged-onward, history-start, history-last, history-onward, Turn, at-cut, at-undefined, at-fault, at-last, onward, turn}
 use Rattle.volume.proofs.Accepts.{refused-given, accepts-lawful}
 use Rattle.volume.proofs.Going.{after-command}

@@ -16,7 +16,7 @@ use Rattle.list.specs.Lawful.{Follows, ends, goes}
 use Rattle.list.proofs.Arms.{on-kinds}
 use Rattle.volume.specs.OfList.{upToLast}
 use Rattle.page.specs.PageList.{isOnPage}
-use Rattle.list.proofs.Standing.{compared, does-lawfully}
+use Rattle.list.proofs.AtStages.{compared, does-lawfully}
 
 -- what a kind does at a stage: whether post has passed after it; whether it is a post on a page or after another, a post_post before post, a push or pop after it
 abbrev does : Stage → Kind → Bool × Bool × Bool × Bool

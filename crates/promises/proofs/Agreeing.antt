@@ -45,7 +45,7 @@ pub record Agree (past past′ : List Command) : Type 0 where
 
 module _ {past past′ : List Command} (a : Agree past past′) where
   -- they agree after one more command
-  pub agree-more : (c : Command) → Agree (c ∷ past) (c ∷ past′)
+  agree-more : (c : Command) → Agree (c ∷ past) (c ∷ past′)
   agree-more c =
       record {
         same-place = rw (a .same-place);
@@ -67,7 +67,7 @@ module _ {past past′ : List Command} (a : Agree past past′) where
   same-summary = rw (a .same-pages, a .same-count false, a .same-greatest, a .same-post)
 
   -- the next command breaks the same rule, or none
-  pub same-fault : (c : Command) → fault past c ≡ fault past′ c
+  same-fault : (c : Command) → fault past c ≡ fault past′ c
   same-fault c =
       rw (
         a .same-stage,
@@ -87,7 +87,7 @@ module _ {past past′ : List Command} (a : Agree past past′) where
         a .same-count true,
       )
 
-  pub agree-allowed : {c : Command} → Allowed past c → Allowed past′ c
+  agree-allowed : {c : Command} → Allowed past c → Allowed past′ c
   agree-allowed {c} allowed = all-kept past′ c (sym (same-fault c) ∙ none-broken past c allowed)
 
 -- a list goes on after the one as after the other, and they agree at its end

@@ -27,7 +27,6 @@ use Rattle.list.proofs.Arms.{is-kind}
 use Rattle.volume.specs.OfList.{upToLast}
 use Rattle.volume.specs.Refusing.{RefusesAt, breaks, later}
 use Rattle.page.specs.PageList.{isOnPage}
-use Rattle.promises.specs.Calls.{page}
 use Rattle.promises.proofs.Agreeing.{Agree, agree-follows}
 use Rattle.promises.proofs.Volumes.{repeats}
 use Rattle.promises.proofs.AfterPost.{passes-post, post-between, end-after, greatest-stays, after-post}
@@ -52,7 +51,7 @@ module _ (high low : ℕ) where
   other params = set (set params 24 high) 25 low
 
   -- a field that ends before s or starts behind it
-  kept-field : (field : UnsignedField) (params : List ℕ) → (field .at + field .size ≤ postDepth .at) ⊎ (postDepth .at + 2 ≤ field .at)
+  kept-field : (field : UnsignedField) (params : List ℕ) → (field .at + field .size ≤ postDepth .at) ⊎ (postDepth .at + postDepth .size ≤ field .at)
       → unsignedIn field (other params) ≡ unsignedIn field params
   kept-field field params apart =
       unsigned-elsewhere (set params 24 high) 25 low (field .at) (field .size) (λ j l e. ⊎-elim (λ h. omega arith) (λ h. omega arith) apart)
@@ -169,7 +168,7 @@ module _ (high low : ℕ) where
       ap (λ (l : List ℕ). set l (at + 1 + 24 + 1) low) (set-beyond front rest (skip + 1 + 24) (at + 1 + 24) high (omega (arith, e)))
       ∙ set-beyond front (set rest (skip + 1 + 24) high) (skip + 1 + 24 + 1) (at + 1 + 24 + 1) low (omega (arith, e))
 
-  -- the list that a list becomes, from before its post on: after how many bytes post stands, its written form, and what is so of it by the new s
+  -- what commands up to post and behind it become: the list, how many bytes stand before post, its written form, that it keeps the rules where s is enough, and that 10 is due where not
   pub record Restated (past cs : List Command) : Type 0 where
     pub list : List Command
     pub skip : ℕ

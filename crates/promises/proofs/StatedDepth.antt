@@ -16,11 +16,10 @@ use denote.Ref.{now}
 use Rattle.refusals.specs.Numbers.{wrongPostamble}
 use Rattle.refusals.specs.Answer.{refused, given, refuseIf}
 use Rattle.numbers.proofs.Bytes.{unsigned-more, unsigned-one, unsigned-drop}
-use Rattle.commands.specs.declared.Kind.the-variants.{Post}
 use Rattle.commands.specs.Commands.{Command, written}
 use Rattle.commands.specs.Reading.{longestFile}
 use Rattle.commands.proofs.Ranges.{below-or-not}
-use Rattle.list.specs.Past.{greatest, pages}
+use Rattle.list.specs.Past.{greatest}
 use Rattle.list.specs.Lawful.{Keeps, Lawful}
 use Rattle.volume.specs.declared.Summary.{Summary}
 use Rattle.volume.specs.Judged.{judged}

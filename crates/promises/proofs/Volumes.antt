@@ -29,7 +29,7 @@ use Rattle.volume.specs.OfList.{upToLast, pastOf}
 use Rattle.volume.specs.Starred.{M}
 use Rattle.list.proofs.Arms.{on-kinds, is-kind}
 use Rattle.list.proofs.FaultLaws.{all-kept}
-use Rattle.list.proofs.Standing.{first-pre, compared, does-lawfully}
+use Rattle.list.proofs.AtStages.{first-pre, compared, does-lawfully}
 use Rattle.promises.specs.Standing.{StandsAfter, first, later, StandsAmong, listOfM}
 
 -- ---- the file's two ends
@@ -92,17 +92,6 @@ standing-kept kept (ends n w allowed last enough) first = (kept, allowed)
 standing-kept kept (ends n w allowed last enough) (later not-last there) = absurd (true≢false (sym last ∙ not-last))
 standing-kept kept (goes w allowed not-last follows) first = (kept, allowed)
 standing-kept kept (goes w allowed not-last follows) (later _ there) = standing-kept (and-one kept allowed) follows there
-
--- its post_post stands after all the others
-last-stands : {before cs : List Command} → Follows before cs
-    → (past : List Command) × (c : Command) × StandsAfter past c before cs × (kindOfCommand c ≡ PostPost) × (upToLast before cs ≡ c ∷ past)
-last-stands (ends {past = past} {c = c} n w allowed last enough) = (past, c, first, is-kind (kindOfCommand c) PostPost last, rw last)
-last-stands (goes w allowed not-last follows) = let (past, c, there, k, e) = last-stands follows in (past, c, later not-last there, k, rw not-last e)
-
--- a post_post stands in each list that keeps the rules, after all the others (rule 3.2)
-pub post-post-stands : {cs : List Command} → Keeps cs
-    → (past : List Command) × (c : Command) × StandsAmong cs past c × (kindOfCommand c ≡ PostPost) × (pastOf cs ≡ c ∷ past)
-post-post-stands keeps = last-stands keeps
 
 -- ---- the depth
 

@@ -8,6 +8,6 @@ use Rattle.commands.specs.Fields.{unsignedIn, postDepth}
 abbrev pub statedDepth : List ℕ → ℕ → ℕ
 statedDepth file post = unsignedIn postDepth (drop (post + 1) file)
 
--- the file with s, of which two bytes hold what is below 65,536, stated by its post there; no other byte is changed (rules 1.2, 2.6, 3.8)
+-- the file whose post there states s, the highest byte first (above 65,535 that is no byte); no other byte is changed (rules 1.2, 2.6, 3.8)
 abbrev pub stating : ℕ → ℕ → List ℕ → List ℕ
 stating s post file = let at = post + 1 + postDepth .at in set (set file at (s / 256)) (at + 1) (s % 256)
