@@ -507,6 +507,33 @@ fn rounding_refusals() {
     assert_eq!(round_distance(254, 1, 1000, 500, i32::MAX), Ok(1_073_741_824));
 }
 
+// Rounded up, a distance comes to the least whole number of pixels not below it, on both sides
+// of zero.
+#[test]
+fn rounding_up() {
+    let unit = Unit::new(254, 1, 1000, 300).unwrap();
+    for (n, up) in [(0, 0), (1, 1), (3, 1), (4, 2), (7, 3), (10, 3), (11, 4)] {
+        assert_eq!(unit.rounded_up(n), up);
+    }
+    for (n, up) in [(-1, 0), (-3, 0), (-4, -1), (-7, -2), (-10, -3), (-11, -3)] {
+        assert_eq!(unit.rounded_up(n), up);
+    }
+    let half = Unit::new(254, 1, 1000, 500).unwrap();
+    let least = Unit::new(1, i32::MAX, 1, 1).unwrap();
+    assert_eq!((half.rounded_up(i32::MAX.into()), half.rounded_up(i32::MIN.into())), (1 << 30, -1 << 30));
+    assert_eq!((least.rounded_up(i32::MAX.into()), least.rounded_up(i32::MIN.into())), (1, 0));
+    let tex = Unit::new(25_400_000, 473_628_672, 1000, 300).unwrap();
+    let ends = [i32::MIN, i32::MIN + 1, i32::MAX - 1, i32::MAX];
+    for unit in [unit, half, least, tex] {
+        for n in (-2_000..=2_000).chain(ends).map(i64::from) {
+            let (p, q) = (unit.p as i128, unit.q as i128);
+            let up = i128::from(unit.rounded_up(n));
+            let exact = p * i128::from(n);
+            assert!(q * (up - 1) < exact && exact <= q * up, "{unit:?} {n}");
+        }
+    }
+}
+
 #[test]
 fn tables() {
     let good = |code| width_record(1, 100, code, -3, [0, 16, 0, 0]);

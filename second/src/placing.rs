@@ -289,7 +289,7 @@ impl Page<'_> {
         // Without an area there is nothing to see, but its width may still have to be passed.
         if height > 0 && width > 0 {
             let unit = self.measure.unit;
-            let record = self.record(RULE, 0, unit.rounded_up(height), unit.rounded_up(width));
+            let record = self.record(RULE, 0, unit.rounded_up(height.into()), unit.rounded_up(width.into()));
             self.placed.records.push(record);
         }
         if moves {

@@ -56,11 +56,16 @@ impl Unit {
         }
     }
 
-    /// How many pixels it takes to cover a rule's side of n units, n above 0.
-    pub fn rounded_up(&self, n: i32) -> i64 {
-        let n = u128::try_from(n).expect("a side above 0");
-        let whole = (self.p * n).div_ceil(self.q);
-        i64::try_from(whole).expect("K is one half at most")
+    /// How many pixels it takes to cover n units: the least whole number not below K x n. With
+    /// n below 0 that is the one towards zero.
+    pub fn rounded_up(&self, n: i64) -> i64 {
+        let product = self.p * u128::from(n.unsigned_abs());
+        let whole = |number: u128| i64::try_from(number).expect("K is one half at most");
+        if n < 0 {
+            -whole(product / self.q)
+        } else {
+            whole(product.div_ceil(self.q))
+        }
     }
 }
 
