@@ -237,13 +237,14 @@ fn printed_example() -> Vec<u8> {
     Parts { pages: vec![page], ..parts() }.build()
 }
 
-// The one answer that document 01 prints line by line.
+// The one answer that document 01 prints line by line; its second line is that of document 02,
+// since the bar of 2.1 pixels is passed by 3.
 #[test]
 fn the_printed_example() {
     let file = written("printed.dvi", &printed_example());
     let table = written("empty.table", &[]);
     let line = format!("place {file} {table} 300 1 60000");
-    let whole = "r 1 0 9 0 2 3\nr 1 0 11 0 1 1\nend 2 0 0";
+    let whole = "r 1 0 9 0 2 3\nr 1 0 12 0 1 1\nend 2 0 0";
     assert_eq!(answer(line.as_bytes(), DESK), whole);
     assert_eq!(answer(line.as_bytes(), LONG), whole);
 }

@@ -79,7 +79,7 @@ impl Measure {
         }
     }
 
-    /// One move, sideways or down: the new position and the new pixel.
+    /// One move over space, sideways or down: the new position and the new pixel.
     /// A near one moves the pixel by itself alone, so that equal distances look equal; a far one
     /// takes the pixel of the position reached.
     fn moved(&self, position: i64, pixel: i64, n: i64, near: bool) -> Result<(i64, i64), Leaves> {
@@ -112,10 +112,27 @@ fn near_down(n: i64, s: i64) -> bool {
     5 * n.abs() < 4 * s
 }
 
+/// Which of two moves a command makes sideways. Each caller says it, since neither is the usual
+/// one.
+#[derive(Debug, Clone, Copy, PartialEq, Eq)]
+enum SidewaysMove {
+    /// Nothing is drawn on the way: *right*, *w* and *x*.
+    Space,
+    /// A bar lies on the way, or would if it had an area: *set_rule*.
+    Bar,
+}
+
 impl Registers {
-    fn sideways(self, n: i64, s: i64, measure: &Measure) -> Result<Registers, Leaves> {
-        let (h, hh) = measure.moved(self.h, self.hh, n, near_sideways(n, s))?;
-        Ok(Registers { h, hh, ..self })
+    fn sideways(self, n: i64, which: SidewaysMove, s: i64, measure: &Measure) -> Result<Registers, Leaves> {
+        match which {
+            SidewaysMove::Space => {
+                let (h, hh) = measure.moved(self.h, self.hh, n, near_sideways(n, s))?;
+                Ok(Registers { h, hh, ..self })
+            }
+            // As many pixels as are drawn, whatever the font, so that what follows does not
+            // overlap the bar.
+            SidewaysMove::Bar => self.past(n, measure.unit.rounded_up(n), measure),
+        }
     }
 
     fn down(self, n: i64, s: i64, measure: &Measure) -> Result<Registers, Leaves> {
@@ -123,11 +140,11 @@ impl Registers {
         Ok(Registers { v, vv, ..self })
     }
 
-    /// Behind a character: its width in units and its escapement in pixels are independent, so
+    /// Behind a character or a bar: its pixels are its own and need not agree with its units, so
     /// here too the pixel may have to be pulled back.
-    fn past_character(self, width: i64, escapement: i64, measure: &Measure) -> Result<Registers, Leaves> {
-        let h = grown(self.h, width)?;
-        let hh = measure.held_to_drift(self.hh + escapement, h);
+    fn past(self, units: i64, pixels: i64, measure: &Measure) -> Result<Registers, Leaves> {
+        let h = grown(self.h, units)?;
+        let hh = measure.held_to_drift(self.hh + pixels, h);
         Ok(Registers { h, hh, ..self })
     }
 }
@@ -198,18 +215,18 @@ impl Page<'_> {
         match says {
             Meaning::Character { code, moves } => self.character(code, moves)?,
             Meaning::Rule { height, width, moves } => self.rule(height, width, moves)?,
-            Meaning::Right(n) => self.sideways(n.into())?,
+            Meaning::Right(n) => self.sideways(n.into(), SidewaysMove::Space)?,
             Meaning::W(given) => {
                 if let Some(n) = given {
                     self.registers.w = n.into();
                 }
-                self.sideways(self.registers.w)?;
+                self.sideways(self.registers.w, SidewaysMove::Space)?;
             }
             Meaning::X(given) => {
                 if let Some(n) = given {
                     self.registers.x = n.into();
                 }
-                self.sideways(self.registers.x)?;
+                self.sideways(self.registers.x, SidewaysMove::Space)?;
             }
             Meaning::Down(n) => self.down(n.into())?,
             Meaning::Y(given) => {
@@ -251,13 +268,13 @@ impl Page<'_> {
         Ok(())
     }
 
-    /// What moves are measured against; before a font is selected, no move is near.
+    /// What moves over space are measured against; before a font is selected, none is near.
     fn scale(&self) -> i64 {
         self.font.map_or(0, |font| i64::from(font.scale))
     }
 
-    fn sideways(&mut self, n: i64) -> Result<(), Leaves> {
-        self.registers = self.registers.sideways(n, self.scale(), &self.measure)?;
+    fn sideways(&mut self, n: i64, which: SidewaysMove) -> Result<(), Leaves> {
+        self.registers = self.registers.sideways(n, which, self.scale(), &self.measure)?;
         Ok(())
     }
 
@@ -280,7 +297,7 @@ impl Page<'_> {
         if moves {
             let width = scale_width(font.scale, found.width).expect("font and table are right");
             let escapement = i64::from(found.escapement);
-            self.registers = self.registers.past_character(width, escapement, &self.measure)?;
+            self.registers = self.registers.past(width, escapement, &self.measure)?;
         }
         Ok(())
     }
@@ -293,7 +310,7 @@ impl Page<'_> {
             self.placed.records.push(record);
         }
         if moves {
-            self.sideways(width.into())?;
+            self.sideways(width.into(), SidewaysMove::Bar)?;
         }
         Ok(())
     }
@@ -345,7 +362,7 @@ mod tests {
         for (n, h, hh) in [(5, 30, 11), (-5, -30, -11)] {
             let mut registers = FRESH;
             for _ in 0..6 {
-                registers = registers.sideways(n, 100, &measure).unwrap();
+                registers = registers.sideways(n, SidewaysMove::Space, 100, &measure).unwrap();
             }
             assert_eq!((registers.h, registers.hh), (h, hh));
             let mut registers = FRESH;
@@ -373,7 +390,7 @@ mod tests {
     fn near_and_far_in_pixels() {
         let measure = measure_three_tenths();
         let from = Registers { h: 1, hh: 2, v: 1, vv: 2, ..FRESH };
-        let right = |n| from.sideways(n, 100, &measure).unwrap().hh;
+        let right = |n| from.sideways(n, SidewaysMove::Space, 100, &measure).unwrap().hh;
         assert_eq!(right(19), 2 + 6);
         assert_eq!(right(20), 6);
         assert_eq!(right(-89), 2 - 27);
@@ -393,14 +410,36 @@ mod tests {
         }
     }
 
+    // From the same place past a bar: the pixel keeps its lead whether a move over space would
+    // have been near or far, and the font's scale plays no part.
+    #[test]
+    fn bars_in_pixels() {
+        let measure = measure_three_tenths();
+        let from = Registers { h: 1, hh: 2, v: 1, vv: 2, ..FRESH };
+        for s in [0, 1, 100, 134_217_727] {
+            let bar = |n| from.sideways(n, SidewaysMove::Bar, s, &measure).unwrap();
+            for (n, pixels) in [(0, 0), (1, 1), (18, 6), (19, 6), (20, 6), (21, 7)] {
+                assert_eq!(bar(n), Registers { h: 1 + n, hh: 2 + pixels, ..from });
+            }
+            for (n, pixels) in [(-1, 0), (-4, -1), (-89, -26), (-90, -27), (-91, -27)] {
+                assert_eq!(bar(n), Registers { h: 1 + n, hh: 2 + pixels, ..from });
+            }
+            // The lead is 2 at most: 8 against 5 and 2 against -1 are pulled back.
+            assert_eq!((bar(17).hh, bar(-3).hh), (7, 1));
+        }
+    }
+
     #[test]
     fn range_of_positions() {
         let measure = measure_three_tenths();
         let at_one = Registers { h: 1, v: -1, ..FRESH };
-        assert_eq!(at_one.sideways(-2_147_483_648, 0, &measure).unwrap().h, -2_147_483_647);
-        assert_eq!(FRESH.sideways(-2_147_483_648, 0, &measure), Err(Leaves));
-        assert_eq!(at_one.sideways(2_147_483_646, 0, &measure).unwrap().h, 2_147_483_647);
-        assert_eq!(at_one.sideways(2_147_483_647, 0, &measure), Err(Leaves));
+        for which in [SidewaysMove::Space, SidewaysMove::Bar] {
+            let h = |from: Registers, n| from.sideways(n, which, 0, &measure).map(|to| to.h);
+            assert_eq!(h(at_one, -2_147_483_648), Ok(-2_147_483_647));
+            assert_eq!(h(FRESH, -2_147_483_648), Err(Leaves));
+            assert_eq!(h(at_one, 2_147_483_646), Ok(2_147_483_647));
+            assert_eq!(h(at_one, 2_147_483_647), Err(Leaves));
+        }
         assert_eq!(at_one.down(-2_147_483_646, 0, &measure).unwrap().v, -2_147_483_647);
         assert_eq!(at_one.down(-2_147_483_647, 0, &measure), Err(Leaves));
     }
