@@ -3,6 +3,7 @@
 use crate::check::check;
 use crate::fonts::name_of_font;
 use crate::lines::{answer, DESK, LONG};
+use crate::numbers::signed;
 use crate::placing::{place, record_line};
 use crate::units::{round_distance, Unit};
 use crate::widths::{scale_width, Table};
@@ -752,6 +753,436 @@ fn order_of_placing() {
     // A set character that leaves the range.
     let page = [vec![174, 146], four(2_147_483_600).to_vec(), vec![133, 65, 65]].concat();
     assert_eq!(placed(&page_of_font_3(page), &character_table(), 300, 1, 0), ["refused 16 at 84"]);
+}
+
+// ---- bars ----
+
+/// Units and resolution for D 0, 1 and 2. What K rounds to is the same for all three.
+type Measures = [([i64; 3], u32); 3];
+
+const THREE_TENTHS: Measures = [([254, 1, 6000], 50), ([254, 1, 3000], 100), ([254, 1, 1000], 300)];
+const ONE_HALF: Measures = [([254, 1, 10_000], 50), ([254, 1, 5000], 100), ([254, 1, 1000], 500)];
+/// So small that every distance rounds to 0.
+const TINY: Measures =
+    [([1, 2_147_483_647, 1], 1), ([1, 2_147_483_647, 1], 100), ([1, 2_147_483_647, 1], 300)];
+
+const NO_FONT: &[u8] = &[];
+/// The selection of font 3, whose scale is 100.
+const FONT_3: &[u8] = &[174];
+
+fn bar(height: i64, width: i64) -> Vec<u8> {
+    [vec![132], four(height).to_vec(), four(width).to_vec()].concat()
+}
+
+fn right(n: i64) -> Vec<u8> {
+    [vec![146], four(n).to_vec()].concat()
+}
+
+/// hh behind each command in turn. A rule put there makes the last record of its page.
+fn hh_behind_each((units, resolution): ([i64; 3], u32), select: &[u8], commands: &[Vec<u8>]) -> Vec<i32> {
+    let hh_behind = |count: usize| {
+        let page = [select.to_vec(), commands[..count].concat(), put_rule()].concat();
+        let whole = Parts::with_font(font(1, 3, 9, 100, 100, "", ""), page);
+        let placed = place(&Parts { units, depth: 1, ..whole }.build(), &[], resolution, 1, 60_000).unwrap();
+        signed(&placed.records.last().unwrap()[4..8])
+    };
+    (1..=commands.len()).map(hh_behind).collect()
+}
+
+#[test]
+fn measures_of_bars() {
+    for (measures, p, q) in [
+        (THREE_TENTHS, [3; 3], [10; 3]),
+        (ONE_HALF, [1; 3], [2; 3]),
+        // Three K's, but with each of them K x n is far below one half for every n.
+        (TINY, [1, 1, 3], [254_000_000, 2_540_000, 2_540_000].map(|below| below * 2_147_483_647)),
+    ] {
+        for d in 0..3 {
+            let ([num, den, mag], resolution) = measures[d];
+            let unit = Unit::new(num as i32, den as i32, mag as i32, resolution).unwrap();
+            assert_eq!(unit, Unit { p: p[d], q: q[d] });
+        }
+    }
+}
+
+// One bar at the page's start: K x b up, and K x b to the nearest, to which D 0 holds it. At s 100
+// a move over 19 units of space to the right or 89 to the left is near, one over 20 or 90 far.
+#[test]
+fn one_bar() {
+    for (b, up, nearest) in [
+        (0, 0, 0),
+        (1, 1, 0),
+        (2, 1, 1),
+        (3, 1, 1),
+        (4, 2, 1),
+        (5, 2, 2),
+        (7, 3, 2),
+        (10, 3, 3),
+        (18, 6, 5),
+        (19, 6, 6),
+        (20, 6, 6),
+        (21, 7, 6),
+        (101, 31, 30),
+        (-1, 0, 0),
+        (-2, 0, -1),
+        (-3, 0, -1),
+        (-4, -1, -1),
+        (-5, -1, -2),
+        (-7, -2, -2),
+        (-9, -2, -3),
+        (-10, -3, -3),
+        (-11, -3, -3),
+        (-89, -26, -27),
+        (-90, -27, -27),
+        (-92, -27, -28),
+        (-101, -30, -30),
+    ] {
+        for (measure, hh) in THREE_TENTHS.into_iter().zip([nearest, up, up]) {
+            for select in [NO_FONT, FONT_3] {
+                // Without an area it moves just the same.
+                for height in [2_147_483_647, 4, 1, 0, -1, -2_147_483_648] {
+                    assert_eq!(hh_behind_each(measure, select, &[bar(height, b)]), [hh], "{height} {b}");
+                }
+            }
+        }
+    }
+}
+
+// Bar upon bar, each a pixel's part wide: rounding up leads hh away from h until D stops it.
+#[test]
+fn bars_in_a_row() {
+    for (measures, b, wanted) in [
+        // Rounded h is 0 1 1 1 2 2 2 2 3 3; each bar adds 1.
+        (
+            THREE_TENTHS,
+            1,
+            [[0, 1, 1, 1, 2, 2, 2, 2, 3, 3], [1, 2, 2, 2, 3, 3, 3, 3, 4, 4], [1, 2, 3, 3, 4, 4, 4, 4, 5, 5]],
+        ),
+        // The same below zero; each bar adds 0.
+        (
+            THREE_TENTHS,
+            -1,
+            [
+                [0, -1, -1, -1, -2, -2, -2, -2, -3, -3],
+                [0, 0, 0, 0, -1, -1, -1, -1, -2, -2],
+                [0, 0, 0, 0, 0, 0, 0, 0, -1, -1],
+            ],
+        ),
+        // Rounded h is 1 1 2 2 3 3 4 4 5 5; each bar adds 1.
+        (
+            ONE_HALF,
+            1,
+            [[1, 1, 2, 2, 3, 3, 4, 4, 5, 5], [1, 2, 3, 3, 4, 4, 5, 5, 6, 6], [1, 2, 3, 4, 5, 5, 6, 6, 7, 7]],
+        ),
+        (
+            ONE_HALF,
+            -1,
+            [
+                [-1, -1, -2, -2, -3, -3, -4, -4, -5, -5],
+                [0, 0, -1, -1, -2, -2, -3, -3, -4, -4],
+                [0, 0, 0, 0, -1, -1, -2, -2, -3, -3],
+            ],
+        ),
+        // Rounded h is 0 throughout.
+        (TINY, 1, [[0; 10], [1; 10], [1, 2, 2, 2, 2, 2, 2, 2, 2, 2]]),
+        (TINY, -1, [[0; 10]; 3]),
+        (TINY, 214_748_364, [[0; 10], [1; 10], [1, 2, 2, 2, 2, 2, 2, 2, 2, 2]]),
+        (TINY, -214_748_364, [[0; 10]; 3]),
+        (THREE_TENTHS, 0, [[0; 10]; 3]),
+        (TINY, 0, [[0; 10]; 3]),
+    ] {
+        for (measure, hh) in measures.into_iter().zip(wanted) {
+            for select in [NO_FONT, FONT_3] {
+                assert_eq!(hh_behind_each(measure, select, &vec![bar(1, b); 10]), hh, "{measure:?} {b}");
+            }
+        }
+    }
+}
+
+// A tiny K, bars of all widths: what leads hh to the right is never taken back by a bar to the left.
+#[test]
+fn bars_of_a_tiny_unit() {
+    let bars = [1, 0, -1, 2_147_483_647, 0, -2_147_483_647, -2_147_483_647].map(|b| bar(1, b));
+    let wanted = [[0; 7], [1; 7], [1, 1, 1, 2, 2, 2, 2]];
+    for (measure, hh) in TINY.into_iter().zip(wanted) {
+        for select in [NO_FONT, FONT_3] {
+            assert_eq!(hh_behind_each(measure, select, &bars), hh);
+        }
+    }
+}
+
+// D pulls hh back from either side, and to the side where it was. Halves round away from zero, so
+// a bar across zero from -3 to 3 adds 3 pixels where rounded h grows by 4.
+#[test]
+fn bars_held_to_drift_on_both_sides() {
+    let moves = |first: i64, times: usize, more: &[Vec<u8>]| [&vec![right(first); times], more].concat();
+    // D 2. The rights: rounded h is -1 -1 -2 -2 -3 -3 -4, then -2. The bar: -4 + 3 against 2.
+    let hh = hh_behind_each(ONE_HALF[2], FONT_3, &moves(-1, 7, &[right(4), bar(1, 6)]));
+    assert_eq!(hh, [-1, -2, -3, -4, -5, -5, -6, -4, 0]);
+    let hh = hh_behind_each(ONE_HALF[2], FONT_3, &moves(1, 7, &[right(-4), bar(1, -6)]));
+    assert_eq!(hh, [1, 2, 3, 4, 5, 5, 6, 4, 0]);
+    // D 1: -3 + 3 against 2.
+    assert_eq!(hh_behind_each(ONE_HALF[1], FONT_3, &moves(-1, 3, &[bar(1, 6)])), [-1, -2, -3, 1]);
+    assert_eq!(hh_behind_each(ONE_HALF[1], FONT_3, &moves(1, 3, &[bar(1, -6)])), [1, 2, 3, -1]);
+    // D 0: rounded h.
+    assert_eq!(hh_behind_each(ONE_HALF[0], FONT_3, &moves(-1, 3, &[bar(1, 6)])), [-1, -1, -2, 2]);
+    assert_eq!(hh_behind_each(ONE_HALF[0], FONT_3, &moves(1, 3, &[bar(1, -6)])), [1, 1, 2, -2]);
+    // The printed example beside a font: 11 + 3 against 11; from the left, -11 + 3 against -7.
+    let hh = |step, b| hh_behind_each(THREE_TENTHS[2], FONT_3, &moves(step, 6, &[bar(4, b)]))[5..].to_vec();
+    assert_eq!(hh(5, 7), [11, 13]);
+    assert_eq!(hh(-5, 7), [-11, -8]);
+    // 11 - 2 against 7; -11 - 2 against -11.
+    assert_eq!(hh(5, -7), [11, 9]);
+    assert_eq!(hh(-5, -7), [-11, -13]);
+}
+
+// right, w and x over the same distance as a bar move as they did: by rounded n beside a font, to
+// rounded h without one.
+#[test]
+fn moves_over_space_beside_bars() {
+    let commands = [
+        bar(1, 1),      // h 1
+        bar(1, 1),      // h 2
+        vec![148, 4],   // w 4, h 6
+        vec![147],      // h 10
+        vec![153, 252], // x -4, h 6
+        vec![152],      // h 2
+        bar(1, 4),      // h 6, 2 pixels
+        vec![143, 4],   // h 10
+        vec![143, 252], // h 6
+        bar(1, -4),     // h 2, -1 pixel
+        right(19),      // h 21, near; rounded 5.7 is 6
+        right(20),      // h 41, far
+    ];
+    let with = [1, 2, 3, 4, 3, 2, 4, 5, 4, 3, 8, 12];
+    assert_eq!(hh_behind_each(THREE_TENTHS[2], FONT_3, &commands), with);
+    let without = [1, 2, 2, 3, 2, 1, 3, 3, 2, 1, 6, 12];
+    assert_eq!(hh_behind_each(THREE_TENTHS[2], NO_FONT, &commands), without);
+    // Alone: 2.1 pixels are 2 over space, 3 past a bar.
+    for space in [vec![143, 7], vec![148, 7], vec![153, 7]] {
+        for select in [NO_FONT, FONT_3] {
+            assert_eq!(hh_behind_each(THREE_TENTHS[2], select, &[space.clone()]), [2]);
+            assert_eq!(hh_behind_each(THREE_TENTHS[2], select, &[bar(1, 7)]), [3]);
+        }
+    }
+}
+
+// No way at all over space is near beside a font and far without one. So it leaves a bar's lead or
+// lag alone in the one case and ends it in the other.
+#[test]
+fn no_way_behind_a_bar() {
+    for measure in &THREE_TENTHS[1..] {
+        // At h 1 rounded h is 0; at h -2 it is -1.
+        for (b, hh, rounded) in [(1, 1, 0), (-2, 0, -1)] {
+            let behind = |select: &[u8], command: &[u8]| {
+                hh_behind_each(*measure, select, &[bar(1, b), command.to_vec()])
+            };
+            let nothing: [&[u8]; 10] = [
+                &[143, 0],
+                &[144, 0, 0],
+                &[145, 0, 0, 0],
+                &[146, 0, 0, 0, 0],
+                &[147],
+                &[148, 0],
+                &[151, 0, 0, 0, 0],
+                &[152],
+                &[153, 0],
+                &[156, 0, 0, 0, 0],
+            ];
+            for command in nothing {
+                assert_eq!(behind(FONT_3, command), [hh, hh], "{command:?}");
+                assert_eq!(behind(NO_FONT, command), [hh, rounded], "{command:?}");
+                // The font may have been selected meanwhile.
+                assert_eq!(behind(NO_FONT, &[FONT_3, command].concat()), [hh, hh], "{command:?}");
+            }
+            // What does not move sideways, and bars of no width.
+            let others: [&[u8]; 12] = [
+                &[138],
+                &[174],
+                &[141, 142],
+                &[239, 0],
+                &[157, 0],
+                &[157, 100],
+                &[161],
+                &[166],
+                &bar(1, 0),
+                &bar(0, 0),
+                &[put_rule(), put_rule()].concat(),
+                &changed(bar(5, 100), 0, 137),
+            ];
+            for command in others {
+                assert_eq!(behind(FONT_3, command), [hh, hh], "{command:?}");
+                assert_eq!(behind(NO_FONT, command), [hh, hh], "{command:?}");
+            }
+        }
+    }
+    // D 0 leaves nothing to end.
+    for select in [NO_FONT, FONT_3] {
+        assert_eq!(hh_behind_each(THREE_TENTHS[0], select, &[bar(1, 1), vec![143, 0]]), [0, 0]);
+        assert_eq!(hh_behind_each(THREE_TENTHS[0], select, &[bar(1, -2), vec![143, 0]]), [-1, -1]);
+    }
+}
+
+// A pop undoes a bar; a bar's lead outlasts a block.
+#[test]
+fn bars_and_the_stack() {
+    let page = [
+        bar(1, 1), // at hh 0; then h 1, hh 1
+        vec![141],
+        bar(1, 1), // at hh 1; then h 2, hh 2
+        vec![141],
+        right(100), // far: h 102, hh 31
+        bar(1, 1),  // at hh 31; then h 103, hh 32
+        put_rule(),
+        vec![142],
+        put_rule(), // at hh 2
+        vec![142],
+        put_rule(), // at hh 1
+        bar(0, -1), // h 0, hh 1
+        put_rule(),
+        bar(1, 1),  // at hh 1; then h 1, hh 2
+        put_rule(), // at hh 2
+        vec![141, 174],
+        bar(1, 1), // at hh 2; then h 2, hh 3
+        vec![142],
+        right(0), // near: the font selected inside the block stays
+        put_rule(),
+    ]
+    .concat();
+    let wanted = [0, 1, 31, 32, 2, 1, 1, 1, 2, 2, 2].map(|hh| format!("r 1 0 {hh} 0 1 1"));
+    for select in [NO_FONT, FONT_3] {
+        let whole = Parts::with_font(font(1, 3, 9, 100, 100, "", ""), [select, &page].concat());
+        let file = Parts { depth: 2, ..whole }.build();
+        let lines = placed(&file, &[], 300, 1, 220);
+        assert_eq!(lines[..11], wanted);
+        assert_eq!(lines[11], "end 11 0 0");
+    }
+}
+
+// Bars that reach an end of h's range and bars that would pass it, at K 1/2.
+#[test]
+fn bars_at_the_ends_of_the_range() {
+    for (from, b, hh) in [
+        (2_147_483_640, 7, Some(1_073_741_824)), // 1,073,741,820 + 4
+        (2_147_483_640, 8, None),
+        (2_147_483_646, 1, Some(1_073_741_824)),
+        (2_147_483_647, 0, Some(1_073_741_824)),
+        (2_147_483_647, 1, None),
+        (2_147_483_647, 2_147_483_647, None),
+        (2_147_483_647, -1, Some(1_073_741_824)), // 1,073,741,824 + 0
+        (2_147_483_647, -2_147_483_648, Some(0)),
+        (-2_147_483_640, -7, Some(-1_073_741_823)), // -1,073,741,820 - 3
+        (-2_147_483_640, -8, None),
+        (-2_147_483_646, -1, Some(-1_073_741_823)),
+        (-2_147_483_647, 0, Some(-1_073_741_824)),
+        (-2_147_483_647, -1, None),
+        (-2_147_483_647, -2_147_483_648, None),
+        (-2_147_483_647, 1, Some(-1_073_741_823)),
+        (-2_147_483_647, 2_147_483_647, Some(0)),
+        (0, 2_147_483_647, Some(1_073_741_824)),
+        (0, -2_147_483_647, Some(-1_073_741_823)),
+        (0, -2_147_483_648, None),
+        (1, 2_147_483_646, Some(1_073_741_824)), // 1 + 1,073,741,823
+        (1, 2_147_483_647, None),
+        (1, -2_147_483_648, Some(-1_073_741_823)), // 1 - 1,073,741,824
+        (-1, 2_147_483_647, Some(1_073_741_823)),  // -1 + 1,073,741,824
+        (-1, -2_147_483_646, Some(-1_073_741_824)),
+        (-1, -2_147_483_647, None),
+    ] {
+        for select in [NO_FONT, FONT_3] {
+            for height in [1, 0, -1] {
+                let page = [select.to_vec(), right(from), bar(height, b), put_rule()].concat();
+                let lines = placed(&page_of_font_3(page), &[], 500, 1, 60_000);
+                match hh {
+                    Some(hh) => {
+                        assert_eq!(lines[lines.len() - 2], format!("r 1 0 {hh} 0 1 1"), "{from} {b}");
+                    }
+                    // The page's inside begins at 76, and right takes 5 bytes.
+                    None => assert_eq!(lines, [format!("refused 16 at {}", 81 + select.len())], "{from} {b}"),
+                }
+                // The same rule only put leads nowhere.
+                let page = [right(from), changed(bar(height, b), 0, 137), put_rule()].concat();
+                let lines = placed(&page_of_font_3(page), &[], 500, 1, 60_000);
+                let unit = Unit { p: 1, q: 2 };
+                let wanted = format!("r 1 0 {} 0 1 1", unit.rounded(from));
+                assert_eq!(lines[lines.len() - 2], wanted, "{from} {b}");
+            }
+        }
+    }
+    // As far out as hh gets: 2 beyond the last rounded h.
+    let page = [vec![right(2_147_483_641)], vec![bar(1, 1); 6]].concat();
+    let wanted = [821, 822, 823, 824, 825, 825, 826].map(|hh| 1_073_741_000 + hh);
+    assert_eq!(hh_behind_each(ONE_HALF[2], NO_FONT, &page), wanted);
+    // To the left a bar's half pixel is not passed, and hh lags behind.
+    let page = [vec![right(-2_147_483_641)], vec![bar(1, -1); 6]].concat();
+    let wanted = [821, 821, 821, 821, 821, 821, 822].map(|hh| -1_073_741_000 - hh);
+    assert_eq!(hh_behind_each(ONE_HALF[2], NO_FONT, &page), wanted);
+    // One more bar is one too many.
+    for step in [1, -1] {
+        let page = [right(step * 2_147_483_641), bar(1, step).repeat(7)].concat();
+        assert_eq!(placed(&page_of_font_3(page), &[], 500, 1, 60_000), ["refused 16 at 135"]);
+    }
+    // With a tiny K too.
+    let page = [bar(1, 2_147_483_647), bar(1, 1)].concat();
+    let (units, resolution) = TINY[2];
+    let file = Parts { pages: vec![page], units, ..parts() }.build();
+    assert_eq!(placed(&file, &[], resolution, 1, 60_000), ["refused 16 at 69"]);
+}
+
+// Bars and characters in turn: each moves hh by its own pixels, and D holds them together.
+#[test]
+fn bars_and_characters() {
+    let page = [
+        vec![174],
+        bar(4, 7),   // at hh 0; then h 7, hh 3
+        vec![65],    // at hh 3; then h 107, hh 34
+        bar(4, 7),   // at hh 34; then h 114, hh 37, held to 34 + 2
+        vec![66],    // at hh 36; then h 14, hh 6
+        vec![67],    // missing
+        bar(0, -14), // h 0, hh 6 - 4
+        put_rule(),
+    ]
+    .concat();
+    let lines = [
+        "r 1 0 0 0 2 3",
+        "c 1 3 3 0 65 31",
+        "r 1 0 34 0 2 3",
+        "c 1 3 36 0 66 -30",
+        "r 1 0 2 0 1 1",
+        "end 5 1 0",
+    ];
+    assert_eq!(placed(&page_of_font_3(page.clone()), &character_table(), 300, 1, 100), lines);
+    assert_eq!(placed(&page_of_font_3(page), &character_table(), 300, 1, 99), ["refused 17 at 0"]);
+}
+
+// TeX's units: four bars of 1.27 pixels, drawn as 2, side by side. The fifth rule comes after 8
+// pixels at 5.07, so at 7.
+#[test]
+fn bars_in_tex_units() {
+    let page = [bar(26_214, 20_000).repeat(4), put_rule()].concat();
+    let units = [25_400_000, 473_628_672, 1000];
+    let file = Parts { pages: vec![page], units, ..parts() }.build();
+    let lines =
+        ["r 1 0 0 0 2 2", "r 1 0 2 0 2 2", "r 1 0 4 0 2 2", "r 1 0 6 0 2 2", "r 1 0 7 0 1 1", "end 5 0 0"];
+    assert_eq!(placed(&file, &[], 300, 1, 100), lines);
+}
+
+// A bar does not move down, a rule that is put does not move, and neither reaches the next page.
+#[test]
+fn what_bars_leave_alone() {
+    let first = [
+        vec![174],
+        [157, 5].repeat(6), // v 30, vv 11
+        changed(bar(5, 100), 0, 137),
+        bar(1, 7),
+        put_rule(), // at hh 3
+    ]
+    .concat();
+    let whole = Parts::with_font(font(1, 3, 9, 100, 100, "", ""), vec![]);
+    let file = Parts { pages: vec![first, put_rule()], ..whole }.build();
+    let lines = ["r 1 0 0 11 2 30", "r 1 0 0 11 1 3", "r 1 0 3 11 1 1", "end 3 0 0"];
+    assert_eq!(placed(&file, &[], 300, 1, 60), lines);
+    assert_eq!(placed(&file, &[], 300, 2, 20), ["r 2 0 0 0 1 1", "end 1 0 0"]);
 }
 
 // ---- lines ----
