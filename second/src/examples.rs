@@ -1335,10 +1335,10 @@ fn lengths_of_files() {
 fn changed_by_chance() {
     let page = vec![
         174, 65, 128, 200, 141, 143, 5, 66, 148, 10, 147, 162, 20, 161, 142, 239, 1, 0, 131, 0, 0, 0, 65,
-        170, 0, 0, 1, 0, 146, 0, 1, 0, 0,
+        170, 0, 0, 1, 0, 146, 0, 1, 0, 0, 132, 0, 0, 0, 4, 0, 0, 0, 7,
     ];
     let base = Parts { depth: 1, ..Parts::with_font(font(1, 3, 9, 100, 100, "a", "b"), page) }.build();
-    assert_eq!(placed(&base, &character_table(), 300, 1, 60_000).last().unwrap(), "end 4 0 1");
+    assert_eq!(placed(&base, &character_table(), 300, 1, 60_000).last().unwrap(), "end 5 0 1");
     let mut seed: u64 = 1;
     let mut chance = |below: usize| {
         seed = seed.wrapping_mul(6_364_136_223_846_793_005).wrapping_add(1_442_695_040_888_963_407);
@@ -1347,7 +1347,7 @@ fn changed_by_chance() {
     for _ in 0..100_000 {
         let mut file = base.clone();
         for _ in 0..1 + chance(3) {
-            let at = if chance(2) == 0 { chance(file.len()) } else { 77 + chance(34) };
+            let at = if chance(2) == 0 { chance(file.len()) } else { 77 + chance(43) };
             file[at] = chance(256) as u8;
         }
         if chance(10) == 0 {
