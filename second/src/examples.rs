@@ -959,10 +959,10 @@ fn moves_over_space_beside_bars() {
     let without = [1, 2, 2, 3, 2, 1, 3, 3, 2, 1, 6, 12];
     assert_eq!(hh_behind_each(THREE_TENTHS[2], NO_FONT, &commands), without);
     // Alone: 2.1 pixels are 2 over space, 3 past a bar.
-    for space in [vec![143, 7], vec![148, 7], vec![153, 7]] {
-        for select in [NO_FONT, FONT_3] {
-            assert_eq!(hh_behind_each(THREE_TENTHS[2], select, &[space.clone()]), [2]);
-            assert_eq!(hh_behind_each(THREE_TENTHS[2], select, &[bar(1, 7)]), [3]);
+    for select in [NO_FONT, FONT_3] {
+        assert_eq!(hh_behind_each(THREE_TENTHS[2], select, &[bar(1, 7)]), [3]);
+        for opcode in [143, 148, 153] {
+            assert_eq!(hh_behind_each(THREE_TENTHS[2], select, &[vec![opcode, 7]]), [2]);
         }
     }
 }
