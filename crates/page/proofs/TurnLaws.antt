@@ -23,11 +23,12 @@ use Rattle.state.specs.declared.Level.{Level}
 use Rattle.state.specs.declared.Font.{Font}
 use Rattle.state.specs.declared.moving.Direction.{Direction}
 use Rattle.state.specs.declared.moving.Direction.the-variants as Direction
+use Rattle.state.specs.declared.moving.Stride.the-variants as Stride
 use Rattle.state.specs.declared.moving.Ruler.{Ruler}
 use Rattle.state.specs.declared.registers.Register.{Register}
 use Rattle.state.specs.declared.registers.Register.the-variants as Register
 use Rattle.state.specs.Moving.{leaves}
-use Rattle.state.specs.Registers.{State, spotOf, ruleMoved, registerOf, directionOf}
+use Rattle.state.specs.Registers.{State, spotOf, movedBy, registerOf, directionOf}
 use Rattle.state.specs.Steps.{Bounded}
 use Rattle.state.proofs.Levels.{register-in}
 use Rattle.page.specs.declared.Terms.{Terms}
@@ -243,7 +244,7 @@ module _ (terms : Terms) (table : List ℕ) (volume : List Command) (level : Lev
       ≡ setRule (termsSetting terms table volume) (stateWith level saved font) (ruleHeight params) (ruleWidth params)
   rule-does saved adds e =
       let s = stateWith level saved font in
-      let leads : Added → Outcome = movesTo Direction.Sideways s (ruleWidth params) (ruleMoved (terms .ruler) (font .scale) (ruleWidth params) level) in
+      let leads : Added → Outcome = movesTo Direction.Sideways s (ruleWidth params) (movedBy Direction.Sideways Stride.Rounded (terms .ruler) (font .scale) (ruleWidth params) level) in
       did-unless (terms .ruler) s past adds (leaves (level .h +ℤ ruleWidth params)) ∙ ap leads e
 
   width-small : natAbs (ruleWidth params) ≤ 2 ^ 31

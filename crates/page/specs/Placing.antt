@@ -20,11 +20,12 @@ use Rattle.state.specs.declared.Level.{Level}
 use Rattle.state.specs.declared.Font.{Font}
 use Rattle.state.specs.declared.moving.Direction.{Direction}
 use Rattle.state.specs.declared.moving.Direction.the-variants as Direction
+use Rattle.state.specs.declared.moving.Stride.the-variants as Stride
 use Rattle.state.specs.declared.moving.Ruler.{Ruler}
 use Rattle.state.specs.Moving.{leaves}
 use Rattle.state.specs.declared.registers.Register.{Register}
 use Rattle.state.specs.declared.registers.Register.the-variants as Register
-use Rattle.state.specs.Registers.{State, unselected, pushed, popped, spotOf, movedBy, characterMoved, ruleMoved, registerOf, directionOf, movedByRegister}
+use Rattle.state.specs.Registers.{State, unselected, pushed, popped, spotOf, movedBy, characterMoved, registerOf, directionOf, movedByRegister}
 use Rattle.page.specs.declared.Record.{Record}
 use Rattle.page.specs.Records.{characterRecord, ruleRecord}
 use Rattle.page.specs.PageList.{Located}
@@ -101,12 +102,13 @@ ruleAdded setting s height width =
 -- a rule that is set moves by its width, whether it gives a record or not (rule 7.8)
 abbrev pub setRule : Setting → State → ℤ → ℤ → Outcome
 setRule setting s height width =
-    movesTo Direction.Sideways s width (ruleMoved (setting .ruler) (s .font .scale) width (s .level)) (ruleAdded setting s height width)
+    movesTo Direction.Sideways s width (movedBy Direction.Sideways Stride.Rounded (setting .ruler) (s .font .scale) width (s .level))
+    (ruleAdded setting s height width)
 
 -- a move sideways or down by its own distance (rule 7.9)
 abbrev pub plainMove : Direction → Setting → State → List ℕ → Outcome
 plainMove direction setting s params =
-    let n = distance params in movesTo direction s n (movedBy direction (setting .ruler) (s .font .scale) n (s .level)) nothing
+    let n = distance params in movesTo direction s n (movedBy direction Stride.Rounded (setting .ruler) (s .font .scale) n (s .level)) nothing
 
 -- w0, x0, y0, z0 have no distance of their own and take the register's (rule 7.9)
 abbrev pub distanceOr : ℤ → List ℕ → ℤ

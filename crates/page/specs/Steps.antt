@@ -30,11 +30,12 @@ use Rattle.state.specs.declared.Level.{Level}
 use Rattle.state.specs.declared.Font.{Font}
 use Rattle.state.specs.declared.moving.Direction.{Direction}
 use Rattle.state.specs.declared.moving.Direction.the-variants as Direction
+use Rattle.state.specs.declared.moving.Stride.the-variants as Stride
 use Rattle.state.specs.declared.moving.Ruler.{Ruler}
 use Rattle.state.specs.declared.registers.Register.{Register}
 use Rattle.state.specs.declared.registers.Register.the-variants as Register
 use Rattle.state.specs.Moving.{leaves}
-use Rattle.state.specs.Registers.{State, pushed, popped, spotOf, movedBy, characterMoved, ruleMoved, registerOf, directionOf, movedByRegister}
+use Rattle.state.specs.Registers.{State, pushed, popped, spotOf, movedBy, characterMoved, registerOf, directionOf, movedByRegister}
 use Rattle.page.specs.declared.Record.{Record}
 use Rattle.page.specs.declared.Counts.{Counts}
 use Rattle.page.specs.declared.Terms.{Terms}
@@ -142,10 +143,10 @@ stateWith level saved font = record { level = level; saved = saved; font = font 
 -- the outcome of what the code says that a command does and adds
 abbrev pub did : Ruler → State → Turn → Adds → Outcome
 did ruler s Turn.Stay adds = continues s (addedOf adds)
-did ruler s (Turn.By direction n) adds = continues (withNumbers s (movedBy direction ruler (s .font .scale) n (s .level))) (addedOf adds)
+did ruler s (Turn.By direction n) adds = continues (withNumbers s (movedBy direction Stride.Rounded ruler (s .font .scale) n (s .level))) (addedOf adds)
 did ruler s (Turn.ByRegister register n) adds = continues (withNumbers s (movedByRegister register ruler (s .font .scale) n (s .level))) (addedOf adds)
 did ruler s (Turn.PastCharacter width escapement) adds = continues (withNumbers s (characterMoved ruler width escapement (s .level))) (addedOf adds)
-did ruler s (Turn.PastRule width) adds = continues (withNumbers s (ruleMoved ruler (s .font .scale) width (s .level))) (addedOf adds)
+did ruler s (Turn.PastRule width) adds = continues (withNumbers s (movedBy Direction.Sideways Stride.Rounded ruler (s .font .scale) width (s .level))) (addedOf adds)
 did ruler s Turn.Push adds = continues (pushed s) (addedOf adds)
 did ruler s Turn.Pop adds = continues (popped s) (addedOf adds)
 did ruler s (Turn.Select font) adds = continues (record { level = s .level; saved = s .saved; font = font }) (addedOf adds)

@@ -7,6 +7,7 @@ use crate::records;
 use crate::steps;
 use state::Page;
 use state::moving::Direction;
+use state::moving::Stride;
 use state::registers;
 ghost use mathlib.Core.Path.{_≡_};
 ghost use lib.ListN.{length};
@@ -60,7 +61,7 @@ pub fn walk(
         match turn {
             Turn::Stay => {}
             Turn::By(direction, n) => match direction {
-                Direction::Sideways => page = page.sideways(ruler, n),
+                Direction::Sideways => page = page.sideways(ruler, Stride::Rounded, n),
                 Direction::Down => page = page.down(ruler, n),
             },
             Turn::ByRegister(register, n) => {
@@ -71,7 +72,7 @@ pub fn walk(
             Turn::PastCharacter(width, escapement) => {
                 page = page.past_character(ruler, width, escapement);
             }
-            Turn::PastRule(width) => page = page.past_rule(ruler, width),
+            Turn::PastRule(width) => page = page.sideways(ruler, Stride::Rounded, width),
             Turn::Push => {
                 page.stack[depth] = now;
                 page = page.push();

@@ -14,12 +14,14 @@ use Rattle.state.specs.declared.Level.{Level}
 use Rattle.state.specs.declared.Page.{Page}
 use Rattle.state.specs.declared.moving.Direction.{Direction}
 use Rattle.state.specs.declared.moving.Direction.the-variants.{Sideways, Down}
+use Rattle.state.specs.declared.moving.Stride.{Stride}
+use Rattle.state.specs.declared.moving.Stride.the-variants.{Rounded}
 use Rattle.state.specs.declared.moving.Ruler.{Ruler}
 use Rattle.state.specs.declared.moving.Spot.{Spot}
-use Rattle.state.specs.Moving.{leaves, near, settled}
+use Rattle.state.specs.Moving.{leaves, settled, followed}
 use Rattle.state.specs.declared.registers.Register.{Register}
 use Rattle.state.specs.declared.registers.Register.the-variants.{W, X, Y, Z}
-use Rattle.state.specs.Registers.{zeroLevel, spotOf, atSpot, movedBy, characterMoved, ruleMoved, registerOf, withRegister, directionOf, movedByRegister}
+use Rattle.state.specs.Registers.{zeroLevel, spotOf, atSpot, movedBy, characterMoved, registerOf, withRegister, directionOf, movedByRegister}
 use Rattle.state.specs.Steps.{savedOf, pageState, Ruled, Bounded}
 use Rattle.state.proofs.Nearness.{settled-small}
 
@@ -58,18 +60,13 @@ bounded-settled : (direction : Direction) (ruler : Ruler) (scale : ℕ) (positio
 bounded-settled direction ruler scale position pixel l ruled b stays =
     bounded-at direction (settled ruler position pixel) l b (position-in position stays) (pixel-in ruler scale position pixel ruled stays)
 
--- a move keeps a level in its ranges, in either direction
-pub bounded-moved : (direction : Direction) (ruler : Ruler) (scale : ℕ) (n : ℤ) (l : Level) → Ruled ruler scale → Bounded l
+-- a move keeps a level in its ranges, in either direction and stride
+pub bounded-moved : (direction : Direction) (stride : Stride) (ruler : Ruler) (scale : ℕ) (n : ℤ) (l : Level) → Ruled ruler scale → Bounded l
     → leaves (spotOf direction l .position +ℤ n) ≡ false
-    → Bounded (movedBy direction ruler scale n l)
-bounded-moved direction ruler scale n l ruled b stays =
+    → Bounded (movedBy direction stride ruler scale n l)
+bounded-moved direction stride ruler scale n l ruled b stays =
     let spot = spotOf direction l in
-    let pixel = cond (near direction n scale) (spot .pixel +ℤ rounded (ruler .k) n) (rounded (ruler .k) (spot .position +ℤ n)) in
-    bounded-settled direction ruler scale (spot .position +ℤ n) pixel l ruled b stays
-
--- so does the move after a rule
-pub bounded-rule : (ruler : Ruler) (scale : ℕ) (width : ℤ) (l : Level) → Ruled ruler scale → Bounded l → leaves (l .h +ℤ width) ≡ false → Bounded (ruleMoved ruler scale width l)
-bounded-rule ruler scale width l ruled b stays = bounded-moved Sideways ruler scale width l ruled b stays
+    bounded-settled direction ruler scale (spot .position +ℤ n) (followed direction stride ruler scale n spot) l ruled b stays
 
 -- so does the move after a character
 pub bounded-character : (ruler : Ruler) (scale : ℕ) (width escapement : ℤ) (l : Level) → Ruled ruler scale → Bounded l → leaves (l .h +ℤ width) ≡ false
@@ -119,7 +116,7 @@ pub bounded-by-register : (register : Register) (ruler : Ruler) (scale : ℕ) (n
     → leaves (spotOf (directionOf register) l .position +ℤ n) ≡ false
     → Bounded (movedByRegister register ruler scale n l)
 bounded-by-register register ruler scale n l ruled b small stays =
-    bounded-moved (directionOf register) ruler scale n (withRegister register n l) ruled (bounded-register register n l b small) (register-stays register n l stays)
+    bounded-moved (directionOf register) Rounded ruler scale n (withRegister register n l) ruled (bounded-register register n l b small) (register-stays register n l stays)
 
 -- ---- the levels that are saved
 

@@ -4,9 +4,11 @@ use mathlib.Core.Bool.{Bool, cond}
 use lib.Dec.{ltb}
 use lib.IntN.{ℤ, pos, natAbs, _+ℤ_, _-ℤ_}
 use lib.Signed.{ltZ}
-use Rattle.units.specs.Rounding.{rounded}
+use Rattle.units.specs.Rounding.{rounded, roundedUp}
 use Rattle.state.specs.declared.moving.Direction.{Direction}
 use Rattle.state.specs.declared.moving.Direction.the-variants.{Sideways, Down}
+use Rattle.state.specs.declared.moving.Stride.{Stride}
+use Rattle.state.specs.declared.moving.Stride.the-variants.{Rounded, RoundedUp}
 use Rattle.state.specs.declared.moving.Ruler.{Ruler}
 use Rattle.state.specs.declared.moving.Spot.{Spot}
 
@@ -27,7 +29,12 @@ drifted drift centre pixel = cond (ltb drift (natAbs (pixel -ℤ centre))) (cond
 abbrev pub settled : Ruler → ℤ → ℤ → Spot
 settled ruler position pixel = record { position = position; pixel = drifted (ruler .drift) (rounded (ruler .k) position) pixel }
 
--- a move by n: the position grows by n, and the pixel by rounded n where the move is near, else the pixel is the rounded new position (rule 7.3)
-abbrev pub moved : Direction → Ruler → ℕ → ℤ → Spot → Spot
-moved direction ruler scale n spot =
-    settled ruler (spot .position +ℤ n) (cond (near direction n scale) (spot .pixel +ℤ rounded (ruler .k) n) (rounded (ruler .k) (spot .position +ℤ n)))
+-- where a move by n takes the pixel: rounded, by rounded n where the move is near, else to the rounded new position; rounded up, by n rounded up, near or far (rule 7.3)
+abbrev pub followed : Direction → Stride → Ruler → ℕ → ℤ → Spot → ℤ
+followed direction Rounded ruler scale n spot =
+    cond (near direction n scale) (spot .pixel +ℤ rounded (ruler .k) n) (rounded (ruler .k) (spot .position +ℤ n))
+followed direction RoundedUp ruler scale n spot = spot .pixel +ℤ roundedUp (ruler .k) n
+
+-- a move by n: the position grows by n, the pixel follows and is held to it (rules 7.3, 7.4)
+abbrev pub moved : Direction → Stride → Ruler → ℕ → ℤ → Spot → Spot
+moved direction stride ruler scale n spot = settled ruler (spot .position +ℤ n) (followed direction stride ruler scale n spot)

@@ -6,6 +6,8 @@ use Rattle.state.specs.declared.Level.{Level}
 use Rattle.state.specs.declared.Font.{Font}
 use Rattle.state.specs.declared.moving.Direction.{Direction}
 use Rattle.state.specs.declared.moving.Direction.the-variants.{Sideways, Down}
+use Rattle.state.specs.declared.moving.Stride.{Stride}
+use Rattle.state.specs.declared.moving.Stride.the-variants.{Rounded}
 use Rattle.state.specs.declared.moving.Ruler.{Ruler}
 use Rattle.state.specs.declared.moving.Spot.{Spot}
 use Rattle.state.specs.declared.registers.Register.{Register}
@@ -60,16 +62,12 @@ atSpot Sideways spot l = record { h = spot .position; v = l .v; w = l .w; x = l 
 atSpot Down spot l = record { h = l .h; v = spot .position; w = l .w; x = l .x; y = l .y; z = l .z; hh = l .hh; vv = spot .pixel }
 
 -- a level moved by n in a direction (rule 7.3)
-abbrev pub movedBy : Direction → Ruler → ℕ → ℤ → Level → Level
-movedBy direction ruler scale n l = atSpot direction (moved direction ruler scale n (spotOf direction l)) l
+abbrev pub movedBy : Direction → Stride → Ruler → ℕ → ℤ → Level → Level
+movedBy direction stride ruler scale n l = atSpot direction (moved direction stride ruler scale n (spotOf direction l)) l
 
 -- past a character that was set: h grows by the width, hh by the table's escapement, and hh is held near (rule 7.6)
 abbrev pub characterMoved : Ruler → ℤ → ℤ → Level → Level
 characterMoved ruler width escapement l = atSpot Sideways (settled ruler (l .h +ℤ width) (l .hh +ℤ escapement)) l
-
--- past a rule that was set: a move sideways by its width (rule 7.8)
-abbrev pub ruleMoved : Ruler → ℕ → ℤ → Level → Level
-ruleMoved ruler scale width l = movedBy Sideways ruler scale width l
 
 -- ---- the registers w, x, y, z
 
@@ -94,6 +92,6 @@ directionOf X = Sideways
 directionOf Y = Down
 directionOf Z = Down
 
--- a level with n in a register, moved by n in the register's direction (rule 7.9)
+-- a level with n in a register, moved by n in the register's direction and the rounded stride (rule 7.9)
 abbrev pub movedByRegister : Register → Ruler → ℕ → ℤ → Level → Level
-movedByRegister register ruler scale n l = movedBy (directionOf register) ruler scale n (withRegister register n l)
+movedByRegister register ruler scale n l = movedBy (directionOf register) Rounded ruler scale n (withRegister register n l)

@@ -5,6 +5,7 @@ use mathlib.Core.List.{List, [], _∷_, map}
 use lib.IntN.{ℤ, pos, negsuc}
 use Rattle.units.specs.Rounding.{nearestWhole}
 use Rattle.state.specs.declared.moving.Direction.the-variants.{Sideways}
+use Rattle.state.specs.declared.moving.Stride.the-variants.{Rounded}
 use Rattle.state.specs.declared.moving.Ruler.{Ruler}
 use Rattle.state.specs.declared.moving.Spot.{Spot}
 use Rattle.state.specs.Moving.{moved}
@@ -22,7 +23,7 @@ ruler = record { k = record { p = 3; q = 10 }; drift = 2 }
 -- the same move so many times
 abbrev pub repeated : ℕ → ℤ → Spot → Spot
 repeated zero n spot = spot
-repeated (suc times) n spot = repeated times n (moved Sideways ruler 100 n spot)
+repeated (suc times) n spot = repeated times n (moved Sideways Rounded ruler 100 n spot)
 
 -- six moves by 5 and by −5: each rounds up to 2, and D holds the sum back
 abbrev pub moveExamples : List MoveExample

@@ -1,14 +1,16 @@
 // The page's state: the eight numbers, the levels that are saved, the font; a fresh one, and how commands change it.
 use moving::Direction;
 use moving::Ruler;
+use moving::Stride;
 ghost use mathlib.Core.Path.{_≡_};
 ghost use mathlib.Core.Bool.{false};
 ghost use Prim.Native.Nat.{_+_, _-_, _≤_, _<_, _^_};
 ghost use lib.ListN.{length, getD};
 ghost use lib.IntN.{natAbs, _+ℤ_};
 ghost use Rattle.state.specs.declared.moving.Direction.the-variants.{Sideways, Down};
+ghost use Rattle.state.specs.declared.moving.Stride.the-variants.{Rounded};
 ghost use Rattle.state.specs.Moving.{leaves};
-ghost use Rattle.state.specs.Registers.{zeroLevel, freshState, pushed, popped, movedBy, characterMoved, ruleMoved};
+ghost use Rattle.state.specs.Registers.{zeroLevel, freshState, pushed, popped, movedBy, characterMoved};
 ghost use Rattle.state.specs.Steps.{pageState, withLevel, withFont, Ruled, Bounded};
 
 pub mod moving;
@@ -74,28 +76,28 @@ impl Page {
         }
     }
 
-    // Sideways by n.
-    pub fn sideways(mut self, ruler: Ruler, n: i64) -> Self
+    // Sideways by n, in the stride that the caller names.
+    pub fn sideways(mut self, ruler: Ruler, stride: Stride, n: i64) -> Self
         requires { ⌜ Ruled ruler (self .font .scale) × Bounded (self .now) ⌝ }
         requires { ⌜ (natAbs n ≤ 2 ^ 31) × (leaves (self .now .h +ℤ n) ≡ false) ⌝ }
-        ensures { λ r. ⌜ r ≡ withLevel self (movedBy Sideways ruler (self .font .scale) n (self .now)) ⌝ }
+        ensures { λ r. ⌜ r ≡ withLevel self (movedBy Sideways stride ruler (self .font .scale) n (self .now)) ⌝ }
     {
         let scale = self.font.scale;
         let level = self.now;
-        let next = registers::moved_by(Direction::Sideways, ruler, scale, n, level);
+        let next = registers::moved_by(Direction::Sideways, stride, ruler, scale, n, level);
         self.now = next;
         self
     }
 
-    // Down by n.
+    // Down by n: the rounded stride is the only one.
     pub fn down(mut self, ruler: Ruler, n: i64) -> Self
         requires { ⌜ Ruled ruler (self .font .scale) × Bounded (self .now) ⌝ }
         requires { ⌜ (natAbs n ≤ 2 ^ 31) × (leaves (self .now .v +ℤ n) ≡ false) ⌝ }
-        ensures { λ r. ⌜ r ≡ withLevel self (movedBy Down ruler (self .font .scale) n (self .now)) ⌝ }
+        ensures { λ r. ⌜ r ≡ withLevel self (movedBy Down Rounded ruler (self .font .scale) n (self .now)) ⌝ }
     {
         let scale = self.font.scale;
         let level = self.now;
-        let next = registers::moved_by(Direction::Down, ruler, scale, n, level);
+        let next = registers::moved_by(Direction::Down, Stride::Rounded, ruler, scale, n, level);
         self.now = next;
         self
     }
@@ -111,15 +113,6 @@ impl Page {
         let next = registers::at_spot(Direction::Sideways, spot, level);
         self.now = next;
         self
-    }
-
-    // Past a rule that was set, of so much width.
-    pub fn past_rule(mut self, ruler: Ruler, width: i64) -> Self
-        requires { ⌜ Ruled ruler (self .font .scale) × Bounded (self .now) ⌝ }
-        requires { ⌜ (natAbs width ≤ 2 ^ 31) × (leaves (self .now .h +ℤ width) ≡ false) ⌝ }
-        ensures { λ r. ⌜ r ≡ withLevel self (ruleMoved ruler (self .font .scale) width (self .now)) ⌝ }
-    {
-        self.sideways(ruler, width)
     }
 
     // At a level that a register has moved: the loop over a page finds it first, where its branches copy no array.

@@ -5,12 +5,21 @@ ghost use mathlib.Core.Bool.{false};
 ghost use Prim.Native.Nat.{_≤_, _^_};
 ghost use lib.IntN.{natAbs, _+ℤ_};
 ghost use Rattle.units.specs.Steps.{Accepted};
-ghost use Rattle.state.specs.Moving.{leaves, near, drifted, settled, moved};
+ghost use Rattle.state.specs.Moving.{leaves, near, drifted, settled, followed, moved};
+ghost use Rattle.state.specs.declared.moving.Stride.the-variants.{Rounded};
 ghost use Rattle.state.specs.Steps.{Ruled};
 
 pub enum Direction {
     Sideways,
     Down,
+}
+
+// How the pixel follows a position that moves
+pub enum Stride {
+    // by the rounded distance where the move is near, else to the rounded position
+    Rounded,
+    // by the distance rounded up, which is as wide as a bar is drawn; sideways alone
+    RoundedUp,
 }
 
 // K and D
@@ -79,17 +88,46 @@ pub fn settle(ruler: Ruler, position: i64, pixel: i64) -> Spot
     }
 }
 
-// A move by n in a direction.
-pub fn move_by(direction: Direction, ruler: Ruler, scale: u64, n: i64, spot: Spot) -> Spot
+// Where the rounded stride takes the pixel: from where it is by the rounded distance if the move is near, else from 0 by the rounded new position.
+fn step(direction: Direction, ruler: Ruler, scale: u64, n: i64, spot: Spot) -> i64
     requires { ⌜ Ruled ruler scale × (natAbs (spot .position) ≤ 2 ^ 31) × (natAbs (spot .pixel) ≤ 2 ^ 31) ⌝ }
     requires { ⌜ (natAbs n ≤ 2 ^ 31) × (leaves (spot .position +ℤ n) ≡ false) ⌝ }
-    ensures { λ r. ⌜ r ≡ moved direction ruler scale n spot ⌝ }
+    ensures { λ r. ⌜ r ≡ followed direction Rounded ruler scale n spot ⌝ }
 {
-    let pixel = spot.pixel;
-    let after = spot.position + n;
-    if is_near(direction, n, scale) {
-        settle(ruler, after, pixel + units::round(ruler.k, n))
-    } else {
-        settle(ruler, after, units::round(ruler.k, after))
+    let mut from = spot.pixel;
+    let mut by = n;
+    if !is_near(direction, n, scale) {
+        from = 0;
+        by = spot.position + n;
     }
+    from + units::round(ruler.k, by)
+}
+
+// Where a move by n takes the pixel.
+fn follow(direction: Direction, stride: Stride, ruler: Ruler, scale: u64, n: i64, spot: Spot) -> i64
+    requires { ⌜ Ruled ruler scale × (natAbs (spot .position) ≤ 2 ^ 31) × (natAbs (spot .pixel) ≤ 2 ^ 31) ⌝ }
+    requires { ⌜ (natAbs n ≤ 2 ^ 31) × (leaves (spot .position +ℤ n) ≡ false) ⌝ }
+    ensures { λ r. ⌜ r ≡ followed direction stride ruler scale n spot ⌝ }
+{
+    match stride {
+        Stride::Rounded => step(direction, ruler, scale, n, spot),
+        Stride::RoundedUp => spot.pixel + units::round_up(ruler.k, n),
+    }
+}
+
+// A move by n in a direction and a stride.
+pub fn move_by(
+    direction: Direction,
+    stride: Stride,
+    ruler: Ruler,
+    scale: u64,
+    n: i64,
+    spot: Spot,
+) -> Spot
+    requires { ⌜ Ruled ruler scale × (natAbs (spot .position) ≤ 2 ^ 31) × (natAbs (spot .pixel) ≤ 2 ^ 31) ⌝ }
+    requires { ⌜ (natAbs n ≤ 2 ^ 31) × (leaves (spot .position +ℤ n) ≡ false) ⌝ }
+    ensures { λ r. ⌜ r ≡ moved direction stride ruler scale n spot ⌝ }
+{
+    let pixel = follow(direction, stride, ruler, scale, n, spot);
+    settle(ruler, spot.position + n, pixel)
 }

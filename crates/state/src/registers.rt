@@ -4,6 +4,7 @@ use crate::moving;
 use crate::moving::Direction;
 use crate::moving::Ruler;
 use crate::moving::Spot;
+use crate::moving::Stride;
 ghost use mathlib.Core.Path.{_≡_};
 ghost use mathlib.Core.Bool.{false};
 ghost use Prim.Native.Nat.{_≤_, _^_};
@@ -54,13 +55,27 @@ pub fn at_spot(direction: Direction, spot: Spot, level: Level) -> Level
     }
 }
 
-// The level moved by n in a direction.
-pub fn moved_by(direction: Direction, ruler: Ruler, scale: u64, n: i64, level: Level) -> Level
+// The level moved by n in a direction and a stride.
+pub fn moved_by(
+    direction: Direction,
+    stride: Stride,
+    ruler: Ruler,
+    scale: u64,
+    n: i64,
+    level: Level,
+) -> Level
     requires { ⌜ Ruled ruler scale × Bounded level ⌝ }
     requires { ⌜ (natAbs n ≤ 2 ^ 31) × (leaves (spotOf direction level .position +ℤ n) ≡ false) ⌝ }
-    ensures { λ r. ⌜ r ≡ movedBy direction ruler scale n level ⌝ }
+    ensures { λ r. ⌜ r ≡ movedBy direction stride ruler scale n level ⌝ }
 {
-    let spot = moving::move_by(direction, ruler, scale, n, spot_of(direction, level));
+    let spot = moving::move_by(
+        direction,
+        stride,
+        ruler,
+        scale,
+        n,
+        spot_of(direction, level),
+    );
     at_spot(direction, spot, level)
 }
 
@@ -113,7 +128,7 @@ pub fn with_register(register: Register, n: i64, level: Level) -> Level
     }
 }
 
-// The level with n in a register, moved by n in the register's direction.
+// The level with n in a register, moved by n in the register's direction and the rounded stride.
 pub fn moved_by_register(
     register: Register,
     ruler: Ruler,
@@ -126,5 +141,12 @@ pub fn moved_by_register(
     ensures { λ r. ⌜ r ≡ movedByRegister register ruler scale n level ⌝ }
 {
     let holding = with_register(register, n, level);
-    moved_by(direction_of(register), ruler, scale, n, holding)
+    moved_by(
+        direction_of(register),
+        Stride::Rounded,
+        ruler,
+        scale,
+        n,
+        holding,
+    )
 }

@@ -15,10 +15,12 @@ use Rattle.state.specs.declared.Level.{Level}
 use Rattle.state.specs.declared.Page.{Page}
 use Rattle.state.specs.declared.moving.Direction.{Direction}
 use Rattle.state.specs.declared.moving.Direction.the-variants as Direction
+use Rattle.state.specs.declared.moving.Stride.{Stride}
+use Rattle.state.specs.declared.moving.Stride.the-variants as Stride
 use Rattle.state.specs.declared.moving.Ruler.{Ruler}
-use Rattle.state.specs.Registers.{State, zeroLevel, pushed, popped, movedBy, characterMoved, ruleMoved, directionOf, movedByRegister}
+use Rattle.state.specs.Registers.{State, zeroLevel, pushed, popped, movedBy, characterMoved, directionOf, movedByRegister}
 use Rattle.state.specs.Steps.{pageState, savedOf, withLevel, Ruled, Bounded}
-use Rattle.state.proofs.Levels.{bounded-moved, bounded-by-register, bounded-rule, bounded-character, stored}
+use Rattle.state.proofs.Levels.{bounded-moved, bounded-by-register, bounded-character, stored}
 use Rattle.page.specs.declared.Counts.{Counts}
 use Rattle.page.specs.declared.Turn.{Turn}
 use Rattle.page.specs.declared.Turn.the-variants as Turn
@@ -132,16 +134,14 @@ module _ (n : tie.After-note Inv-loop μ-loop) where
   handed : (direction : Direction) (z : ℤ) → Stays direction (before .now) z → Stays direction (before .now) (toZ w64 (ofZ w64 z))
   handed direction z ok = subst (Stays direction (before .now)) (sym (word z (ok .0))) ok
 
-  -- by a distance, in either direction
-  module _ (direction : Direction) (z : ℤ) (turn-is : step read .asked .turn ≡ Turn.By direction z) where
-    by-safe : Stays direction (before .now) z
-    by-safe = safe read (Turn.By direction z) turn-is
-
-    to-moved : (page : Page) → page ≡ withLevel before (movedBy direction ruler scale (toZ w64 (ofZ w64 z)) (before .now)) → Next page
+  -- by a distance, in either direction and stride
+  module _ (direction : Direction) (stride : Stride) (z : ℤ) (turn : Turn) (turn-is : step read .asked .turn ≡ turn) (is-inside : turnFrame turn ≡ inside) (ok : Stays direction (before .now) z)
+      (led : did ruler (pageState before) turn (step read .asked .adds) ≡ continues (withNumbers (pageState before) (movedBy direction stride ruler scale z (before .now))) (addedOf (step read .asked .adds))) where
+    to-moved : (page : Page) → page ≡ withLevel before (movedBy direction stride ruler scale (toZ w64 (ofZ w64 z)) (before .now)) → Next page
     to-moved page page-is =
-        to-level (Turn.By direction z) turn-is refl (movedBy direction ruler scale z (before .now)) refl page
-        (page-is ∙ ap (λ (y : ℤ). withLevel before (movedBy direction ruler scale y (before .now))) (word z (by-safe .0)))
-        (bounded-moved direction ruler scale z (before .now) (ruled read) bounded (by-safe .1))
+        to-level turn turn-is is-inside (movedBy direction stride ruler scale z (before .now)) led page
+        (page-is ∙ ap (λ (y : ℤ). withLevel before (movedBy direction stride ruler scale y (before .now))) (word z (ok .0)))
+        (bounded-moved direction stride ruler scale z (before .now) (ruled read) bounded (ok .1))
 
 enum-told : tie.Need-enum-told Inv-loop μ-loop
 enum-told c = search needs
@@ -168,7 +168,7 @@ sideways-requires : tie.Need-sideways-requires Inv-loop μ-loop
 sideways-requires c κs =
     let n = c .before .before .before .before .before .before .before in
     let v = c .before .before .before .turn .given in
-    ((ruled (read n), bounded n), handed n Direction.Sideways (v .0 .1 .0) (by-safe n Direction.Sideways (v .0 .1 .0) (told (v .1) (c .enum-told2 .given .1))))
+    ((ruled (read n), bounded n), handed n Direction.Sideways (v .0 .1 .0) (safe (read n) (Turn.By Direction.Sideways (v .0 .1 .0)) (told (v .1) (c .enum-told2 .given .1))))
 
 loop-less-2 : tie.Need-loop-less-2 Inv-loop μ-loop
 loop-less-2 c = less (read (c .before .before .before .before .before .before .before .before))
@@ -177,7 +177,9 @@ loop-again-2 : tie.Need-loop-again-2 Inv-loop μ-loop
 loop-again-2 c =
     let n = c .before .before .before .before .before .before .before .before in
     let v = c .before .before .before .before .turn .given in
-    to-moved n Direction.Sideways (v .0 .1 .0) (told (v .1) (c .before .enum-told2 .given .1)) (c .sideways .result) (c .sideways .ensures)
+    let turn-is = told (v .1) (c .before .enum-told2 .given .1) in
+    let turn = Turn.By Direction.Sideways (v .0 .1 .0) in
+    to-moved n Direction.Sideways Stride.Rounded (v .0 .1 .0) turn turn-is refl (safe (read n) turn turn-is) refl (c .sideways .result) (c .sideways .ensures)
 
 enum-told-3 : tie.Need-enum-told-3 Inv-loop μ-loop
 enum-told-3 c = search needs
@@ -186,7 +188,7 @@ down-requires : tie.Need-down-requires Inv-loop μ-loop
 down-requires c κs =
     let n = c .before .before .before .before .before .before .before in
     let v = c .before .before .before .turn .given in
-    ((ruled (read n), bounded n), handed n Direction.Down (v .0 .1 .0) (by-safe n Direction.Down (v .0 .1 .0) (told (v .1) (c .enum-told3 .given .1))))
+    ((ruled (read n), bounded n), handed n Direction.Down (v .0 .1 .0) (safe (read n) (Turn.By Direction.Down (v .0 .1 .0)) (told (v .1) (c .enum-told3 .given .1))))
 
 loop-less-3 : tie.Need-loop-less-3 Inv-loop μ-loop
 loop-less-3 c = less (read (c .before .before .before .before .before .before .before .before))
@@ -195,7 +197,9 @@ loop-again-3 : tie.Need-loop-again-3 Inv-loop μ-loop
 loop-again-3 c =
     let n = c .before .before .before .before .before .before .before .before in
     let v = c .before .before .before .before .turn .given in
-    to-moved n Direction.Down (v .0 .1 .0) (told (v .1) (c .before .enum-told3 .given .1)) (c .down .result) (c .down .ensures)
+    let turn-is = told (v .1) (c .before .enum-told3 .given .1) in
+    let turn = Turn.By Direction.Down (v .0 .1 .0) in
+    to-moved n Direction.Down Stride.Rounded (v .0 .1 .0) turn turn-is refl (safe (read n) turn turn-is) refl (c .down .result) (c .down .ensures)
 
 enum-known-turn-2 : tie.Need-enum-known-turn-2 Inv-loop μ-loop
 enum-known-turn-2 c = search needs
@@ -251,8 +255,8 @@ loop-again-5 c =
 enum-known-turn-4 : tie.Need-enum-known-turn-4 Inv-loop μ-loop
 enum-known-turn-4 c = search needs
 
-past-rule-requires : tie.Need-past-rule-requires Inv-loop μ-loop
-past-rule-requires c κs =
+sideways-requires-2 : tie.Need-sideways-requires-2 Inv-loop μ-loop
+sideways-requires-2 c κs =
     let n = c .before .before .before .before .before in
     let v = c .before .turn4 .given in
     ((ruled (read n), bounded n), handed n Direction.Sideways (v .0 .0) (safe (read n) (Turn.PastRule (v .0 .0)) (v .1)))
@@ -264,10 +268,8 @@ loop-again-6 : tie.Need-loop-again-6 Inv-loop μ-loop
 loop-again-6 c =
     let n = c .before .before .before .before .before .before in
     let v = c .before .before .turn4 .given in
-    let ok = safe (read n) (Turn.PastRule (v .0 .0)) (v .1) in
-    to-level n (Turn.PastRule (v .0 .0)) (v .1) refl (ruleMoved (ruler n) (scale n) (v .0 .0) (before n .now)) refl (c .past-rule .result)
-    (c .past-rule .ensures ∙ ap (λ (width : ℤ). withLevel (before n) (ruleMoved (ruler n) (scale n) width (before n .now))) (word (v .0 .0) (ok .0)))
-    (bounded-rule (ruler n) (scale n) (v .0 .0) (before n .now) (ruled (read n)) (bounded n) (ok .1))
+    let turn = Turn.PastRule (v .0 .0) in
+    to-moved n Direction.Sideways Stride.Rounded (v .0 .0) turn (v .1) refl (safe (read n) turn (v .1)) refl (c .sideways2 .result) (c .sideways2 .ensures)
 
 enum-told-4 : tie.Need-enum-told-4 Inv-loop μ-loop
 enum-told-4 c = search needs
@@ -413,7 +415,7 @@ walk-spec =
     loop-less-5
     loop-again-5
     enum-known-turn-4
-    past-rule-requires
+    sideways-requires-2
     loop-less-6
     loop-again-6
     enum-told-4

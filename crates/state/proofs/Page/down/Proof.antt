@@ -4,6 +4,7 @@ use borrow.Author.Needs.{needs}
 use lib.IntN.{ℤ}
 use mir.Facts.{toZ-ofZ}
 use Rattle.state.specs.declared.moving.Direction.the-variants.{Down}
+use Rattle.state.specs.declared.moving.Stride.the-variants.{Rounded}
 use Rattle.state.specs.Registers.{movedBy}
 use Rattle.state.specs.Steps.{withLevel}
 use Rattle.state.proofs.Page.down.Statement.{statement}
@@ -16,7 +17,7 @@ returns : tie.Need-returns
 returns c =
     let s = c .before .before in
     let p = s .args .self in
-    ap (withLevel p) (c .moved-by .ensures ∙ ap (λ (n : ℤ). movedBy Down (s .args .ruler) (p .font .scale) n (p .now)) (toZ-ofZ (s .fits .n)))
+    ap (withLevel p) (c .moved-by .ensures ∙ ap (λ (n : ℤ). movedBy Down Rounded (s .args .ruler) (p .font .scale) n (p .now)) (toZ-ofZ (s .fits .n)))
 
 pub down-spec : {M : Type 1} → statement M
 down-spec = tie.close (tie.spec moved-by-requires returns)

@@ -16,7 +16,7 @@ returns : tie.Need-returns
 returns c =
     let s = c .before .before in
     let p = s .args .self in
-    ap (withLevel p) (c .moved-by .ensures ∙ ap (λ (n : ℤ). movedBy Sideways (s .args .ruler) (p .font .scale) n (p .now)) (toZ-ofZ (s .fits .n)))
+    ap (withLevel p) (c .moved-by .ensures ∙ ap (λ (n : ℤ). movedBy Sideways (s .args .stride) (s .args .ruler) (p .font .scale) n (p .now)) (toZ-ofZ (s .fits .n)))
 
 pub sideways-spec : {M : Type 1} → statement M
 sideways-spec = tie.close (tie.spec moved-by-requires returns)

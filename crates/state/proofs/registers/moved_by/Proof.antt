@@ -1,4 +1,4 @@
--- `state::registers::moved_by` meets its contract, in either direction. Assumes nothing.
+-- `state::registers::moved_by` meets its contract, in either direction and stride. Assumes nothing.
 use mathlib.Core.Path.{ap, ap₂, _∙_}
 use borrow.Author.Needs.{needs}
 use mir.Facts.{toZ-ofZ}
@@ -26,7 +26,7 @@ returns c =
     let s = c .before .before .before in
     c .at-spot .ensures
     ∙ ap (λ (spot : Spot). atSpot (s .args .direction) spot (s .args .level))
-    (c .before .move-by .ensures ∙ ap₂ (moved (s .args .direction) (s .args .ruler) (s .args .scale)) (toZ-ofZ (s .fits .n)) (c .before .before .spot-of .ensures))
+    (c .before .move-by .ensures ∙ ap₂ (moved (s .args .direction) (s .args .stride) (s .args .ruler) (s .args .scale)) (toZ-ofZ (s .fits .n)) (c .before .before .spot-of .ensures))
 
 pub moved-by-spec : {M : Type 1} → statement M
 moved-by-spec = tie.close (tie.spec spot-of-requires move-by-requires at-spot-requires returns)
