@@ -99,10 +99,10 @@ ruleAdded setting s height width =
     (placed (ruleRecord (setting .page) (s .level) (roundedUp (setting .ruler .k) height) (roundedUp (setting .ruler .k) width)))
     nothing
 
--- a rule that is set moves by its width, whether it gives a record or not (rule 7.8)
+-- a rule that is set moves by its width, in the stride that is rounded up, whether it gives a record or not (rule 7.8)
 abbrev pub setRule : Setting → State → ℤ → ℤ → Outcome
 setRule setting s height width =
-    movesTo Direction.Sideways s width (movedBy Direction.Sideways Stride.Rounded (setting .ruler) (s .font .scale) width (s .level))
+    movesTo Direction.Sideways s width (movedBy Direction.Sideways Stride.RoundedUp (setting .ruler) (s .font .scale) width (s .level))
     (ruleAdded setting s height width)
 
 -- a move sideways or down by its own distance (rule 7.9)

@@ -39,7 +39,7 @@ rule hh height width = record { kind = 2; font = 0; page = 1; hh = hh; vv = pos 
 
 -- its two rules, no missing character, no special
 abbrev pub printed : Contents
-printed = record { placements = rule (pos 9) (pos 2) (pos 3) ∷ rule (pos 11) (pos 1) (pos 1) ∷ []; missing-characters = 0; specials = 0 }
+printed = record { placements = rule (pos 9) (pos 2) (pos 3) ∷ rule (pos 12) (pos 1) (pos 1) ∷ []; missing-characters = 0; specials = 0 }
 
 -- placed by an empty table at 300 dots per inch, into an area that just holds it
 pub printed-placed : placedPage example [] 300 1 40 ≡ given printed
@@ -50,7 +50,7 @@ printed-placed = refl
 abbrev pub printedBytes : List ℕ
 printedBytes =
     (2 ∷ 0 ∷ 0 ∷ 1 ∷ 0 ∷ 0 ∷ 0 ∷ 9 ∷ 0 ∷ 0 ∷ 0 ∷ 0 ∷ 0 ∷ 0 ∷ 0 ∷ 2 ∷ 0 ∷ 0 ∷ 0 ∷ 3 ∷ [])
-    ++ (2 ∷ 0 ∷ 0 ∷ 1 ∷ 0 ∷ 0 ∷ 0 ∷ 11 ∷ 0 ∷ 0 ∷ 0 ∷ 0 ∷ 0 ∷ 0 ∷ 0 ∷ 1 ∷ 0 ∷ 0 ∷ 0 ∷ 1 ∷ [])
+    ++ (2 ∷ 0 ∷ 0 ∷ 1 ∷ 0 ∷ 0 ∷ 0 ∷ 12 ∷ 0 ∷ 0 ∷ 0 ∷ 0 ∷ 0 ∷ 0 ∷ 0 ∷ 1 ∷ 0 ∷ 0 ∷ 0 ∷ 1 ∷ [])
 
 -- the records' bytes are these
 pub printed-bytes : allBytes (printed .placements) ≡ printedBytes

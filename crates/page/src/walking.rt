@@ -72,7 +72,7 @@ pub fn walk(
             Turn::PastCharacter(width, escapement) => {
                 page = page.past_character(ruler, width, escapement);
             }
-            Turn::PastRule(width) => page = page.sideways(ruler, Stride::Rounded, width),
+            Turn::PastRule(width) => page = page.sideways(ruler, Stride::RoundedUp, width),
             Turn::Push => {
                 page.stack[depth] = now;
                 page = page.push();

@@ -269,7 +269,7 @@ loop-again-6 c =
     let n = c .before .before .before .before .before .before in
     let v = c .before .before .turn4 .given in
     let turn = Turn.PastRule (v .0 .0) in
-    to-moved n Direction.Sideways Stride.Rounded (v .0 .0) turn (v .1) refl (safe (read n) turn (v .1)) refl (c .sideways2 .result) (c .sideways2 .ensures)
+    to-moved n Direction.Sideways Stride.RoundedUp (v .0 .0) turn (v .1) refl (safe (read n) turn (v .1)) refl (c .sideways2 .result) (c .sideways2 .ensures)
 
 enum-told-4 : tie.Need-enum-told-4 Inv-loop μ-loop
 enum-told-4 c = search needs
