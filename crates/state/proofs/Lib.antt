@@ -1,3 +1,4 @@
 pub mod Levels
 pub mod Nearness
 pub mod Words
+pub mod Nearby

@@ -21,9 +21,13 @@ abbrev pub near : Direction → ℤ → ℕ → Bool
 near Sideways n scale = cond (ltZ n (pos 0)) (ltb (10 * natAbs n) (9 * scale)) (ltb (5 * natAbs n) scale)
 near Down n scale = ltb (5 * natAbs n) (4 * scale)
 
--- a pixel that is further than D from its centre, the rounded position, is put D from it on its own side (rule 7.4)
+-- a pixel that is further than D from its centre, the rounded position (rule 7.4)
+abbrev pub strays : ℕ → ℤ → ℤ → Bool
+strays drift centre pixel = ltb drift (natAbs (pixel -ℤ centre))
+
+-- one that strays is put D from the centre on its own side (rule 7.4)
 abbrev pub drifted : ℕ → ℤ → ℤ → ℤ
-drifted drift centre pixel = cond (ltb drift (natAbs (pixel -ℤ centre))) (cond (ltZ centre pixel) (centre +ℤ pos drift) (centre -ℤ pos drift)) pixel
+drifted drift centre pixel = cond (strays drift centre pixel) (cond (ltZ centre pixel) (centre +ℤ pos drift) (centre -ℤ pos drift)) pixel
 
 -- a new position, with a pixel that is held to it (rule 7.4)
 abbrev pub settled : Ruler → ℤ → ℤ → Spot
