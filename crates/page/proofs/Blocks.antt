@@ -31,10 +31,10 @@ use Rattle.page.proofs.CountLaws.{and-given, AsCounted, as-counted}
 use Rattle.page.proofs.Frames.{isOpening, isClosing, opening-push, closing-pop}
 
 -- a state is led to, or none
-to-same : {s t : State} → to s ≡ to t → s ≡ t
+pub to-same : {s t : State} → to s ≡ to t → s ≡ t
 to-same e = cc
 
-out-to : {A : Type 0} {s : State} → out ≡ to s → A
+pub out-to : {A : Type 0} {s : State} → out ≡ to s → A
 out-to e = absurd (true≢false (ap isOut e))
   where
     isOut : Led → Bool
@@ -118,7 +118,7 @@ module _ (setting : Setting) where
 
   -- ---- a run after another
 
-  run-append : (xs ys : List Command) (s end : State) → afterAll setting s (xs ++ ys) ≡ to end
+  pub run-append : (xs ys : List Command) (s end : State) → afterAll setting s (xs ++ ys) ≡ to end
       → (mid : State) × (afterAll setting s xs ≡ to mid) × (afterAll setting mid ys ≡ to end)
   run-append [] ys s end e = (s, refl, e)
   run-append (x ∷ xs) ys s end e = by (after setting s x) e (λ next. run-append xs ys next end)

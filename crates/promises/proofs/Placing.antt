@@ -65,7 +65,7 @@ all-length (r ∷ records) = omega (arith, length-append (recordBytes r) (allByt
 
 module _ (a : Arguments) where
   -- a page that is given was placed, and there is room
-  placed-by : (p : meaning.Contents) → meant a ≡ given p
+  pub placed-by : (p : meaning.Contents) → meant a ≡ given p
       → (g : Grounds a) × (placing (groundsSetting a g) freshState (own a) ≡ given p) × (placementRecordSize * length (p .placements) ≤ length (area a))
   placed-by p e =
       let (found, accepted, e1) = then-given (judged (file a)) _ p e in

@@ -4,3 +4,4 @@ pub mod Standing
 pub mod Fractions
 pub mod OfTheList
 pub mod StatedDepth
+pub mod Bars

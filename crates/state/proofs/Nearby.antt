@@ -8,7 +8,6 @@ use borrow.Author.Tests.{le-ltb}
 use lib.IntN.{ℤ, pos, natAbs, _+ℤ_, _-ℤ_}
 use lib.Signed.{ltZ}
 use Rattle.numbers.proofs.Signed.{sum, diff, abs-sum, same}
-use Rattle.units.specs.Steps.{Accepted}
 use Rattle.units.specs.Rounding.{rounded, roundedUp}
 use Rattle.units.proofs.Rounding.{rounded-zero}
 use Rattle.units.proofs.Strides.{one-apart}
@@ -56,11 +55,11 @@ module _ (ruler : Ruler) where
       (λ direction. subst NearSpot (sym (register-spot register direction n l)) (near direction))
 
   -- a fresh page is near
-  pub near-fresh : Accepted (ruler .k) → StateNear ruler freshState
-  near-fresh a = (zero, tt)
+  pub near-fresh : StateNear ruler freshState
+  near-fresh = (zero, tt)
     where
       at-zero : natAbs (pos 0 -ℤ rounded (ruler .k) (pos 0)) ≤ ruler .drift
-      at-zero = subst (λ (centre : ℤ). natAbs (pos 0 -ℤ centre) ≤ ruler .drift) (sym (rounded-zero a)) (omega arith)
+      at-zero = subst (λ (centre : ℤ). natAbs (pos 0 -ℤ centre) ≤ ruler .drift) (sym (rounded-zero (ruler .k))) (omega arith)
 
       zero : Near ruler zeroLevel
       zero Sideways = at-zero
@@ -81,12 +80,12 @@ module _ (ruler : Ruler) where
     up-unheld stays = ap (λ (t : Bool). cond t (cond (ltZ centre ahead) (centre +ℤ pos (ruler .drift)) (centre -ℤ pos (ruler .drift))) ahead) stays
 
     -- and it does not stray where it was less than D from the rounded position before
-    pub up-stays : Accepted (ruler .k) → natAbs (spot .pixel -ℤ rounded (ruler .k) (spot .position)) < ruler .drift → strays (ruler .drift) centre ahead ≡ false
-    up-stays a less =
+    pub up-stays : natAbs (spot .pixel -ℤ rounded (ruler .k) (spot .position)) < ruler .drift → strays (ruler .drift) centre ahead ≡ false
+    up-stays less =
         let before = rounded (ruler .k) (spot .position) in
         let step = roundedUp (ruler .k) n in
         let off = spot .pixel -ℤ before in
         let grown = (before +ℤ step) -ℤ centre in
         let apart : ahead -ℤ centre ≡ off +ℤ grown =
         same _ _ (omega (arith, sum (spot .pixel) step, diff ahead centre, diff (spot .pixel) before, sum before step, diff (before +ℤ step) centre, sum off grown)) in
-        le-ltb (ruler .drift) _ (within (ruler .drift) apart (omega (arith, abs-sum off grown, one-apart a (spot .position) n, less)))
+        le-ltb (ruler .drift) _ (within (ruler .drift) apart (omega (arith, abs-sum off grown, one-apart (ruler .k) (spot .position) n, less)))

@@ -1,8 +1,8 @@
 -- Laws of rounding, and the bounds that its products keep. Assumes nothing.
 use mathlib.Core.Path.{_≡_, refl, sym, ap, _∙_, subst}
 use mathlib.Core.Bool.{true, false}
-use Prim.Native.Nat.{ℕ, suc, _+_, _-_, _*_, _/_, _≤_, _<_, _^_}
-use native.Mathlib.Nat.{mul-le-mul, mul-le-mul-left, mul-le-mul-right, div-mul-le-self, div-lt-iff-lt-mul, le-div-iff-mul-le, le-mul-of-pos-right, le-of-mul-le-mul-right, one-mul, two-mul, mul-comm, add-mul, mul-add}
+use Prim.Native.Nat.{ℕ, zero, suc, _+_, _-_, _*_, _/_, _≤_, _<_, _^_}
+use native.Mathlib.Nat.{mul-le-mul, mul-le-mul-left, mul-le-mul-right, div-mul-le-self, div-lt-iff-lt-mul, le-div-iff-mul-le, le-mul-of-pos-right, le-of-mul-le-mul-right, one-mul, two-mul, mul-comm, add-mul, mul-add, div-zero, div-eq-of-lt}
 use native.Mathlib.Omega.{arith}
 use borrow.Author.Tests.{ltb-true}
 use lib.Dec.{T}
@@ -38,8 +38,13 @@ pub rounded-half : {k : Ratio} (a : Accepted k) (n : ℤ) → natAbs (rounded k 
 rounded-half {k} a n = subst (λ (m : ℕ). m + m ≤ natAbs n + 1) (sym (abs-sign n (nearestWhole k (natAbs n)))) (nearest-half a (natAbs n))
 
 -- rounded 0 is 0
-pub rounded-zero : {k : Ratio} → Accepted k → rounded k (pos 0) ≡ pos 0
-rounded-zero {k} a = let h = nearest-half a 0 in ap pos (omega arith)
+pub rounded-zero : (k : Ratio) → rounded k (pos 0) ≡ pos 0
+unfolding nearestWhole
+rounded-zero k = ap pos (by (k .q))
+  where
+    by : (q : ℕ) → (2 * k .p * 0 + q) / (2 * q) ≡ 0
+    by zero = div-zero (2 * k .p * 0 + 0)
+    by (suc q) = div-eq-of-lt (omega arith)
 
 -- ---- rounding up, by the sign
 

@@ -1,13 +1,12 @@
 -- How far a rounded position and a distance rounded up are from the rounded sum of the two: by one pixel at most. Assumes nothing.
 use mathlib.Core.Path.{_≡_, refl, sym, ap, _∙_}
-use Prim.Native.Nat.{ℕ, suc, _+_, _-_, _*_, _/_, _≤_, _<_}
-use native.Mathlib.Nat.{div-mul-le-self, div-lt-iff-lt-mul, le-of-mul-le-mul-right, lt-of-mul-lt-mul-right, two-mul, add-mul, mul-add, one-mul}
+use Prim.Native.Nat.{ℕ, zero, suc, _+_, _-_, _*_, _/_, _≤_, _<_}
+use native.Mathlib.Nat.{div-mul-le-self, div-lt-iff-lt-mul, le-of-mul-le-mul-right, lt-of-mul-lt-mul-right, two-mul, add-mul, mul-add, one-mul, div-zero}
 use native.Mathlib.Omega.{arith}
 use lib.IntN.{ℤ, pos, negsuc, negℤ, natAbs, _+ℤ_, _-ℤ_}
 use Rattle.numbers.specs.Parts.{up, dn}
 use Rattle.numbers.proofs.Signed.{sum, diff, up-neg, dn-neg}
 use Rattle.units.specs.declared.Ratio.{Ratio}
-use Rattle.units.specs.Steps.{Accepted}
 use Rattle.units.specs.Rounding.{nearestWhole, rounded, roundedUp}
 
 -- a number whose parts are at most n apart is at most n from 0
@@ -15,15 +14,12 @@ abs-within : (z : ℤ) (n : ℕ) → up z ≤ dn z + n → dn z ≤ up z + n →
 abs-within (pos m) n above below = omega arith
 abs-within (negsuc m) n above below = omega arith
 
-module _ {k : Ratio} (a : Accepted k) where
+module _ (k : Ratio) (some : 0 < k .q) where
   abbrev p : ℕ
   p = k .p
 
   abbrev q : ℕ
   q = k .q
-
-  some : 0 < q
-  some = omega (arith, a .positive, a .half)
 
   -- ---- of a magnitude, in units of 1/q
 
@@ -117,10 +113,31 @@ module _ {k : Ratio} (a : Accepted k) where
         let most : behind * q ≤ (ahead + 1) * q = omega (arith, ahead-is, behind-is, add-mul ahead 1 q, one-mul q, scaled-sum, rounded-high h, raised-low b, rounded-low (h +ℤ b)) in
         le-of-mul-le-mul-right {m = behind} {n = ahead + 1} most some
 
-    -- a rounded position and a distance rounded up make the rounded sum, or one pixel more or less
-    pub one-apart : natAbs ((rounded k h +ℤ roundedUp k b) -ℤ rounded k (h +ℤ b)) ≤ 1
-    one-apart =
-        let w = (rounded k h +ℤ roundedUp k b) -ℤ rounded k (h +ℤ b) in
-        let e = sum (rounded k h) (roundedUp k b) in
-        let d = diff (rounded k h +ℤ roundedUp k b) (rounded k (h +ℤ b)) in
-        abs-within w 1 (omega (arith, e, d, one-ahead)) (omega (arith, e, d, one-behind))
+    one-apart-some : natAbs ((near h +ℤ above b) -ℤ near (h +ℤ b)) ≤ 1
+    one-apart-some =
+        let e = sum (near h) (above b) in
+        let d = diff (near h +ℤ above b) (near (h +ℤ b)) in
+        abs-within ((near h +ℤ above b) -ℤ near (h +ℤ b)) 1 (omega (arith, e, d, one-ahead)) (omega (arith, e, d, one-behind))
+
+-- ---- whatever K is: where q is 0, all is rounded to 0
+
+module _ (k : Ratio) (none : k .q ≡ 0) where
+  flat : (m : ℕ) → nearestWhole k m ≡ 0
+  unfolding nearestWhole
+  flat m = rw none (div-zero (2 * k .p * m + 0))
+
+  rounded-flat : (z : ℤ) → rounded k z ≡ pos 0
+  rounded-flat (pos m) = ap pos (flat m)
+  rounded-flat (negsuc m) = ap (λ (x : ℕ). negℤ (pos x)) (flat (suc m))
+
+  raised-flat : (z : ℤ) → roundedUp k z ≡ pos 0
+  raised-flat (pos m) = rw none (ap pos (div-zero (k .p * m + (0 - 1))))
+  raised-flat (negsuc m) = rw none (ap (λ (x : ℕ). negℤ (pos x)) (div-zero (k .p * suc m)))
+
+-- a rounded position and a distance rounded up make the rounded sum, or one pixel more or less
+pub one-apart : (k : Ratio) (h b : ℤ) → natAbs ((rounded k h +ℤ roundedUp k b) -ℤ rounded k (h +ℤ b)) ≤ 1
+one-apart k h b = by (k .q) refl
+  where
+    by : (q : ℕ) → k .q ≡ q → natAbs ((rounded k h +ℤ roundedUp k b) -ℤ rounded k (h +ℤ b)) ≤ 1
+    by zero e = rw (rounded-flat k e h, raised-flat k e b, rounded-flat k e (h +ℤ b)) (omega arith)
+    by (suc q) e = one-apart-some k (omega (arith, e)) h b

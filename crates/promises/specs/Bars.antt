@@ -1,0 +1,50 @@
+-- A page at one of its commands, and the pixels that a bar covers: what the theorems on bars are stated with. Assumes nothing.
+use Prim.Native.Nat.{_<_}
+use mathlib.Core.Path.{_≡_}
+use mathlib.Core.Bool.{Bool, true, false}
+use mathlib.Core.List.{List, [], _∷_, _++_, map}
+use lib.IntN.{ℤ, natAbs, _+ℤ_, _-ℤ_}
+use lib.Signed.{ltZ}
+use Rattle.units.specs.Rounding.{rounded}
+use Rattle.state.specs.Moving.{strays}
+use Rattle.state.specs.Registers.{State, freshState}
+use Rattle.page.specs.declared.Record.{Record}
+use Rattle.page.specs.PageList.{Located}
+use Rattle.page.specs.Placing.{Setting, Added, nothing, placed, missing, special, continues, after}
+use Rattle.page.specs.Blocks.{to, afterAll}
+
+-- the record that a command adds, if it adds one (rule 8.3)
+abbrev pub recordAdded : Added → List Record
+recordAdded nothing = []
+recordAdded (placed r) = r ∷ []
+recordAdded missing = []
+recordAdded special = []
+
+-- a command among others, from a state on: where those before it lead, where it leads, what it adds, and where that stands among the records of all (rule 8.3)
+pub record AtCommand (setting : Setting) (start : State) (records : List Record) (before : List Located) (c : Located) : Type 0 where
+  pub here : State
+  pub next : State
+  pub added : Added
+  pub earlier : List Record
+  pub later : List Record
+  pub leads : afterAll setting start (map (λ x. x .command) before) ≡ to here
+  pub does : after setting here (c .command) ≡ continues next added
+  pub stands : records ≡ earlier ++ (recordAdded added ++ later)
+
+-- the pixel behind a bar would be further than D from the rounded h to which the bar leads, so that D moves hh from there (rule 7.4)
+abbrev pub bites : Setting → Record → State → Bool
+bites setting bar next = strays (setting .ruler .drift) (rounded (setting .ruler .k) (next .level .h)) (bar .hh +ℤ bar .extent)
+
+-- a column of pixels that a bar covers: from its hh on, as many as it is wide (rules 7.8, 8.1)
+pub record Covers (bar : Record) (column : ℤ) : Type 0 where
+  pub from : ltZ column (bar .hh) ≡ false
+  pub to-end : ltZ column (bar .hh +ℤ bar .extent) ≡ true
+
+-- a bar of a page that is placed: its record; unless D bites, hh grows by the record's own width, and each pixel of the bar is before hh; and D does not bite where hh was less than D from rounded h (rules 7.3, 7.4, 7.8)
+pub record ClearBar (setting : Setting) (written : List Record) (before : List Located) (c : Located) : Type 0 where
+  pub at : AtCommand setting freshState written before c
+  pub bar : Record
+  pub adds : at .added ≡ placed bar
+  pub grows : bites setting bar (at .next) ≡ false → at .next .level .hh -ℤ at .here .level .hh ≡ bar .extent
+  pub clear : bites setting bar (at .next) ≡ false → (column : ℤ) → Covers bar column → ltZ column (at .next .level .hh) ≡ true
+  pub free : natAbs (at .here .level .hh -ℤ rounded (setting .ruler .k) (at .here .level .h)) < setting .ruler .drift → bites setting bar (at .next) ≡ false
