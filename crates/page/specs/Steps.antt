@@ -10,7 +10,6 @@ use Rattle.refusals.specs.Numbers.{positionOutOfRange}
 use Rattle.refusals.specs.Answer.{Answer, refused, given, refusal}
 use Rattle.units.specs.Steps.{Accepted}
 use Rattle.units.specs.Rounding.{roundedUp}
-use Rattle.widths.specs.LookUp.{LookUp}
 use Rattle.widths.specs.Table.{checkedTable}
 use Rattle.commands.specs.declared.Kind.{Kind}
 use Rattle.commands.specs.declared.Kind.the-variants as Kind

@@ -1,7 +1,7 @@
 -- Levels stay in their ranges, and where the saved ones stand. Assumes nothing.
 use Prim.Native.Nat.{ℕ, zero, suc, _+_, _-_, _≤_, _<_, _^_}
 use mathlib.Core.Path.{_≡_, refl, sym, ap, ap₂, subst}
-use mathlib.Core.Bool.{false, cond}
+use mathlib.Core.Bool.{false}
 use mathlib.Core.List.{List, _∷_}
 use native.Mathlib.Numerals.{add-one, sub-one}
 use native.Mathlib.Omega.{arith}
@@ -9,7 +9,6 @@ use borrow.Author.Tests.{ltb-false}
 use lib.ListN.{length, getD, set}
 use lib.Seq.{getD-set-same, getD-set-other}
 use lib.IntN.{ℤ, natAbs, _+ℤ_}
-use Rattle.units.specs.Rounding.{rounded}
 use Rattle.state.specs.declared.Level.{Level}
 use Rattle.state.specs.declared.Page.{Page}
 use Rattle.state.specs.declared.moving.Direction.{Direction}

@@ -1,7 +1,7 @@
 -- The pixels of a page's state stay within D of its rounded positions, whatever moves, and where D does not move the pixel the stride that is
 -- rounded up leaves it just so far on. Assumes nothing.
 use Prim.Native.Nat.{ℕ, _≤_, _<_}
-use mathlib.Core.Path.{_≡_, refl, sym, ap, _∙_, subst}
+use mathlib.Core.Path.{_≡_, sym, ap, _∙_, subst}
 use mathlib.Core.Bool.{Bool, false, cond}
 use native.Mathlib.Omega.{arith}
 use borrow.Author.Tests.{le-ltb}
@@ -89,3 +89,26 @@ module _ (ruler : Ruler) where
         let apart : ahead -ℤ centre ≡ off +ℤ grown =
         same _ _ (omega (arith, sum (spot .pixel) step, diff ahead centre, diff (spot .pixel) before, sum before step, diff (before +ℤ step) centre, sum off grown)) in
         le-ltb (ruler .drift) _ (within (ruler .drift) apart (omega (arith, abs-sum off grown, one-apart (ruler .k) (spot .position) n, less)))
+
+  -- ---- without a font
+
+  -- a spot whose pixel is the rounded position
+  abbrev centred : ℤ → Spot
+  centred position = record { position = position; pixel = rounded (ruler .k) position }
+
+  -- it is held there
+  settled-centred : (position : ℤ) → settled ruler position (rounded (ruler .k) position) ≡ centred position
+  settled-centred position =
+      let centre = rounded (ruler .k) position in
+      let none : natAbs (centre -ℤ centre) ≤ ruler .drift = within (ruler .drift) (same (centre -ℤ centre) (pos 0) (omega (arith, diff centre centre))) (omega arith) in
+      ap
+      (λ (t : Bool). record { position = position; pixel = cond t (cond (ltZ centre centre) (centre +ℤ pos (ruler .drift)) (centre -ℤ pos (ruler .drift))) centre })
+      (le-ltb (ruler .drift) _ none)
+
+  -- a move of 0 is far then, and sets the pixel back to the rounded position, wherever a bar has left it
+  pub zero-sets-back : (direction : Direction) (spot : Spot) → moved direction Rounded ruler 0 (pos 0) spot ≡ centred (spot .position)
+  zero-sets-back direction spot = by direction ∙ ap centred (same (spot .position +ℤ pos 0) (spot .position) (omega (arith, sum (spot .position) (pos 0))))
+    where
+      by : (direction : Direction) → moved direction Rounded ruler 0 (pos 0) spot ≡ centred (spot .position +ℤ pos 0)
+      by Sideways = settled-centred (spot .position +ℤ pos 0)
+      by Down = settled-centred (spot .position +ℤ pos 0)

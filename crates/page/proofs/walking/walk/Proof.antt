@@ -1,7 +1,6 @@
 -- `page::walking::walk` meets its contract: each turn keeps what is still to come, and the page's end leaves nothing. Assumes nothing.
 use mathlib.Core.Path.{_≡_, refl, sym, ap, ap₂, _∙_, subst}
 use mathlib.Core.Bool.{false}
-use mathlib.Core.List.{List}
 use Prim.Native.Nat.{ℕ, _-_, _<_, _≤_}
 use native.Mathlib.Omega.{arith}
 use borrow.Author.Needs.{needs}
@@ -21,7 +20,6 @@ use Rattle.state.specs.declared.moving.Ruler.{Ruler}
 use Rattle.state.specs.Registers.{State, zeroLevel, pushed, popped, movedBy, characterMoved, directionOf, movedByRegister}
 use Rattle.state.specs.Steps.{pageState, savedOf, withLevel, Ruled, Bounded}
 use Rattle.state.proofs.Levels.{bounded-moved, bounded-by-register, bounded-character, stored}
-use Rattle.page.specs.declared.Counts.{Counts}
 use Rattle.page.specs.declared.Turn.{Turn}
 use Rattle.page.specs.declared.Turn.the-variants as Turn
 use Rattle.page.specs.declared.Step.{Step}
