@@ -4,9 +4,9 @@ ghost use mathlib.Core.Path.{_≡_};
 ghost use mathlib.Core.Bool.{false};
 ghost use Prim.Native.Nat.{_≤_, _^_};
 ghost use lib.IntN.{natAbs, _+ℤ_};
+ghost use Rattle.units.specs.Rounding.{rounded};
 ghost use Rattle.units.specs.Steps.{Accepted};
 ghost use Rattle.state.specs.Moving.{leaves, near, drifted, settled, followed, moved};
-ghost use Rattle.state.specs.declared.moving.Stride.the-variants.{Rounded};
 ghost use Rattle.state.specs.Steps.{Ruled};
 
 pub enum Direction {
@@ -88,30 +88,30 @@ pub fn settle(ruler: Ruler, position: i64, pixel: i64) -> Spot
     }
 }
 
-// Where the rounded stride takes the pixel: from where it is by the rounded distance if the move is near, else from 0 by the rounded new position.
-fn step(direction: Direction, ruler: Ruler, scale: u64, n: i64, spot: Spot) -> i64
-    requires { ⌜ Ruled ruler scale × (natAbs (spot .position) ≤ 2 ^ 31) × (natAbs (spot .pixel) ≤ 2 ^ 31) ⌝ }
-    requires { ⌜ (natAbs n ≤ 2 ^ 31) × (leaves (spot .position +ℤ n) ≡ false) ⌝ }
-    ensures { λ r. ⌜ r ≡ followed direction Rounded ruler scale n spot ⌝ }
-{
-    let mut from = spot.pixel;
-    let mut by = n;
-    if !is_near(direction, n, scale) {
-        from = 0;
-        by = spot.position + n;
-    }
-    from + units::round(ruler.k, by)
-}
-
-// Where a move by n takes the pixel.
-fn follow(direction: Direction, stride: Stride, ruler: Ruler, scale: u64, n: i64, spot: Spot) -> i64
-    requires { ⌜ Ruled ruler scale × (natAbs (spot .position) ≤ 2 ^ 31) × (natAbs (spot .pixel) ≤ 2 ^ 31) ⌝ }
-    requires { ⌜ (natAbs n ≤ 2 ^ 31) × (leaves (spot .position +ℤ n) ≡ false) ⌝ }
+// Where a move by n takes the pixel. The centre, to which a far one goes, is the rounded new position.
+fn follow(
+    direction: Direction,
+    stride: Stride,
+    ruler: Ruler,
+    scale: u64,
+    n: i64,
+    spot: Spot,
+    centre: i64,
+) -> i64
+    requires { ⌜ Ruled ruler scale × (natAbs n ≤ 2 ^ 31) × (natAbs (spot .pixel) ≤ 2 ^ 31) ⌝ }
+    requires { ⌜ centre ≡ rounded (ruler .k) (spot .position +ℤ n) ⌝ }
     ensures { λ r. ⌜ r ≡ followed direction stride ruler scale n spot ⌝ }
 {
+    let pixel = spot.pixel;
     match stride {
-        Stride::Rounded => step(direction, ruler, scale, n, spot),
-        Stride::RoundedUp => spot.pixel + units::round_up(ruler.k, n),
+        Stride::Rounded => {
+            if is_near(direction, n, scale) {
+                pixel + units::round(ruler.k, n)
+            } else {
+                centre
+            }
+        }
+        Stride::RoundedUp => pixel + units::round_up(ruler.k, n),
     }
 }
 
@@ -128,6 +128,11 @@ pub fn move_by(
     requires { ⌜ (natAbs n ≤ 2 ^ 31) × (leaves (spot .position +ℤ n) ≡ false) ⌝ }
     ensures { λ r. ⌜ r ≡ moved direction stride ruler scale n spot ⌝ }
 {
-    let pixel = follow(direction, stride, ruler, scale, n, spot);
-    settle(ruler, spot.position + n, pixel)
+    let after = spot.position + n;
+    let centre = units::round(ruler.k, after);
+    let pixel = follow(direction, stride, ruler, scale, n, spot, centre);
+    Spot {
+        position: after,
+        pixel: held_near(ruler.drift, centre, pixel),
+    }
 }

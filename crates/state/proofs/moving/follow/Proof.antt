@@ -1,26 +1,90 @@
 -- `state::moving::follow` meets its contract, in either stride. Assumes nothing.
 use mathlib.Core.Path.{_≡_, sym, ap, _∙_, subst}
+use mathlib.Core.Bool.{Bool, cond}
 use Prim.Native.Nat.{_≤_, _^_}
 use native.Mathlib.Omega.{arith}
-use borrow.Author.Needs.{needs, sfits-of}
+use borrow.Author.Needs.{needs}
 use lib.IntN.{ℤ, natAbs, _+ℤ_}
 use mir.Syntax.{w64}
 use mir.Val.{SFits}
 use mir.Facts.{toZ-ofZ}
-use Rattle.units.specs.Rounding.{roundedUp}
-use Rattle.units.proofs.Rounding.{up-within}
+use Rattle.units.specs.Rounding.{rounded, roundedUp}
+use Rattle.units.proofs.Rounding.{rounded-half, up-within}
 use Rattle.state.specs.declared.moving.Stride.{Stride}
 use Rattle.state.specs.declared.moving.Stride.the-variants.{Rounded}
-use Rattle.state.specs.Moving.{followed}
+use Rattle.state.specs.Moving.{near, followed}
 use Rattle.state.proofs.Words.{asWord, word-sum, word-sum-fits}
 use Rattle.state.proofs.moving.follow.Statement.{statement}
 use Rattle.state.proofs.moving.follow.Tie as tie
 
+module _ (s : tie.Start) where
+  abbrev n : ℤ
+  n = s .args .n
+
+  abbrev pixel : ℤ
+  pixel = s .args .spot .pixel
+
+  -- what is asked of a pixel, by the stride
+  abbrev Asked : ℤ → Stride → Type 0
+  Asked z stride = z ≡ followed (s .args .direction) stride (s .args .ruler) (s .args .scale) n (s .args .spot)
+
+  -- and in the rounded one, by whether the move is near
+  abbrev AskedNear : ℤ → Bool → Type 0
+  AskedNear z t = z ≡ cond t (pixel +ℤ rounded (s .args .ruler .k) n) (rounded (s .args .ruler .k) (s .args .spot .position +ℤ n))
+
+  -- a step that the code has worked out, and the pixel that has grown by it
+  module _ (step given : ℤ) (small : natAbs step ≤ 2 ^ 31) (is : given ≡ step) where
+    grown-fits : SFits w64 (asWord pixel +ℤ asWord given)
+    grown-fits = subst (λ (z : ℤ). SFits w64 (asWord pixel +ℤ asWord z)) (sym is) (word-sum-fits pixel step (s .pre .0 .2) small)
+
+    grown-is : asWord (asWord pixel +ℤ asWord given) ≡ pixel +ℤ step
+    grown-is = ap (λ (z : ℤ). asWord (asWord pixel +ℤ asWord z)) is ∙ word-sum pixel step (s .pre .0 .2) small
+
 enum-told : tie.Need-enum-told
 enum-told c = search needs
 
-step-requires : tie.Need-step-requires
-step-requires c κs = search needs
+is-near-requires : tie.Need-is-near-requires
+is-near-requires c κs = search needs
+
+near-is : (c : tie.After-is-near) → let s = c .before .before .before .before in c .is-near .result ≡ near (s .args .direction) (n s) (s .args .scale)
+near-is c =
+    let s = c .before .before .before .before in
+    c .is-near .ensures ∙ ap (λ (z : ℤ). near (s .args .direction) z (s .args .scale)) (toZ-ofZ (s .fits .n))
+
+round-requires : tie.Need-round-requires
+round-requires c κs = search needs
+
+-- near: by rounded n
+module _ (c : tie.After-round) where
+  abbrev start : tie.Start
+  start = c .before .before .before .before .before .before
+
+  abbrev step : ℤ
+  step = rounded (start .args .ruler .k) (n start)
+
+  step-small : natAbs step ≤ 2 ^ 31
+  step-small = omega (arith, rounded-half (start .pre .0 .0 .unit) (n start), start .pre .0 .1)
+
+  step-is : c .round .result ≡ step
+  step-is = c .round .ensures ∙ ap (rounded (start .args .ruler .k)) (toZ-ofZ (start .fits .n))
+
+add-result : tie.Need-add-result
+add-result c = grown-fits (start c) (step c) (c .round .result) (step-small c) (step-is c)
+
+returns : tie.Need-returns
+returns c =
+    let s = start c in
+    let z = asWord (asWord (pixel s) +ℤ asWord (c .round .result)) in
+    subst (Asked s z) (sym (c .before .before .before .enum-told .given .1))
+    (subst (AskedNear s z) (sym (c .before .if1 .taken) ∙ near-is (c .before .before)) (grown-is s (step c) (c .round .result) (step-small c) (step-is c)))
+
+-- far: to the centre
+returns-2 : tie.Need-returns-2
+returns-2 c =
+    let s = c .before .before .before .before .before in
+    let z = asWord (s .args .centre) in
+    subst (Asked s z) (sym (c .before .before .enum-told .given .1))
+    (subst (AskedNear s z) (sym (c .if1 .left) ∙ near-is (c .before)) (toZ-ofZ (s .fits .centre) ∙ s .pre .1))
 
 enum-told-2 : tie.Need-enum-told-2
 enum-told-2 c = search needs
@@ -28,46 +92,40 @@ enum-told-2 c = search needs
 round-up-requires : tie.Need-round-up-requires
 round-up-requires c κs = search needs
 
--- what is asked, by the stride
-abbrev Asked : tie.Start → ℤ → Stride → Type 0
-Asked s pixel stride = pixel ≡ followed (s .args .direction) stride (s .args .ruler) (s .args .scale) (s .args .n) (s .args .spot)
+-- rounded up: by n rounded up
+module _ (c : tie.After-round-up) where
+  abbrev from : tie.Start
+  from = c .before .before .before .before
 
-returns : tie.Need-returns
-returns c =
-    let s = c .before .before .before in
-    let a = s .args in
-    subst (Asked s (asWord (c .step .result))) (sym (c .before .enum-told .given .1))
-    (toZ-ofZ (sfits-of (c .step .ok)) ∙ c .step .ensures ∙ ap (λ (n : ℤ). followed (a .direction) Rounded (a .ruler) (a .scale) n (a .spot)) (toZ-ofZ (s .fits .n)))
+  abbrev rise : ℤ
+  rise = roundedUp (from .args .ruler .k) (n from)
 
--- what the code has rounded up
-module _ (c : tie.After-struct-told) where
-  abbrev start : tie.Start
-  start = c .before .before .before .before .before
+  rise-small : natAbs rise ≤ 2 ^ 31
+  rise-small = omega (arith, up-within (from .pre .0 .0 .unit) (n from), from .pre .0 .1)
 
-  abbrev pixel : ℤ
-  pixel = start .args .spot .pixel
+  rise-is : c .round-up .result ≡ rise
+  rise-is = c .round-up .ensures ∙ ap (roundedUp (from .args .ruler .k)) (toZ-ofZ (from .fits .n))
 
-  abbrev step : ℤ
-  step = roundedUp (start .args .ruler .k) (start .args .n)
+add-result-2 : tie.Need-add-result-2
+add-result-2 c = grown-fits (from c) (rise c) (c .round-up .result) (rise-small c) (rise-is c)
 
-  step-small : natAbs step ≤ 2 ^ 31
-  step-small = omega (arith, up-within (start .pre .0 .0 .unit) (start .args .n), start .pre .1 .0)
-
-  step-is : c .before .before .round-up .result ≡ step
-  step-is = c .before .before .round-up .ensures ∙ ap (roundedUp (start .args .ruler .k)) (toZ-ofZ (start .fits .n))
-
-  grown-is : asWord (asWord pixel +ℤ asWord (c .before .before .round-up .result)) ≡ pixel +ℤ step
-  grown-is = ap (λ (z : ℤ). asWord (asWord pixel +ℤ asWord z)) step-is ∙ word-sum pixel step (start .pre .0 .2) step-small
-
-add-result : tie.Need-add-result
-add-result c =
-    subst (λ (z : ℤ). SFits w64 (asWord (pixel c) +ℤ asWord z)) (sym (step-is c)) (word-sum-fits (pixel c) (step c) (start c .pre .0 .2) (step-small c))
-
-returns-2 : tie.Need-returns-2
-returns-2 c =
-    subst (Asked (start c) (asWord (asWord (pixel c) +ℤ asWord (c .before .before .round-up .result)))) (sym (c .before .before .before .enum-told2 .given .1)) (grown-is c)
+returns-3 : tie.Need-returns-3
+returns-3 c =
+    let s = from c in
+    subst (Asked s (asWord (asWord (pixel s) +ℤ asWord (c .round-up .result)))) (sym (c .before .enum-told2 .given .1))
+    (grown-is s (rise c) (c .round-up .result) (rise-small c) (rise-is c))
 
 pub follow-spec : {M : Type 1} → statement M
 follow-spec =
     tie.close
-    (tie.spec enum-told step-requires enum-told-2 round-up-requires add-result returns returns-2)
+    (tie.spec
+    enum-told
+    is-near-requires
+    round-requires
+    add-result
+    enum-told-2
+    round-up-requires
+    add-result-2
+    returns
+    returns-2
+    returns-3)

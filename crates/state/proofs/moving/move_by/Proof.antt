@@ -2,61 +2,81 @@
 use mathlib.Core.Path.{_≡_, ap, ap₂, _∙_}
 use Prim.Native.Nat.{_≤_, _^_}
 use native.Mathlib.Omega.{arith}
-use borrow.Author.Needs.{needs}
+use borrow.Author.Needs.{sfits-of}
 use lib.IntN.{ℤ, natAbs, _+ℤ_}
 use mir.Facts.{toZ-ofZ}
-use Rattle.state.specs.Moving.{followed, settled}
+use Rattle.units.specs.Rounding.{rounded}
+use Rattle.units.proofs.Rounding.{rounded-half}
+use Rattle.state.specs.declared.moving.Spot.{Spot}
+use Rattle.state.specs.Moving.{followed, drifted}
 use Rattle.state.proofs.Nearness.{within, followed-small}
 use Rattle.state.proofs.Levels.{position-in}
 use Rattle.state.proofs.Words.{asWord, word-is, word-sum, word-sum-fits}
 use Rattle.state.proofs.moving.move_by.Statement.{statement}
 use Rattle.state.proofs.moving.move_by.Tie as tie
 
-follow-requires : tie.Need-follow-requires
-follow-requires c κs = search needs
-
--- what the code holds as it settles
-module _ (c : tie.After-struct-told) where
-  abbrev start : tie.Start
-  start = c .before .before .before
+module _ (s : tie.Start) where
+  abbrev n : ℤ
+  n = s .args .n
 
   abbrev position : ℤ
-  position = start .args .spot .position
-
-  abbrev n : ℤ
-  n = start .args .n
+  position = s .args .spot .position
 
   -- the new position
   after-is : asWord (asWord position +ℤ asWord n) ≡ position +ℤ n
-  after-is = word-sum position n (start .pre .0 .1) (start .pre .1 .0)
+  after-is = word-sum position n (s .pre .0 .1) (s .pre .1 .0)
 
   after-small : natAbs (position +ℤ n) ≤ 2 ^ 31
-  after-small = omega (arith, position-in (position +ℤ n) (start .pre .1 .1))
+  after-small = omega (arith, position-in (position +ℤ n) (s .pre .1 .1))
 
-  -- and the pixel that has followed
-  abbrev pixel : ℤ
-  pixel = followed (start .args .direction) (start .args .stride) (start .args .ruler) (start .args .scale) n (start .args .spot)
+  -- the centre
+  abbrev centre : ℤ
+  centre = rounded (s .args .ruler .k) (position +ℤ n)
 
-  pixel-small : natAbs pixel ≤ 2 ^ 32
-  pixel-small = let a = start .args in followed-small (a .direction) (a .stride) (a .ruler) (start .pre .0 .0 .unit) (a .scale) n (a .spot) (start .pre .1 .0) after-small (start .pre .0 .2)
+  centre-small : natAbs centre ≤ 2 ^ 31
+  centre-small = omega (arith, rounded-half (s .pre .0 .0 .unit) (position +ℤ n), after-small)
 
-  pixel-is : asWord (c .before .before .follow .result) ≡ pixel
-  pixel-is =
-      let a = start .args in
-      ap asWord (c .before .before .follow .ensures ∙ ap (λ (z : ℤ). followed (a .direction) (a .stride) (a .ruler) (a .scale) z (a .spot)) (toZ-ofZ (start .fits .n)))
-      ∙ word-is pixel pixel-small
+  -- the pixel that has followed, for a distance
+  abbrev pixelBy : ℤ → ℤ
+  pixelBy by = followed (s .args .direction) (s .args .stride) (s .args .ruler) (s .args .scale) by (s .args .spot)
 
-add-settle : tie.Need-add-settle
-add-settle c = word-sum-fits (position c) (n c) (start c .pre .0 .1) (start c .pre .1 .0)
+  pixel-small : natAbs (pixelBy n) ≤ 2 ^ 32
+  pixel-small =
+      let a = s .args in
+      followed-small (a .direction) (a .stride) (a .ruler) (s .pre .0 .0 .unit) (a .scale) n (a .spot) (s .pre .1 .0) after-small (s .pre .0 .2)
 
-settle-requires : tie.Need-settle-requires
-settle-requires c κs = (
-  (start c .pre .0 .0 .unit, start c .pre .0 .0 .drift-small),
-  (within (2 ^ 31) (after-is c) (after-small c), within (2 ^ 32) (pixel-is c) (pixel-small c)),
-)
+add-after : tie.Need-add-after
+add-after c = let s = c .before .before in word-sum-fits (position s) (n s) (s .pre .0 .1) (s .pre .1 .0)
+
+round-requires : tie.Need-round-requires
+round-requires c κs = let s = c .before .before in (s .pre .0 .0 .unit, within (2 ^ 31) (after-is s) (after-small s))
+
+centre-is : (c : tie.After-round) → asWord (c .round .result) ≡ centre (c .before .before .before)
+centre-is c =
+    let s = c .before .before .before in
+    ap asWord (c .round .ensures ∙ ap (rounded (s .args .ruler .k)) (after-is s)) ∙ word-is (centre s) (omega (arith, centre-small s))
+
+follow-requires : tie.Need-follow-requires
+follow-requires c κs =
+    let s = c .before .before .before in
+    rw (toZ-ofZ (s .fits .n)) ((s .pre .0 .0, s .pre .1 .0, s .pre .0 .2), centre-is c)
+
+pixel-is : (c : tie.After-follow) → let s = c .before .before .before .before in asWord (c .follow .result) ≡ pixelBy s (n s)
+pixel-is c =
+    let s = c .before .before .before .before in
+    ap asWord (c .follow .ensures ∙ ap (pixelBy s) (toZ-ofZ (s .fits .n))) ∙ word-is (pixelBy s (n s)) (pixel-small s)
+
+held-near-requires : tie.Need-held-near-requires
+held-near-requires c κs =
+    let s = c .before .before .before .before in
+    (s .pre .0 .0 .drift-small, within (2 ^ 31) (centre-is (c .before)) (centre-small s), within (2 ^ 32) (pixel-is c) (pixel-small s))
 
 returns : tie.Need-returns
-returns c = c .settle .ensures ∙ ap₂ (settled (start (c .before) .args .ruler)) (after-is (c .before)) (pixel-is (c .before))
+returns c =
+    let s = c .before .before .before .before .before in
+    ap₂ (λ (position pixel : ℤ). record { position = position; pixel = pixel }) (after-is s)
+    (toZ-ofZ (sfits-of (c .held-near .ok)) ∙ c .held-near .ensures ∙ ap₂ (drifted (s .args .ruler .drift)) (centre-is (c .before .before)) (pixel-is (c .before)))
 
 pub move-by-spec : {M : Type 1} → statement M
-move-by-spec = tie.close (tie.spec follow-requires add-settle settle-requires returns)
+move-by-spec =
+    tie.close (tie.spec add-after round-requires follow-requires held-near-requires returns)
