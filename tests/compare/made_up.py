@@ -465,31 +465,29 @@ def bar_widths(unit, scale):
     return sorted({sign * n for n in some if 0 <= n <= FURTHEST // 8 for sign in (1, -1)})
 
 
-def bars(group, rng):
+def bars(group, rng, resolution):
     """Bars of every width that is worth a try and of every height, with a font and without, from pixels that are on rounded h or as far from
-    it as D lets them be, on either side. Behind each bar every move, those of 0 among them, another bar, push and pop, a character. The
-    answers are worked out from the rules."""
-    for resolution in BAR_RESOLUTIONS:
-        for units, scale in ((units_for(3, 10, resolution), 100), (units_for(1, 2, resolution), 100), (TEX_UNITS, 655_360), (TINY_UNITS, 1000)):
-            unit, font = unit_of(units, resolution), Font(0, 5, scale)
-            step = max(1, min(scale // 9, int(Fraction(3, 5) / unit)))  # near, and where it may be so wide, less than the pixel that it is rounded to
-            pages = []
-            for selected in ([], [select(0)]):
-                for lead in ([], [right(step)] * 7, [right(-step)] * 7, [rule(1, 1)] * 3, [right(1), right(-2)]):
-                    commands = [*selected, *lead, MARK]
-                    for turn, b in enumerate(bar_widths(unit, scale)):
-                        bar = rule(BAR_HEIGHTS[turn % len(BAR_HEIGHTS)], b)
-                        after = [right(0), bytes([W0]), bytes([X0]), sized(W0 + 1, b), right(1), right(-1), bar, rule(1, 0), rule(-1, 1), rule(1, -1),
-                                 PUSHED + bar + POPPED, rule(1, b, PUT_RULE), down(scale), NOTHING, *([b"A"] if selected else [])]
-                        commands += [PUSHED, bar, MARK, *(c for one in after for c in (PUSHED, one, MARK, POPPED)), POPPED]
-                    pages.append(commands)
-            file = volume(units, [font.definition(), *(c for p in pages for c in page(p))], [font])
-            for number in range(1, len(pages) + 1):
-                ask_placed(group, file, record(5, scale, 65, 2, big(1 << 16, 4)), resolution, number)
+    it as D lets them be, on either side. Behind each bar every move, those of 0 among them, another bar, push and pop, a character."""
+    for units, scale in ((units_for(3, 10, resolution), 100), (units_for(1, 2, resolution), 100), (TEX_UNITS, 655_360), (TINY_UNITS, 1000)):
+        unit, font = unit_of(units, resolution), Font(0, 5, scale)
+        step = max(1, min(scale // 9, int(Fraction(3, 5) / unit)))  # near, and where it may be so wide, less than the pixel that it is rounded to
+        pages = []
+        for selected in ([], [select(0)]):
+            for lead in ([], [right(step)] * 7, [right(-step)] * 7, [rule(1, 1)] * 3, [right(1), right(-2)]):
+                commands = [*selected, *lead, MARK]
+                for turn, b in enumerate(bar_widths(unit, scale)):
+                    bar = rule(BAR_HEIGHTS[turn % len(BAR_HEIGHTS)], b)
+                    after = [right(0), bytes([W0]), bytes([X0]), sized(W0 + 1, b), right(1), right(-1), bar, rule(1, 0), rule(-1, 1), rule(1, -1),
+                             PUSHED + bar + POPPED, rule(1, b, PUT_RULE), down(scale), NOTHING, *([b"A"] if selected else [])]
+                    commands += [PUSHED, bar, MARK, *(c for one in after for c in (PUSHED, one, MARK, POPPED)), POPPED]
+                pages.append(commands)
+        file = volume(units, [font.definition(), *(c for p in pages for c in page(p))], [font])
+        for number in range(1, len(pages) + 1):
+            ask_placed(group, file, record(5, scale, 65, 2, big(1 << 16, 4)), resolution, number)
 
 
 def bars_at_the_ends(group, rng):
-    """Bars, with an area and without, that lead to the ends of h's range and one step past. The answers are worked out from the rules."""
+    """Bars, with an area and without, that lead to the ends of h's range and one step past."""
     font = Font(0, 5, GREATEST_SCALE)
     for resolution in (50, 100, 300):
         for units in (units_for(1, 2, resolution), TEX_UNITS, TINY_UNITS):
@@ -508,7 +506,7 @@ def bars_at_the_ends(group, rng):
 
 
 def pages_with_bars(group, rng, count):
-    """Random pages with many bars among their commands. The answers are worked out from the rules."""
+    """Random pages with many bars among their commands."""
     for _ in range(count):
         resolution, other = rng.sample(BAR_RESOLUTIONS[:-1], 2)
         units = rng.choice([TEX_UNITS, units_for(1, 2, resolution), units_for(3, 10, resolution), TINY_UNITS])
@@ -530,7 +528,7 @@ def pages_with_bars(group, rng, count):
 def groups(gather, rng, long):
     """All of them, one group a notion; the random ones many times in the long form."""
     for make in (every_opcode, near_and_far, edge_of_range, many_fonts, deepest, stated_depths, codes, order_of_refusals,
-                 tables_right_and_wrong, greatest_sizes, bars, bars_at_the_ends):
+                 tables_right_and_wrong, greatest_sizes):
         with gather("made up: " + make.__name__.replace("_", " ")) as group:
             make(group, rng)
     for turn in range(100 if long else 2):
@@ -539,6 +537,15 @@ def groups(gather, rng, long):
     for turn in range(400 if long else 20):
         with gather(f"made up: random pages {turn + 1}") as group:
             random_pages(group, rng, 60)
+
+
+def bar_groups(gather, rng, long):
+    """Those of bars, whose answers are all worked out from the rules."""
+    for resolution in BAR_RESOLUTIONS:
+        with gather(f"bars: at {resolution} dots per inch") as group:
+            bars(group, rng, resolution)
+    with gather("bars: at the ends") as group:
+        bars_at_the_ends(group, rng)
     for turn in range(100 if long else 5):
-        with gather(f"made up: pages with bars {turn + 1}") as group:
+        with gather(f"bars: random pages {turn + 1}") as group:
             pages_with_bars(group, rng, 60)
