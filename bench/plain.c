@@ -1,6 +1,6 @@
-/* The reader's jobs in plain C, from document 01, written for speed: one scan of the file that notes the wanted page; a page
-   walked twice, first with h and v alone (16 and 17 must be known before a byte is written), then with the pixels; the metrics
-   of a font's characters kept once they are found. */
+/* The reader's jobs in plain C, from documents 01 and 02, written for speed: one scan of the file that notes the wanted page;
+   a page walked twice, first with h and v alone (16 and 17 must be known before a byte is written), then with the pixels; the
+   metrics of a font's characters kept once they are found. */
 #include "plain.h"
 #include <string.h>
 
@@ -386,9 +386,11 @@ static inline int64_t rounded(const struct unit *unit, int64_t n)
     return n < 0 ? -pixels : pixels;
 }
 
+/* Division cuts towards 0, which is upwards below it. */
 static inline int64_t rounded_up(const struct unit *unit, int64_t n)
 {
-    return (int64_t)((unit->p * (uint64_t)n + unit->q - 1) / unit->q);
+    const int64_t q = (int64_t)unit->q;
+    return ((int64_t)unit->p * n + (n > 0 ? q - 1 : 0)) / q;
 }
 
 struct metric {
@@ -517,17 +519,23 @@ static inline __attribute__((always_inline)) struct refusal walk(struct page *pa
         case 131: code = signed4(parameters); at += 5; goto set;
         case 132: case 137: {
             int32_t height = signed4(parameters), width = signed4(parameters + 4);
+            int64_t wide = writing ? rounded_up(&unit, width) : 0;
             if (height > 0 && width > 0) {
                 if (writing)
-                    to = put_record(to, 2, 0, page->number, &now, rounded_up(&unit, height), rounded_up(&unit, width));
+                    to = put_record(to, 2, 0, page->number, &now, rounded_up(&unit, height), wide);
                 else
                     records++;
             }
             at += 9;
             if (opcode == 137)
                 continue;
-            n = width;
-            goto sideways;
+            /* set: the pixel moves by the width as it is drawn, near or far, so that what comes next does not overlap it */
+            now.h += width;
+            if (writing)
+                now.hh = held(now.hh + wide, rounded(&unit, now.h), unit.drift);
+            else if (leaves(now.h))
+                return refuse(16, (size_t)(command - file));
+            continue;
         }
         case 133: code = parameters[0]; at += 2; goto put;
         case 134: code = (int32_t)unsigned2(parameters); at += 3; goto put;

@@ -1,4 +1,4 @@
-"""The questions of tests/compare as jobs: made-up files, each group for one notion, published files, and damaged ones."""
+"""The questions of tests/compare as jobs: made-up files, each group for one notion, bars, published files, and damaged ones."""
 
 import contextlib
 import random
@@ -60,5 +60,6 @@ def ask_all(take, seed, damaged_files):
     paths = sorted((TESTS / "published").glob("*.dvi"))
     published.groups(gather, random.Random(f"{seed} published"), paths)
     made_up.groups(gather, random.Random(f"{seed} made-up"), False)
+    made_up.bar_groups(gather, random.Random(f"{seed} bars"), False)
     small = [path.read_bytes() for path in paths if path.stat().st_size <= 2000]
     damaged.groups(gather, random.Random(f"{seed} damaged"), small, damaged_files, False)

@@ -1,8 +1,9 @@
 """DVItype as a third witness: where it puts every character and every rule of a file.
 
 DVItype's h and v follow the same rules as document 01's, so all of them are compared. Its hh and vv do not quite: its bounds of near
-and far are other fractions of the font's size, and a set_rule adds the rule's width rounded up. So hh is compared only while it
-cannot have been touched by that: `Witness` follows it through every move. (Both have the drift D = 2 from R 200 on.)
+and far are other fractions of the font's size. A set_rule moves hh as document 02 has it (Ask 2), by the width rounded up, near or far; but
+DVItype multiplies by a float, so where K times the width is whole it may round up to one more. So hh and vv are compared only while they
+cannot have been touched by that: `Witness` follows them through every move. (Both have the drift D = 2 from R 200 on.)
 """
 
 import functools
@@ -14,6 +15,7 @@ from fractions import Fraction
 
 import dvi
 from made_up import LONGEST_FILE, WHOLE_AREA, place, unit_of
+from published import units_of
 from tables import MOST_RECORDS, record
 
 MOST_IN_AREA = WHOLE_AREA // 20
@@ -37,7 +39,7 @@ class NoWitness(Exception):
 
 class Mark:
     """A character or a rule: `value` and `other` are code and None, or height and width; hh and vv are None where DVItype's need not
-    be document 01's; `sides` are a rule's height and width in pixels."""
+    be ours; `sides` are a rule's height and width in pixels."""
 
     def __init__(self, kind, font, h, v, value, other=None, hh=None, vv=None, sides=None):
         self.kind, self.font, self.h, self.v, self.value, self.other = kind, font, h, v, value, other
@@ -63,8 +65,8 @@ def near_there_and_here(direction, n, scale):
 class Witness:
     """Reads what DVItype prints, line by line."""
 
-    def __init__(self, scales):
-        self.scales = scales  # by font number
+    def __init__(self, scales, unit):
+        self.scales, self.unit = scales, unit  # scales by font number; K at the resolution asked
         self.pages, self.widths = [], {}  # widths by font number and code mod 256, as DVItype adds them to h
         self.post = self.stated_depth = self.page_count = None
         self.font_count = self.depth = 0
@@ -140,19 +142,26 @@ class Witness:
                 self.widths[self.font, self.set_code] = n
         else:
             there, here = near_there_and_here(way, n, self.scales.get(self.font, 0))
-            if self.last == "setrule" or there != here:
+            if self.last == "setrule":
+                self.same[way] &= n == 0 or not whole(self.unit * n)  # else both went on by the same pixels, as far as D lets them
+            elif there != here:
                 self.same[way] = False
             elif not there:
                 self.same[way] = True  # both took the rounded new h or v
 
 
-def typed(path, scales, resolution):
-    """What DVItype says of a file at this resolution."""
+def whole(x):
+    """Whether what DVItype's float makes of this number can be a little more, and be rounded up to one more."""
+    return x.denominator == 1
+
+
+def typed(path, scales, unit, resolution):
+    """What DVItype says of a file at this resolution, where K is this."""
     command = ["dvitype", "-output-level=4", f"-dpi={resolution}", str(path)]
     done = subprocess.run(command, stdin=subprocess.DEVNULL, capture_output=True, timeout=600, check=False)
     if done.returncode:
         raise NoWitness("DVItype gives up: " + done.stderr.decode(errors="replace").strip()[-100:])
-    return Witness(scales).read(done.stdout.decode("latin-1"))
+    return Witness(scales, unit).read(done.stdout.decode("latin-1"))
 
 
 def half(n):
@@ -287,8 +296,7 @@ class Testimony:
                 continue
 
             def sides(mark):
-                # DVItype multiplies by a float: where K times a side is whole, what it rounds up can be that and a little more.
-                return [None if (unit * n).denominator == 1 else pixels for n, pixels in zip((mark.value, mark.other), mark.sides)]
+                return [None if whole(unit * n) else pixels for n, pixels in zip((mark.value, mark.other), mark.sides)]
 
             table = group.keep(table_of(self.rows, stated))
             for number, page in enumerate(pages, 1):
@@ -326,11 +334,11 @@ def hear(data, resolutions, used_alone=False):
         raise NoWitness("it is no DVI file")
     if len(halved(data, 1)) > LONGEST_FILE:
         raise NoWitness("it is longer than the desk holds")
-    scales = {font.number: font.scale for font in fonts}
+    scales, units = {font.number: font.scale for font in fonts}, units_of(commands)
     with tempfile.TemporaryDirectory() as folder:
         path = pathlib.Path(folder) / "typed.dvi"  # DVItype wants this ending
         path.write_bytes(data)
-        heard = {resolution: typed(path, scales, resolution) for resolution in resolutions}
+        heard = {resolution: typed(path, scales, unit_of(units, resolution), resolution) for resolution in resolutions}
     first = next(iter(heard.values()))
     if len(first.pages) != dvi.page_count(commands):
         raise NoWitness("DVItype does not read all its pages")

@@ -9,7 +9,7 @@ NAME.dvi is what TeX wrote, NAME.widths the width table of its characters (escap
     c FONT CODE H V  HH VV  HH VV ...            a character, its pixels at each R
     r HEIGHT WIDTH H V  HH VV HIGH WIDE ...      a rule, its pixels and its sides in pixels at each R
 
-with ? for an hh or vv that DVItype's rules may give otherwise than document 01's.
+with ? for an hh or vv that DVItype may give otherwise than our rules (`dvitype.py` says where).
 """
 
 import pathlib

@@ -7,6 +7,7 @@ from dvi import (
     DOWN1, FNT1, FURTHEST, GREATEST_SCALE, MARK, NOTHING, PLAIN_UNITS, POPPED, PUSHED, PUT1, PUT_RULE, RIGHT1, SET1,
     TEX_UNITS, W0, X0, XXX1, Y0, Z0, Font, big, character, down, page, right, rule, select, sized, special, volume,
 )
+from placing import placed
 from tables import MOST_RECORDS, record, table_for, wrong_tables
 
 RESOLUTIONS = (72, 100, 300, 600)
@@ -440,6 +441,90 @@ def random_pages(group, rng, count):
                         for r in resolutions for n in (1, 2)]
 
 
+def units_for(top, bottom, resolution):
+    """Units in which K is this fraction at this resolution."""
+    return 254_000_000 // bottom * top, resolution, 1
+
+
+TINY_UNITS = (1, FURTHEST, 1)  # nothing is as long as half a pixel
+BAR_RESOLUTIONS = (1, 50, 99, 100, 150, 199, 200, 300, 10_000)  # D is 0, 1 and 2, three times each
+BAR_HEIGHTS = (1, 4, FURTHEST, 0, -1, -FURTHEST - 1)
+
+
+def ask_placed(group, file, table, resolution, number=1):
+    """Asks for a page, with the answer that the rules give."""
+    line = place(group.keep(file), group.keep(table), resolution, number)
+    group.ask(line)
+    group.expect(line, placed(file, table, resolution, number))
+
+
+def bar_widths(unit, scale):
+    """Widths around whole pixels and halves of them, and around near and far, of both signs; and 0."""
+    around = [halves / (2 * unit) for halves in (1, 2, 3, 4, 14, 15)] + [Fraction(scale, 5), Fraction(9 * scale, 10)]
+    some = {int(n) + beside for n in around for beside in (-1, 0, 1)} | {1, 2, 3}
+    return sorted({sign * n for n in some if 0 <= n <= FURTHEST // 8 for sign in (1, -1)})
+
+
+def bars(group, rng, resolution):
+    """Bars of every width that is worth a try and of every height, with a font and without, from pixels that are on rounded h or as far from
+    it as D lets them be, on either side. Behind each bar every move, those of 0 among them, another bar, push and pop, a character."""
+    for units, scale in ((units_for(3, 10, resolution), 100), (units_for(1, 2, resolution), 100), (TEX_UNITS, 655_360), (TINY_UNITS, 1000)):
+        unit, font = unit_of(units, resolution), Font(0, 5, scale)
+        step = max(1, min(scale // 9, int(Fraction(3, 5) / unit)))  # near, and where it may be so wide, less than the pixel that it is rounded to
+        pages = []
+        for selected in ([], [select(0)]):
+            for lead in ([], [right(step)] * 7, [right(-step)] * 7, [rule(1, 1)] * 3, [right(1), right(-2)]):
+                commands = [*selected, *lead, MARK]
+                for turn, b in enumerate(bar_widths(unit, scale)):
+                    bar = rule(BAR_HEIGHTS[turn % len(BAR_HEIGHTS)], b)
+                    after = [right(0), bytes([W0]), bytes([X0]), sized(W0 + 1, b), right(1), right(-1), bar, rule(1, 0), rule(-1, 1), rule(1, -1),
+                             PUSHED + bar + POPPED, rule(1, b, PUT_RULE), down(scale), NOTHING, *([b"A"] if selected else [])]
+                    commands += [PUSHED, bar, MARK, *(c for one in after for c in (PUSHED, one, MARK, POPPED)), POPPED]
+                pages.append(commands)
+        file = volume(units, [font.definition(), *(c for p in pages for c in page(p))], [font])
+        for number in range(1, len(pages) + 1):
+            ask_placed(group, file, record(5, scale, 65, 2, big(1 << 16, 4)), resolution, number)
+
+
+def bars_at_the_ends(group, rng):
+    """Bars, with an area and without, that lead to the ends of h's range and one step past."""
+    font = Font(0, 5, GREATEST_SCALE)
+    for resolution in (50, 100, 300):
+        for units in (units_for(1, 2, resolution), TEX_UNITS, TINY_UNITS):
+            pages = []
+            for sign in (1, -1):
+                for short in (0, 1, 2, GREATEST_SCALE // 5, FURTHEST):
+                    start = sign * (FURTHEST - short)
+                    widths = [sign * (short - 1), sign * short, sign * (short + 1), 0, -sign, -sign * FURTHEST, -FURTHEST - 1]
+                    for b in [b for b in widths if b <= FURTHEST]:
+                        height = rng.choice(BAR_HEIGHTS)
+                        pages += [[*selected, first, MARK, rule(height, b), MARK, rule(1, -b // 2), MARK]
+                                  for first in (right(start, 4), rule(1, start)) for selected in ([], [select(0)])]
+            file = volume(units, [font.definition(), *(c for p in pages for c in page(p))], [font])
+            for number in range(1, len(pages) + 1):
+                ask_placed(group, file, b"", resolution, number)
+
+
+def pages_with_bars(group, rng, count):
+    """Random pages with many bars among their commands."""
+    for _ in range(count):
+        resolution, other = rng.sample(BAR_RESOLUTIONS[:-1], 2)
+        units = rng.choice([TEX_UNITS, units_for(1, 2, resolution), units_for(3, 10, resolution), TINY_UNITS])
+        scale = 655_360 if units == TEX_UNITS else rng.choice([10, 100, 1000])
+        fonts = [Font(number, rng.randrange(1 << 32), rng.choice([scale, 2 * scale])) for number in (0, 200)]
+        commands = []
+        for command in random_page(rng, rng.choice([fonts, fonts, []]), rng.choice([10, 60, 200])):
+            commands.append(command)
+            while rng.random() < 0.3:
+                width = rng.choice([random_distance(rng, scale), rng.randrange(-9, 10), rng.randrange(-scale, scale + 1)])
+                commands += [rule(rng.choice(BAR_HEIGHTS), width), *[MARK] * rng.randrange(2)]
+        table = table_for(rng, fonts, unit_of(units, resolution), rng.choice([1, 0.8]))
+        file = volume(units, [*(font.definition() for font in fonts), *page([*commands, MARK])], fonts)
+        for one in (resolution, other):
+            if unit_of(units, one) <= Fraction(1, 2):
+                ask_placed(group, file, table, one)
+
+
 def groups(gather, rng, long):
     """All of them, one group a notion; the random ones many times in the long form."""
     for make in (every_opcode, near_and_far, edge_of_range, many_fonts, deepest, stated_depths, codes, order_of_refusals,
@@ -452,3 +537,15 @@ def groups(gather, rng, long):
     for turn in range(400 if long else 20):
         with gather(f"made up: random pages {turn + 1}") as group:
             random_pages(group, rng, 60)
+
+
+def bar_groups(gather, rng, long):
+    """Those of bars, whose answers are all worked out from the rules."""
+    for resolution in BAR_RESOLUTIONS:
+        with gather(f"bars: at {resolution} dots per inch") as group:
+            bars(group, rng, resolution)
+    with gather("bars: at the ends") as group:
+        bars_at_the_ends(group, rng)
+    for turn in range(100 if long else 5):
+        with gather(f"bars: random pages {turn + 1}") as group:
+            pages_with_bars(group, rng, 60)

@@ -35,6 +35,8 @@ PLAIN_SOURCES = {
              r"\noalign{\hrule}K\"oln&08:05\cr\noalign{\hrule}}}\hrule height2pt\vrule width3in height-1pt depth2pt\bye",
     "no-rules": r"a\vrule width0pt b\vrule height0pt c\vrule width-3pt d\vrule width5pt height-2pt depth1pt e\hrule height0pt\hrule width0pt"
                 r"\hrule width-9pt\hrule height1sp f\vrule width1sp height1sp g\vrule width3sp h\bye",
+    "bars": r"\def\b#1{\vrule width#1pt height6pt }\def\row#1{\hbox{7\b{.1}42\b{#1}8\b{.4}05\b{1.3}9\kern.3pt\b{#1}{\bf3}\b{.7}x\kern1pt"
+            r"\b{.2}\b{.3}\b{.1}\kern-1pt\b{#1}y\b{.02}\b{.02}\b{.02}z}}\row{.17}\row{.5}\row1\row{1.9}\row{2.61}\row7\row{20}\row{72.27}\bye",
     "timetable": TIMETABLE + r"\nopagenumbers\offinterlineskip\hrule\times{16}{\row}\bye",
     "fonts": r"\def\f#1#2{{\font\x=#1 \x #2 abc AVAWA \char'012 \char127\par}}\f{cmr5}{five}\f{cmr7}{seven}\f{cmbx10}{bold}\f{cmti10}{slant}"
              r"\f{cmtt10}{type}\f{cmsy10}{ABC}\f{cmmi10}{math}\f{cmex10}{ab}\f{cmr10 at 17.3pt}{large}\f{cmr10 scaled 2986}{huge}"
