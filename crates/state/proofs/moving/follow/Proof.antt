@@ -11,7 +11,6 @@ use mir.Facts.{toZ-ofZ}
 use Rattle.units.specs.Rounding.{rounded, roundedUp}
 use Rattle.units.proofs.Rounding.{rounded-half, up-within}
 use Rattle.state.specs.declared.moving.Stride.{Stride}
-use Rattle.state.specs.declared.moving.Stride.the-variants.{Rounded}
 use Rattle.state.specs.Moving.{near, followed}
 use Rattle.state.proofs.Words.{asWord, word-sum, word-sum-fits}
 use Rattle.state.proofs.moving.follow.Statement.{statement}

@@ -7,7 +7,6 @@ use lib.IntN.{ℤ, natAbs, _+ℤ_}
 use mir.Facts.{toZ-ofZ}
 use Rattle.units.specs.Rounding.{rounded}
 use Rattle.units.proofs.Rounding.{rounded-half}
-use Rattle.state.specs.declared.moving.Spot.{Spot}
 use Rattle.state.specs.Moving.{followed, drifted}
 use Rattle.state.proofs.Nearness.{within, followed-small}
 use Rattle.state.proofs.Levels.{position-in}

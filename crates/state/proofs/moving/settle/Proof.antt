@@ -2,13 +2,12 @@
 use mathlib.Core.Path.{_≡_, ap, ap₂, _∙_}
 use native.Mathlib.Omega.{arith}
 use borrow.Author.Needs.{needs, sfits-of}
-use lib.IntN.{ℤ, natAbs}
+use lib.IntN.{ℤ}
 use mir.Syntax.{w64}
 use mir.Val.{toZ, ofZ}
 use mir.Facts.{toZ-ofZ}
 use Rattle.units.specs.Rounding.{rounded}
 use Rattle.units.proofs.Rounding.{rounded-half}
-use Rattle.state.specs.declared.moving.Spot.{Spot}
 use Rattle.state.specs.Moving.{drifted}
 use Rattle.state.proofs.moving.settle.Statement.{statement}
 use Rattle.state.proofs.moving.settle.Tie as tie
