@@ -105,7 +105,7 @@ setRule setting s height width =
     movesTo Direction.Sideways s width (movedBy Direction.Sideways Stride.RoundedUp (setting .ruler) (s .font .scale) width (s .level))
     (ruleAdded setting s height width)
 
--- a move sideways or down by its own distance (rule 7.9)
+-- a move sideways or down by its own distance, in the rounded stride (rule 7.9)
 abbrev pub plainMove : Direction → Setting → State → List ℕ → Outcome
 plainMove direction setting s params =
     let n = distance params in movesTo direction s n (movedBy direction Stride.Rounded (setting .ruler) (s .font .scale) n (s .level)) nothing
@@ -114,11 +114,11 @@ plainMove direction setting s params =
 abbrev pub distanceOr : ℤ → List ℕ → ℤ
 distanceOr register params = cond (eqb (length params) 0) register (distance params)
 
--- a move by a register, which is set to the distance (rule 7.9)
+-- a move by a register, which is set to the distance, in the rounded stride (rule 7.9)
 abbrev pub registerMove : Register → Setting → State → List ℕ → Outcome
 registerMove register setting s params =
     let n = distanceOr (registerOf register (s .level)) params in
-    movesTo (directionOf register) s n (movedByRegister register (setting .ruler) (s .font .scale) n (s .level)) nothing
+    movesTo (directionOf register) s n (movedByRegister register Stride.Rounded (setting .ruler) (s .font .scale) n (s .level)) nothing
 
 -- by its kind; bop, eop and what stands outside pages are none of a page's own commands (section 7 of the rules)
 abbrev pub afterKind : Kind → Setting → State → Command → Outcome

@@ -143,7 +143,7 @@ stateWith level saved font = record { level = level; saved = saved; font = font 
 abbrev pub did : Ruler → State → Turn → Adds → Outcome
 did ruler s Turn.Stay adds = continues s (addedOf adds)
 did ruler s (Turn.By direction n) adds = continues (withNumbers s (movedBy direction Stride.Rounded ruler (s .font .scale) n (s .level))) (addedOf adds)
-did ruler s (Turn.ByRegister register n) adds = continues (withNumbers s (movedByRegister register ruler (s .font .scale) n (s .level))) (addedOf adds)
+did ruler s (Turn.ByRegister register n) adds = continues (withNumbers s (movedByRegister register Stride.Rounded ruler (s .font .scale) n (s .level))) (addedOf adds)
 did ruler s (Turn.PastCharacter width escapement) adds = continues (withNumbers s (characterMoved ruler width escapement (s .level))) (addedOf adds)
 did ruler s (Turn.PastRule width) adds = continues (withNumbers s (movedBy Direction.Sideways Stride.RoundedUp ruler (s .font .scale) width (s .level))) (addedOf adds)
 did ruler s Turn.Push adds = continues (pushed s) (addedOf adds)

@@ -66,7 +66,14 @@ pub fn walk(
             },
             Turn::ByRegister(register, n) => {
                 let scale = page.font.scale;
-                let next = registers::moved_by_register(register, ruler, scale, n, now);
+                let next = registers::moved_by_register(
+                    register,
+                    Stride::Rounded,
+                    ruler,
+                    scale,
+                    n,
+                    now,
+                );
                 page = page.moved_to(next);
             }
             Turn::PastCharacter(width, escapement) => {

@@ -1,6 +1,6 @@
 -- After every command of a page the pixels are within D of the rounded position; and behind a bar hh has gone by the bar's own pixels, wherever D does
 -- not move it. Assumes nothing.
-use Prim.Native.Nat.{ℕ, _*_, _<_}
+use Prim.Native.Nat.{ℕ, _*_, _≤_, _<_}
 use mathlib.Core.Path.{_≡_, refl, sym, ap, ap₂, _∙_, subst}
 use mathlib.Core.Bool.{Bool, true, false, cond, true≢false}
 use mathlib.Core.List.{List, [], _∷_, _++_, map, append-assoc, map-append}
@@ -10,7 +10,7 @@ use lib.IntN.{ℤ, natAbs, _+ℤ_, _-ℤ_}
 use lib.Signed.{ltZ}
 use contract.Lifetimes.{Lfts}
 use Rattle.refusals.specs.Numbers.{positionOutOfRange}
-use Rattle.refusals.specs.Answer.{given}
+use Rattle.refusals.specs.Answer.{Answer, given, andThen}
 use Rattle.refusals.proofs.Answer.{given-not-refused}
 use Rattle.numbers.specs.Parts.{up, dn}
 use Rattle.numbers.proofs.Signed.{sum, diff, same}
@@ -33,7 +33,7 @@ use Rattle.state.specs.declared.registers.Register.the-variants as Register
 use Rattle.state.specs.Moving.{leaves}
 use Rattle.state.specs.Registers.{State, freshState, poppedTo, spotOf, movedBy, registerOf, directionOf}
 use Rattle.state.specs.Nearby.{Near, AllNear, StateNear}
-use Rattle.state.proofs.Nearby.{near-moved, near-character, near-register, near-fresh, up-unheld, up-stays}
+use Rattle.state.proofs.Nearby.{near-moved, near-character, near-register, near-fresh, up-unheld, up-stays, up-nearly}
 use Rattle.page.specs.declared.Record.{Record}
 use Rattle.page.specs.Records.{placementRecordSize, ruleRecord, allBytes}
 use Rattle.page.specs.PageList.{Located}
@@ -46,7 +46,7 @@ use Rattle.reader.specs.declared.Placed.{Placed}
 use Rattle.reader.specs.declared.Placed.the-variants as Placed
 use Rattle.reader.proofs.place_page.Reads as place-page
 use Rattle.promises.specs.Calls.{Arguments, area, own, Grounds, groundsSetting}
-use Rattle.promises.specs.Bars.{recordAdded, AtCommand, bites, Covers, ClearBar}
+use Rattle.promises.specs.Bars.{recordAdded, AtCommand, pastBar, BarMoves, bites, Covers, ClearBar}
 use Rattle.promises.proofs.Placing.{placed-by, accepted-writes-only-records}
 
 -- an outcome that goes on does so to one state, with one addition
@@ -98,7 +98,7 @@ module _ (setting : Setting) where
     registers-near : (register : Register) (params : List ℕ) → NearOutcome (registerMove register setting s params)
     registers-near register params =
         let n = distanceOr (registerOf register (s .level)) params in
-        moves-near (directionOf register) n _ _ (near-register (setting .ruler) register (s .font .scale) n (s .level) (near .0))
+        moves-near (directionOf register) n _ _ (near-register (setting .ruler) register Stride.Rounded (s .font .scale) n (s .level) (near .0))
 
     sets-near : (code : ℤ) (l : LookUp) → NearOutcome (setCharacter setting s code l)
     sets-near code absent = near
@@ -145,7 +145,7 @@ module _ (setting : Setting) where
     after-near c = kind-near c (kindOfCommand c)
 
   -- from a state that is near a run of commands leads to one that is
-  pub stays-near : (cs : List Command) (s t : State) → StateNear (setting .ruler) s → afterAll setting s cs ≡ to t → StateNear (setting .ruler) t
+  stays-near : (cs : List Command) (s t : State) → StateNear (setting .ruler) s → afterAll setting s cs ≡ to t → StateNear (setting .ruler) t
   stays-near [] s t near e = subst (StateNear (setting .ruler)) (to-same e) near
   stays-near (c ∷ rest) s t near e = by (after setting s c) (after-near s near c) e (λ next. stays-near rest next t)
     where
@@ -167,22 +167,24 @@ module _ (setting : Setting) where
   at-first : (s : State) (c : Located) (rest : List Located) (p : Contents) (o : Outcome) → after setting s (c .command) ≡ o
       → onOutcome (c .at) o (λ next. placing setting next rest) ≡ given p
       → AtCommand setting s (p .placements) [] c
+  unfolding placing
   at-first s c rest p leavesRange led e = absurd (given-not-refused p positionOutOfRange (c .at) (sym e))
   at-first s c rest p (continues next added) led e =
       let (q, placed-rest, same) = and-given (adding added) (placing setting next rest) p e in
       record {
+        earlier = record { placements = []; missing-characters = 0; specials = 0 };
         here = s;
         next = next;
         added = added;
-        earlier = [];
         later = q .placements;
+        placed-before = refl;
         leads = refl;
         does = led;
         stands = ap (λ (contents : Contents). contents .placements) (sym same) ∙ records-after added q;
       }
 
-  -- each command of a page that is placed is met, and what it adds stands among the page's records
-  pub at-command : (before : List Located) (c : Located) (rest : List Located) (s : State) (p : Contents) → placing setting s (before ++ c ∷ rest) ≡ given p
+  -- each command of a page that is placed is met, and what it adds stands behind the records of those before it
+  at-command : (before : List Located) (c : Located) (rest : List Located) (s : State) (p : Contents) → placing setting s (before ++ c ∷ rest) ≡ given p
       → AtCommand setting s (p .placements) before c
   unfolding placing
   at-command [] c rest s p e = at-first s c rest p (after setting s (c .command)) refl e
@@ -196,18 +198,22 @@ module _ (setting : Setting) where
           let (q, placed-rest, same) = and-given (adding added) (placing setting next (before ++ c ∷ rest)) p e in
           let there = later next q placed-rest in
           record {
+            earlier = adding added (there .earlier);
             here = there .here;
             next = there .next;
             added = there .added;
-            earlier = recordAdded added ++ there .earlier;
             later = there .later;
+            placed-before =
+                ap (λ (o : Outcome). onOutcome (b .at) o (λ n. placing setting n before)) led
+                ∙ ap (λ (answer : Answer Contents). andThen answer (λ contents. given (adding added contents))) (there .placed-before);
             leads = ap (λ (o : Outcome). leadOn o (λ n. afterAll setting n (map (λ x. x .command) before))) led ∙ there .leads;
             does = there .does;
             stands =
                 ap (λ (contents : Contents). contents .placements) (sym same)
                 ∙ records-after added q
                 ∙ ap (λ (records : List Record). recordAdded added ++ records) (there .stands)
-                ∙ sym (append-assoc (recordAdded added) (there .earlier) (recordAdded (there .added) ++ there .later));
+                ∙ sym (append-assoc (recordAdded added) (there .earlier .placements) (recordAdded (there .added) ++ there .later))
+                ∙ ap (λ (records : List Record). records ++ (recordAdded (there .added) ++ there .later)) (sym (records-after added (there .earlier)));
           }
 
   -- ---- behind a bar
@@ -216,24 +222,26 @@ module _ (setting : Setting) where
     abbrev width : ℤ
     width = ruleWidth (c .params)
 
-    abbrev level : Level
-    level = movedBy Direction.Sideways Stride.RoundedUp (setting .ruler) (s .font .scale) width (s .level)
-
     -- where a bar leads, and what it adds
-    bar-does : (added : Added) → after setting s c ≡ continues next added → (next ≡ withNumbers s level) × (added ≡ ruleAdded setting s (ruleHeight (c .params)) width)
+    bar-does : (added : Added) → after setting s c ≡ continues next added → (next ≡ pastBar setting s width) × (added ≡ ruleAdded setting s (ruleHeight (c .params)) width)
     unfolding after
     bar-does added does =
         by (leaves (s .level .h +ℤ width)) (ap (λ (k : Kind). afterKind k setting s c) (sym (is-kind (kindOfCommand c) Kind.SetRule sets)) ∙ does)
       where
-        by : (t : Bool) → cond t leavesRange (continues (withNumbers s level) (ruleAdded setting s (ruleHeight (c .params)) width)) ≡ continues next added
-            → (next ≡ withNumbers s level) × (added ≡ ruleAdded setting s (ruleHeight (c .params)) width)
+        by : (t : Bool) → cond t leavesRange (continues (pastBar setting s width) (ruleAdded setting s (ruleHeight (c .params)) width)) ≡ continues next added
+            → (next ≡ pastBar setting s width) × (added ≡ ruleAdded setting s (ruleHeight (c .params)) width)
         by true e = left-on e
         by false e = (sym (goes-on e .0), sym (goes-on e .1))
 
-    module _ (bar : Record) (does : after setting s c ≡ continues next (placed bar)) where
-      abbrev drawn : Record
-      drawn = ruleRecord (setting .page) (s .level) (roundedUp (setting .ruler .k) (ruleHeight (c .params))) (roundedUp (setting .ruler .k) width)
+    -- its record, where it has one
+    abbrev drawn : Record
+    drawn = ruleRecord (setting .page) (s .level) (roundedUp (setting .ruler .k) (ruleHeight (c .params))) (roundedUp (setting .ruler .k) width)
 
+    -- a bar whose sides are above 0 has one
+    bar-drawn : (added : Added) → after setting s c ≡ continues next added → isVisible (ruleHeight (c .params)) width ≡ true → (bar : Record) × (added ≡ placed bar)
+    bar-drawn added does visible = (drawn, bar-does added does .1 ∙ ap (λ (t : Bool). cond t (placed drawn) nothing) visible)
+
+    module _ (bar : Record) (does : after setting s c ≡ continues next (placed bar)) where
       bar-is : bar ≡ drawn
       bar-is = by (isVisible (ruleHeight (c .params)) width) (bar-does (placed bar) does .1)
         where
@@ -241,45 +249,39 @@ module _ (setting : Setting) where
           by true e = one-record e
           by false e = no-record (sym e)
 
-      -- it stands where the page stood, and is as wide as its width rounded up
-      pub bar-at : (bar .hh ≡ s .level .hh) × (bar .extent ≡ roundedUp (setting .ruler .k) width)
-      bar-at = (ap (λ (r : Record). r .hh) bar-is, ap (λ (r : Record). r .extent) bar-is)
+      -- it stands where the page stood
+      bar-starts : bar .hh ≡ s .level .hh
+      bar-starts = ap (λ (r : Record). r .hh) bar-is
 
       abbrev spot : Spot
       spot = spotOf Direction.Sideways (s .level)
 
-      next-is : next ≡ withNumbers s level
+      next-is : next ≡ pastBar setting s width
       next-is = bar-does (placed bar) does .0
 
-      bites-is : bites setting bar next ≡ bites setting drawn (withNumbers s level)
+      bites-is : bites setting bar next ≡ bites setting drawn (pastBar setting s width)
       bites-is = ap₂ (bites setting) bar-is next-is
 
       -- hh is then the first pixel behind it, unless D bites
-      pub behind-bar : bites setting bar next ≡ false → next .level .hh ≡ bar .hh +ℤ bar .extent
+      behind-bar : bites setting bar next ≡ false → next .level .hh ≡ bar .hh +ℤ bar .extent
       behind-bar free =
           ap (λ (t : State). t .level .hh) next-is
           ∙ up-unheld (setting .ruler) Direction.Sideways (s .font .scale) width spot (sym bites-is ∙ free)
           ∙ ap (λ (r : Record). r .hh +ℤ r .extent) (sym bar-is)
 
       -- so it has grown by the bar's own width
-      pub grown-by-bar : bites setting bar next ≡ false → next .level .hh -ℤ s .level .hh ≡ bar .extent
+      grown-by-bar : bites setting bar next ≡ false → next .level .hh -ℤ s .level .hh ≡ bar .extent
       grown-by-bar free =
-          let grown : next .level .hh ≡ s .level .hh +ℤ bar .extent = behind-bar free ∙ ap (λ (z : ℤ). z +ℤ bar .extent) (bar-at .0) in
+          let grown : next .level .hh ≡ s .level .hh +ℤ bar .extent = behind-bar free ∙ ap (λ (z : ℤ). z +ℤ bar .extent) bar-starts in
           same _ _ (omega (arith, diff (next .level .hh) (s .level .hh), sum (s .level .hh) (bar .extent), ap up grown, ap dn grown))
 
       -- and no pixel of the bar is at hh or behind it
-      pub bar-clear : bites setting bar next ≡ false → (column : ℤ) → Covers bar column → ltZ column (next .level .hh) ≡ true
-      bar-clear free column covers = subst (λ (hh : ℤ). ltZ column hh ≡ true) (sym (behind-bar free)) (covers .to-end)
+      bar-clear : bites setting bar next ≡ false → (column : ℤ) → Covers bar column → ltZ column (next .level .hh) ≡ true
+      bar-clear free column covers = subst (λ (hh : ℤ). ltZ column hh ≡ true) (sym (behind-bar free)) (covers .before-end)
 
       -- D does not bite where hh was less than D from rounded h
-      pub bite-free : natAbs (s .level .hh -ℤ rounded (setting .ruler .k) (s .level .h)) < setting .ruler .drift → bites setting bar next ≡ false
-      bite-free less = bites-is ∙ up-stays (setting .ruler) Direction.Sideways (s .font .scale) width spot less
-
-    -- a bar whose sides are above 0 has a record
-    pub bar-drawn : (added : Added) → after setting s c ≡ continues next added → isVisible (ruleHeight (c .params)) width ≡ true → (bar : Record) × (added ≡ placed bar)
-    bar-drawn added does visible =
-        let drawn = ruleRecord (setting .page) (s .level) (roundedUp (setting .ruler .k) (ruleHeight (c .params))) (roundedUp (setting .ruler .k) width) in
-        (drawn, bar-does added does .1 ∙ ap (λ (t : Bool). cond t (placed drawn) nothing) visible)
+      bite-free : natAbs (s .level .hh -ℤ rounded (setting .ruler .k) (s .level .h)) < setting .ruler .drift → bites setting bar next ≡ false
+      bite-free less = bites-is ∙ up-stays (setting .ruler) width spot less
 
 -- ---- of a page that place_page has placed
 
@@ -300,23 +302,48 @@ module _ (κs : Lfts 3) (a x : Arguments) (records missing specials : ℕ) (post
       let (here, leads, onwards) = run-append setting (commands before) (commands rest) freshState last (ap (afterAll setting freshState) (sym (ap commands own-is ∙ apart)) ∙ led) in
       (g, here, leads, stays-near setting (commands before) freshState here (near-fresh (setting .ruler)) leads)
 
+  -- the command behind some of the page's, as it is placed
+  on-page : (before rest : List Located) (c : Located) → own a ≡ before ++ c ∷ rest
+      → (g : Grounds a) × (written : List Record) × (take (placementRecordSize * records) (area x) ≡ allBytes written) × AtCommand (groundsSetting a g) freshState written before c
+  on-page before rest c own-is =
+      let (p, is, many, bytes, others, long) = accepted-writes-only-records κs a x records missing specials post in
+      let (g, placing-is, fits) = placed-by a p is in
+      let setting = groundsSetting a g in
+      (g, p .placements, bytes, at-command setting before c rest freshState p (ap (placing setting freshState) (sym own-is) ∙ placing-is))
+
+  -- every rule that is set, with a record or without, moves h by its width and hh by its width rounded up, and D moves hh from there by at most one pixel (rules 7.3, 7.4, 7.8)
+  pub every-bar-moves : (before rest : List Located) (c : Located) → own a ≡ before ++ c ∷ rest → isA Kind.SetRule (c .command) ≡ true
+      → (g : Grounds a) × (written : List Record) × (take (placementRecordSize * records) (area x) ≡ allBytes written) × BarMoves (groundsSetting a g) written before c
+  every-bar-moves before rest c own-is sets =
+      let (g, written, bytes, at) = on-page before rest c own-is in
+      let setting = groundsSetting a g in
+      let width = ruleWidth (c .command .params) in
+      let moves = bar-does setting (at .here) (at .next) (c .command) sets (at .added) (at .does) .0 in
+      let near = stays-near setting (commands before) freshState (at .here) (near-fresh (setting .ruler)) (at .leads) .0 in
+      let moved = up-nearly (setting .ruler) Direction.Sideways (at .here .font .scale) width (spotOf Direction.Sideways (at .here .level)) (near Direction.Sideways) in
+      let bar : BarMoves setting written before c = record {
+        at = at;
+        moves = moves;
+        nearly = subst (λ (s : State). natAbs (s .level .hh -ℤ (at .here .level .hh +ℤ roundedUp (setting .ruler .k) width)) ≤ 1) (sym moves) moved;
+      } in
+      (g, written, bytes, bar)
+
   -- behind a bar hh has gone by the bar's own pixels, wherever D does not bite (rules 7.3, 7.4, 7.8)
   pub bars-are-clear : (before rest : List Located) (c : Located) → own a ≡ before ++ c ∷ rest → isA Kind.SetRule (c .command) ≡ true
       → isVisible (ruleHeight (c .command .params)) (ruleWidth (c .command .params)) ≡ true
       → (g : Grounds a) × (written : List Record) × (take (placementRecordSize * records) (area x) ≡ allBytes written) × ClearBar (groundsSetting a g) written before c
   bars-are-clear before rest c own-is sets visible =
-      let (p, is, many, bytes, others, long) = accepted-writes-only-records κs a x records missing specials post in
-      let (g, placing-is, fits) = placed-by a p is in
+      let (g, written, bytes, at) = on-page before rest c own-is in
       let setting = groundsSetting a g in
-      let at = at-command setting before c rest freshState p (ap (placing setting freshState) (sym own-is) ∙ placing-is) in
       let (bar, adds) = bar-drawn setting (at .here) (at .next) (c .command) sets (at .added) (at .does) visible in
       let does : after setting (at .here) (c .command) ≡ continues (at .next) (placed bar) = at .does ∙ ap (continues (at .next)) adds in
-      let clear : ClearBar setting (p .placements) before c = record {
+      let clear : ClearBar setting written before c = record {
         at = at;
         bar = bar;
         adds = adds;
+        starts = bar-starts setting (at .here) (at .next) (c .command) sets bar does;
         grows = grown-by-bar setting (at .here) (at .next) (c .command) sets bar does;
         clear = bar-clear setting (at .here) (at .next) (c .command) sets bar does;
         free = bite-free setting (at .here) (at .next) (c .command) sets bar does;
       } in
-      (g, p .placements, bytes, clear)
+      (g, written, bytes, clear)

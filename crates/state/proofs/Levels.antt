@@ -14,7 +14,6 @@ use Rattle.state.specs.declared.Page.{Page}
 use Rattle.state.specs.declared.moving.Direction.{Direction}
 use Rattle.state.specs.declared.moving.Direction.the-variants.{Sideways, Down}
 use Rattle.state.specs.declared.moving.Stride.{Stride}
-use Rattle.state.specs.declared.moving.Stride.the-variants.{Rounded}
 use Rattle.state.specs.declared.moving.Ruler.{Ruler}
 use Rattle.state.specs.declared.moving.Spot.{Spot}
 use Rattle.state.specs.Moving.{leaves, settled, followed}
@@ -111,11 +110,11 @@ register-stays register n l stays =
     subst (λ (spot : Spot). leaves (spot .position +ℤ n) ≡ false) (sym (register-spot register (directionOf register) n l)) stays
 
 -- and keeps the level in its ranges
-pub bounded-by-register : (register : Register) (ruler : Ruler) (scale : ℕ) (n : ℤ) (l : Level) → Ruled ruler scale → Bounded l → natAbs n ≤ 2 ^ 31
+pub bounded-by-register : (register : Register) (stride : Stride) (ruler : Ruler) (scale : ℕ) (n : ℤ) (l : Level) → Ruled ruler scale → Bounded l → natAbs n ≤ 2 ^ 31
     → leaves (spotOf (directionOf register) l .position +ℤ n) ≡ false
-    → Bounded (movedByRegister register ruler scale n l)
-bounded-by-register register ruler scale n l ruled b small stays =
-    bounded-moved (directionOf register) Rounded ruler scale n (withRegister register n l) ruled (bounded-register register n l b small) (register-stays register n l stays)
+    → Bounded (movedByRegister register stride ruler scale n l)
+bounded-by-register register stride ruler scale n l ruled b small stays =
+    bounded-moved (directionOf register) stride ruler scale n (withRegister register n l) ruled (bounded-register register n l b small) (register-stays register n l stays)
 
 -- ---- the levels that are saved
 

@@ -1,8 +1,8 @@
 -- The pixels of a page's state stay within D of its rounded positions, whatever moves, and where D does not move the pixel the stride that is
 -- rounded up leaves it just so far on. Assumes nothing.
-use Prim.Native.Nat.{ℕ, _≤_, _<_}
-use mathlib.Core.Path.{_≡_, sym, ap, _∙_, subst}
-use mathlib.Core.Bool.{Bool, false, cond}
+use Prim.Native.Nat.{ℕ, _+_, _*_, _≤_, _<_}
+use mathlib.Core.Path.{_≡_, refl, sym, ap, _∙_, subst}
+use mathlib.Core.Bool.{Bool, true, false, cond}
 use native.Mathlib.Omega.{arith}
 use borrow.Author.Tests.{le-ltb}
 use lib.IntN.{ℤ, pos, natAbs, _+ℤ_, _-ℤ_}
@@ -10,7 +10,7 @@ use lib.Signed.{ltZ}
 use Rattle.numbers.proofs.Signed.{sum, diff, abs-sum, same}
 use Rattle.units.specs.Rounding.{rounded, roundedUp}
 use Rattle.units.proofs.Rounding.{rounded-zero}
-use Rattle.units.proofs.Strides.{one-apart}
+use Rattle.units.proofs.Sums.{one-apart}
 use Rattle.state.specs.declared.Level.{Level}
 use Rattle.state.specs.declared.moving.Direction.{Direction}
 use Rattle.state.specs.declared.moving.Direction.the-variants.{Sideways, Down}
@@ -19,10 +19,10 @@ use Rattle.state.specs.declared.moving.Stride.the-variants.{Rounded, Rou
 use Rattle.state.specs.declared.moving.Ruler.{Ruler}
 use Rattle.state.specs.declared.moving.Spot.{Spot}
 use Rattle.state.specs.declared.registers.Register.{Register}
-use Rattle.state.specs.Moving.{strays, settled, followed, moved}
+use Rattle.state.specs.Moving.{near, strays, settled, followed, moved}
 use Rattle.state.specs.Registers.{zeroLevel, freshState, spotOf, atSpot, movedBy, characterMoved, withRegister, directionOf, movedByRegister}
 use Rattle.state.specs.Nearby.{Near, StateNear}
-use Rattle.state.proofs.Nearness.{within, held}
+use Rattle.state.proofs.Nearness.{within, held, held-nearly}
 use Rattle.state.proofs.Levels.{register-spot}
 
 module _ (ruler : Ruler) where
@@ -49,9 +49,9 @@ module _ (ruler : Ruler) where
   near-character width escapement l near = near-settled Sideways (l .h +ℤ width) (l .hh +ℤ escapement) l near
 
   -- and after a move by a register
-  pub near-register : (register : Register) (scale : ℕ) (n : ℤ) (l : Level) → Near ruler l → Near ruler (movedByRegister register ruler scale n l)
-  near-register register scale n l near =
-      near-moved (directionOf register) Rounded scale n (withRegister register n l)
+  pub near-register : (register : Register) (stride : Stride) (scale : ℕ) (n : ℤ) (l : Level) → Near ruler l → Near ruler (movedByRegister register stride ruler scale n l)
+  near-register register stride scale n l near =
+      near-moved (directionOf register) stride scale n (withRegister register n l)
       (λ direction. subst NearSpot (sym (register-spot register direction n l)) (near direction))
 
   -- a fresh page is near
@@ -67,48 +67,67 @@ module _ (ruler : Ruler) where
 
   -- ---- the stride that is rounded up
 
-  module _ (direction : Direction) (scale : ℕ) (n : ℤ) (spot : Spot) where
-    -- where it leads, before the pixel is held
+  module _ (spot : Spot) (n : ℤ) where
+    -- where it leads before the pixel is held, and the centre to which that is held
     abbrev ahead : ℤ
     ahead = spot .pixel +ℤ roundedUp (ruler .k) n
 
     abbrev centre : ℤ
     centre = rounded (ruler .k) (spot .position +ℤ n)
 
-    -- where the pixel does not stray, it has gone by just the distance rounded up
-    pub up-unheld : strays (ruler .drift) centre ahead ≡ false → moved direction RoundedUp ruler scale n spot .pixel ≡ ahead
-    up-unheld stays = ap (λ (t : Bool). cond t (cond (ltZ centre ahead) (centre +ℤ pos (ruler .drift)) (centre -ℤ pos (ruler .drift))) ahead) stays
-
-    -- and it does not stray where it was less than D from the rounded position before
-    pub up-stays : natAbs (spot .pixel -ℤ rounded (ruler .k) (spot .position)) < ruler .drift → strays (ruler .drift) centre ahead ≡ false
-    up-stays less =
+    -- the one is as far from the other as the pixel was from the rounded position, or one more or less
+    ahead-off : natAbs (ahead -ℤ centre) ≤ natAbs (spot .pixel -ℤ rounded (ruler .k) (spot .position)) + 1
+    ahead-off =
         let before = rounded (ruler .k) (spot .position) in
         let step = roundedUp (ruler .k) n in
         let off = spot .pixel -ℤ before in
         let grown = (before +ℤ step) -ℤ centre in
         let apart : ahead -ℤ centre ≡ off +ℤ grown =
         same _ _ (omega (arith, sum (spot .pixel) step, diff ahead centre, diff (spot .pixel) before, sum before step, diff (before +ℤ step) centre, sum off grown)) in
-        le-ltb (ruler .drift) _ (within (ruler .drift) apart (omega (arith, abs-sum off grown, one-apart (ruler .k) (spot .position) n, less)))
+        within (natAbs off + 1) apart (omega (arith, abs-sum off grown, one-apart (ruler .k) (spot .position) n))
+
+  -- where the pixel does not stray, it has gone by just the distance rounded up
+  pub up-unheld : (direction : Direction) (scale : ℕ) (n : ℤ) (spot : Spot)
+      → strays (ruler .drift) (rounded (ruler .k) (spot .position +ℤ n)) (spot .pixel +ℤ roundedUp (ruler .k) n) ≡ false
+      → moved direction RoundedUp ruler scale n spot .pixel ≡ spot .pixel +ℤ roundedUp (ruler .k) n
+  up-unheld direction scale n spot stays =
+      let to = ahead spot n in
+      let at = centre spot n in
+      ap (λ (t : Bool). cond t (cond (ltZ at to) (at +ℤ pos (ruler .drift)) (at -ℤ pos (ruler .drift))) to) stays
+
+  -- it does not stray where it was less than D from the rounded position before
+  pub up-stays : (n : ℤ) (spot : Spot) → natAbs (spot .pixel -ℤ rounded (ruler .k) (spot .position)) < ruler .drift
+      → strays (ruler .drift) (rounded (ruler .k) (spot .position +ℤ n)) (spot .pixel +ℤ roundedUp (ruler .k) n) ≡ false
+  up-stays n spot less = le-ltb (ruler .drift) _ (omega (arith, ahead-off spot n, less))
+
+  -- and where it strays, D moves it by one pixel
+  pub up-nearly : (direction : Direction) (scale : ℕ) (n : ℤ) (spot : Spot) → natAbs (spot .pixel -ℤ rounded (ruler .k) (spot .position)) ≤ ruler .drift
+      → natAbs (moved direction RoundedUp ruler scale n spot .pixel -ℤ (spot .pixel +ℤ roundedUp (ruler .k) n)) ≤ 1
+  up-nearly direction scale n spot near = held-nearly (ruler .drift) (centre spot n) (ahead spot n) (omega (arith, ahead-off spot n, near))
 
   -- ---- without a font
 
-  -- a spot whose pixel is the rounded position
-  abbrev centred : ℤ → Spot
-  centred position = record { position = position; pixel = rounded (ruler .k) position }
+  -- nothing is near
+  never-near : (direction : Direction) (n : ℤ) → near direction n 0 ≡ false
+  never-near Sideways n = either (ltZ n (pos 0)) (le-ltb (10 * natAbs n) 0 (omega arith)) (le-ltb (5 * natAbs n) 0 (omega arith))
+    where
+      either : (t : Bool) {a b : Bool} → a ≡ false → b ≡ false → cond t a b ≡ false
+      either true p q = p
+      either false p q = q
+  never-near Down n = le-ltb (5 * natAbs n) 0 (omega arith)
 
-  -- it is held there
-  settled-centred : (position : ℤ) → settled ruler position (rounded (ruler .k) position) ≡ centred position
+  -- a pixel at its centre is held there
+  settled-centred : (position : ℤ) → settled ruler position (rounded (ruler .k) position) ≡ record { position = position; pixel = rounded (ruler .k) position }
   settled-centred position =
-      let centre = rounded (ruler .k) position in
-      let none : natAbs (centre -ℤ centre) ≤ ruler .drift = within (ruler .drift) (same (centre -ℤ centre) (pos 0) (omega (arith, diff centre centre))) (omega arith) in
+      let at = rounded (ruler .k) position in
+      let none : natAbs (at -ℤ at) ≤ ruler .drift = within (ruler .drift) (same (at -ℤ at) (pos 0) (omega (arith, diff at at))) (omega arith) in
       ap
-      (λ (t : Bool). record { position = position; pixel = cond t (cond (ltZ centre centre) (centre +ℤ pos (ruler .drift)) (centre -ℤ pos (ruler .drift))) centre })
+      (λ (t : Bool). record { position = position; pixel = cond t (cond (ltZ at at) (at +ℤ pos (ruler .drift)) (at -ℤ pos (ruler .drift))) at })
       (le-ltb (ruler .drift) _ none)
 
-  -- a move of 0 is far then, and sets the pixel back to the rounded position, wherever a bar has left it
-  pub zero-sets-back : (direction : Direction) (spot : Spot) → moved direction Rounded ruler 0 (pos 0) spot ≡ centred (spot .position)
-  zero-sets-back direction spot = by direction ∙ ap centred (same (spot .position +ℤ pos 0) (spot .position) (omega (arith, sum (spot .position) (pos 0))))
-    where
-      by : (direction : Direction) → moved direction Rounded ruler 0 (pos 0) spot ≡ centred (spot .position +ℤ pos 0)
-      by Sideways = settled-centred (spot .position +ℤ pos 0)
-      by Down = settled-centred (spot .position +ℤ pos 0)
+  -- so a move in the rounded stride, one of 0 too, sets the pixel to the rounded position, wherever a bar has left it
+  pub fontless-sets-back : (direction : Direction) (n : ℤ) (spot : Spot)
+      → moved direction Rounded ruler 0 n spot ≡ record { position = spot .position +ℤ n; pixel = rounded (ruler .k) (spot .position +ℤ n) }
+  fontless-sets-back direction n spot =
+      ap (λ (t : Bool). settled ruler (spot .position +ℤ n) (cond t (spot .pixel +ℤ rounded (ruler .k) n) (rounded (ruler .k) (spot .position +ℤ n)))) (never-near direction n)
+      ∙ settled-centred (spot .position +ℤ n)

@@ -1,22 +1,18 @@
 -- A pixel stays near its position: within D of the rounded position after every move, whatever the direction. Assumes nothing.
-use Prim.Native.Nat.{ℕ, _+_, _≤_, _^_}
+use Prim.Native.Nat.{ℕ, _+_, _≤_}
 use mathlib.Core.Path.{_≡_, refl, sym, subst}
 use mathlib.Core.Bool.{Bool, true, false, cond}
 use native.Mathlib.Omega.{arith}
-use borrow.Author.Tests.{ltb-false}
+use borrow.Author.Tests.{ltb-true, ltb-false}
 use lib.Dec.{ltb}
 use lib.IntN.{ℤ, pos, natAbs, negℤ, _+ℤ_, _-ℤ_}
 use lib.Signed.{ltZ}
-use Rattle.numbers.proofs.Signed.{sum, diff, up-neg, dn-neg, abs-neg, abs-sum, abs-cond, same}
+use Rattle.numbers.proofs.Signed.{abs-is, sum, diff, up-neg, dn-neg, one-part, abs-within, abs-neg, abs-sum, same, lt-yes, lt-no}
 use Rattle.units.specs.Steps.{Accepted}
-use Rattle.units.specs.Rounding.{rounded, roundedUp}
-use Rattle.units.proofs.Rounding.{rounded-half, up-within}
-use Rattle.state.specs.declared.moving.Direction.{Direction}
-use Rattle.state.specs.declared.moving.Stride.{Stride}
-use Rattle.state.specs.declared.moving.Stride.the-variants.{Rounded, RoundedUp}
+use Rattle.units.specs.Rounding.{rounded}
+use Rattle.units.proofs.Rounding.{rounded-half}
 use Rattle.state.specs.declared.moving.Ruler.{Ruler}
-use Rattle.state.specs.declared.moving.Spot.{Spot}
-use Rattle.state.specs.Moving.{near, drifted, settled, followed}
+use Rattle.state.specs.Moving.{drifted, settled}
 
 above : (centre : ℤ) (d : ℕ) → (centre +ℤ pos d) -ℤ centre ≡ pos d
 above centre d = same _ _ (omega (arith, sum centre (pos d), diff (centre +ℤ pos d) centre))
@@ -38,6 +34,26 @@ held-by false side d centre pixel e = ltb-false d (natAbs (pixel -ℤ centre)) e
 pub held : (d : ℕ) (centre pixel : ℤ) → natAbs (drifted d centre pixel -ℤ centre) ≤ d
 held d centre pixel = held-by (ltb d (natAbs (pixel -ℤ centre))) (ltZ centre pixel) d centre pixel refl
 
+-- one that is at most one pixel further away than it may be is moved by at most one
+nearly-by : (far side : Bool) (d : ℕ) (centre pixel : ℤ) → ltb d (natAbs (pixel -ℤ centre)) ≡ far → ltZ centre pixel ≡ side → natAbs (pixel -ℤ centre) ≤ d + 1
+    → natAbs (cond far (cond side (centre +ℤ pos d) (centre -ℤ pos d)) pixel -ℤ pixel) ≤ 1
+nearly-by true true d centre pixel e f gap =
+    let off = pixel -ℤ centre in
+    let put = centre +ℤ pos d in
+    abs-within (put -ℤ pixel) 1
+    (omega (arith, diff pixel centre, abs-is off, one-part off, ltb-true d (natAbs off) e, lt-yes centre pixel f, sum centre (pos d), diff put pixel))
+    (omega (arith, diff pixel centre, abs-is off, one-part off, ltb-true d (natAbs off) e, lt-yes centre pixel f, sum centre (pos d), diff put pixel))
+nearly-by true false d centre pixel e f gap =
+    let off = pixel -ℤ centre in
+    let put = centre -ℤ pos d in
+    abs-within (put -ℤ pixel) 1
+    (omega (arith, diff pixel centre, abs-is off, one-part off, ltb-true d (natAbs off) e, lt-no centre pixel f, diff centre (pos d), diff put pixel))
+    (omega (arith, diff pixel centre, abs-is off, one-part off, ltb-true d (natAbs off) e, lt-no centre pixel f, diff centre (pos d), diff put pixel))
+nearly-by false side d centre pixel e f gap = within 1 (same (pixel -ℤ pixel) (pos 0) (omega (arith, diff pixel pixel))) (omega arith)
+
+pub held-nearly : (d : ℕ) (centre pixel : ℤ) → natAbs (pixel -ℤ centre) ≤ d + 1 → natAbs (drifted d centre pixel -ℤ pixel) ≤ 1
+held-nearly d centre pixel gap = nearly-by (ltb d (natAbs (pixel -ℤ centre))) (ltZ centre pixel) d centre pixel refl refl gap
+
 -- a pixel is the centre and what it is off
 apart : (pixel centre : ℤ) → pixel ≡ centre +ℤ (pixel -ℤ centre)
 apart pixel centre = same _ _ (omega (arith, diff pixel centre, sum centre (pixel -ℤ centre)))
@@ -50,14 +66,3 @@ settled-small ruler a position pixel =
     let put = drifted (ruler .drift) centre pixel in
     let off : natAbs put ≤ natAbs centre + natAbs (put -ℤ centre) = subst (λ (z : ℤ). natAbs z ≤ natAbs centre + natAbs (put -ℤ centre)) (sym (apart put centre)) (abs-sum centre (put -ℤ centre)) in
     omega (arith, off, held (ruler .drift) centre pixel, rounded-half a position)
-
--- a pixel that follows a position in its range is not too large to be held to it, in either stride
-pub followed-small : (direction : Direction) (stride : Stride) (ruler : Ruler) → Accepted (ruler .k) → (scale : ℕ) (n : ℤ) (spot : Spot)
-    → natAbs n ≤ 2 ^ 31 → natAbs (spot .position +ℤ n) ≤ 2 ^ 31 → natAbs (spot .pixel) ≤ 2 ^ 31
-    → natAbs (followed direction stride ruler scale n spot) ≤ 2 ^ 32
-followed-small direction Rounded ruler a scale n spot n-small after-small pixel-small =
-    let by = spot .pixel +ℤ rounded (ruler .k) n in
-    let to = rounded (ruler .k) (spot .position +ℤ n) in
-    omega (arith, abs-cond (near direction n scale) by to, abs-sum (spot .pixel) (rounded (ruler .k) n), rounded-half a n, rounded-half a (spot .position +ℤ n))
-followed-small direction RoundedUp ruler a scale n spot n-small after-small pixel-small =
-    omega (arith, abs-sum (spot .pixel) (roundedUp (ruler .k) n), up-within a n)

@@ -33,7 +33,7 @@ drifted drift centre pixel = cond (strays drift centre pixel) (cond (ltZ centre 
 abbrev pub settled : Ruler → ℤ → ℤ → Spot
 settled ruler position pixel = record { position = position; pixel = drifted (ruler .drift) (rounded (ruler .k) position) pixel }
 
--- where a move by n takes the pixel: rounded, by rounded n where the move is near, else to the rounded new position; rounded up, by n rounded up, near or far (rule 7.3)
+-- where a move by n takes the pixel: rounded, by rounded n where the move is near, else to the rounded new position; rounded up, which nothing asks of a move down, by n rounded up, near or far (rule 7.3)
 abbrev pub followed : Direction → Stride → Ruler → ℕ → ℤ → Spot → ℤ
 followed direction Rounded ruler scale n spot =
     cond (near direction n scale) (spot .pixel +ℤ rounded (ruler .k) n) (rounded (ruler .k) (spot .position +ℤ n))

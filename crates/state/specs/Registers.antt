@@ -7,7 +7,6 @@ use Rattle.state.specs.declared.Font.{Font}
 use Rattle.state.specs.declared.moving.Direction.{Direction}
 use Rattle.state.specs.declared.moving.Direction.the-variants.{Sideways, Down}
 use Rattle.state.specs.declared.moving.Stride.{Stride}
-use Rattle.state.specs.declared.moving.Stride.the-variants.{Rounded}
 use Rattle.state.specs.declared.moving.Ruler.{Ruler}
 use Rattle.state.specs.declared.moving.Spot.{Spot}
 use Rattle.state.specs.declared.registers.Register.{Register}
@@ -61,7 +60,7 @@ abbrev pub atSpot : Direction → Spot → Level → Level
 atSpot Sideways spot l = record { h = spot .position; v = l .v; w = l .w; x = l .x; y = l .y; z = l .z; hh = spot .pixel; vv = l .vv }
 atSpot Down spot l = record { h = l .h; v = spot .position; w = l .w; x = l .x; y = l .y; z = l .z; hh = l .hh; vv = spot .pixel }
 
--- a level moved by n in a direction (rule 7.3)
+-- a level moved by n in a direction and a stride (rules 7.3, 7.4)
 abbrev pub movedBy : Direction → Stride → Ruler → ℕ → ℤ → Level → Level
 movedBy direction stride ruler scale n l = atSpot direction (moved direction stride ruler scale n (spotOf direction l)) l
 
@@ -92,6 +91,6 @@ directionOf X = Sideways
 directionOf Y = Down
 directionOf Z = Down
 
--- a level with n in a register, moved by n in the register's direction and the rounded stride (rule 7.9)
-abbrev pub movedByRegister : Register → Ruler → ℕ → ℤ → Level → Level
-movedByRegister register ruler scale n l = movedBy (directionOf register) Rounded ruler scale n (withRegister register n l)
+-- a level with n in a register, moved by n in the register's direction (rule 7.9)
+abbrev pub movedByRegister : Register → Stride → Ruler → ℕ → ℤ → Level → Level
+movedByRegister register stride ruler scale n l = movedBy (directionOf register) stride ruler scale n (withRegister register n l)

@@ -25,7 +25,7 @@ abbrev pub repeated : ℕ → ℤ → Spot → Spot
 repeated zero n spot = spot
 repeated (suc times) n spot = repeated times n (moved Sideways Rounded ruler 100 n spot)
 
--- six moves by 5 and by −5: each rounds up to 2, and D holds the sum back
+-- six moves by 5 and by −5: each is rounded to 2 or −2, and D holds the sum back
 abbrev pub moveExamples : List MoveExample
 moveExamples =
     record { times = 6; distance = pos 5; printed = record { position = pos 30; pixel = pos 11 } }

@@ -1,4 +1,4 @@
-// Moving a position and its pixel: one move for both directions.
+// Moving a position and its pixel: one move for both directions and both strides.
 use units::Ratio;
 ghost use mathlib.Core.Path.{_≡_};
 ghost use mathlib.Core.Bool.{false};
@@ -99,8 +99,8 @@ fn follow(
     centre: i64,
 ) -> i64
     requires { ⌜ Ruled ruler scale × (natAbs n ≤ 2 ^ 31) × (natAbs (spot .pixel) ≤ 2 ^ 31) ⌝ }
-    requires { ⌜ centre ≡ rounded (ruler .k) (spot .position +ℤ n) ⌝ }
-    ensures { λ r. ⌜ r ≡ followed direction stride ruler scale n spot ⌝ }
+    requires { ⌜ (centre ≡ rounded (ruler .k) (spot .position +ℤ n)) × (natAbs centre ≤ 2 ^ 31) ⌝ }
+    ensures { λ r. ⌜ (r ≡ followed direction stride ruler scale n spot) × (natAbs r ≤ 2 ^ 32) ⌝ }
 {
     let pixel = spot.pixel;
     match stride {

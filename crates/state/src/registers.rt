@@ -128,9 +128,10 @@ pub fn with_register(register: Register, n: i64, level: Level) -> Level
     }
 }
 
-// The level with n in a register, moved by n in the register's direction and the rounded stride.
+// The level with n in a register, moved by n in the register's direction and a stride.
 pub fn moved_by_register(
     register: Register,
+    stride: Stride,
     ruler: Ruler,
     scale: u64,
     n: i64,
@@ -138,15 +139,8 @@ pub fn moved_by_register(
 ) -> Level
     requires { ⌜ Ruled ruler scale × Bounded level ⌝ }
     requires { ⌜ (natAbs n ≤ 2 ^ 31) × (leaves (spotOf (directionOf register) level .position +ℤ n) ≡ false) ⌝ }
-    ensures { λ r. ⌜ r ≡ movedByRegister register ruler scale n level ⌝ }
+    ensures { λ r. ⌜ r ≡ movedByRegister register stride ruler scale n level ⌝ }
 {
     let holding = with_register(register, n, level);
-    moved_by(
-        direction_of(register),
-        Stride::Rounded,
-        ruler,
-        scale,
-        n,
-        holding,
-    )
+    moved_by(direction_of(register), stride, ruler, scale, n, holding)
 }

@@ -3,4 +3,4 @@ pub mod Cancelling
 pub mod Unit
 pub mod Rounding
 pub mod RefusedWith
-pub mod Strides
+pub mod Sums

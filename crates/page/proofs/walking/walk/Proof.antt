@@ -221,10 +221,10 @@ loop-again-4 c =
     let register = v .0 .0 in
     let z = v .0 .1 .0 in
     let ok = safe (read n) (Turn.ByRegister register z) (v .1) in
-    to-level n (Turn.ByRegister register z) (v .1) refl (movedByRegister register (ruler n) (scale n) z (before n .now)) refl (c .moved-to .result)
+    to-level n (Turn.ByRegister register z) (v .1) refl (movedByRegister register Stride.Rounded (ruler n) (scale n) z (before n .now)) refl (c .moved-to .result)
     (c .moved-to .ensures
-    ∙ ap (withLevel (before n)) (c .before .moved-by-register .ensures ∙ ap (λ (y : ℤ). movedByRegister register (ruler n) (scale n) y (before n .now)) (word z (ok .0))))
-    (bounded-by-register register (ruler n) (scale n) z (before n .now) (ruled (read n)) (bounded n) (ok .0) (ok .1))
+    ∙ ap (withLevel (before n)) (c .before .moved-by-register .ensures ∙ ap (λ (y : ℤ). movedByRegister register Stride.Rounded (ruler n) (scale n) y (before n .now)) (word z (ok .0))))
+    (bounded-by-register register Stride.Rounded (ruler n) (scale n) z (before n .now) (ruled (read n)) (bounded n) (ok .0) (ok .1))
 
 enum-known-turn-3 : tie.Need-enum-known-turn-3 Inv-loop μ-loop
 enum-known-turn-3 c = search needs

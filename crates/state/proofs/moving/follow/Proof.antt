@@ -8,10 +8,12 @@ use lib.IntN.{ℤ, natAbs, _+ℤ_}
 use mir.Syntax.{w64}
 use mir.Val.{SFits}
 use mir.Facts.{toZ-ofZ}
+use Rattle.numbers.proofs.Signed.{abs-sum}
 use Rattle.units.specs.Rounding.{rounded, roundedUp}
 use Rattle.units.proofs.Rounding.{rounded-half, up-within}
 use Rattle.state.specs.declared.moving.Stride.{Stride}
 use Rattle.state.specs.Moving.{near, followed}
+use Rattle.state.proofs.Nearness.{within}
 use Rattle.state.proofs.Words.{asWord, word-sum, word-sum-fits}
 use Rattle.state.proofs.moving.follow.Statement.{statement}
 use Rattle.state.proofs.moving.follow.Tie as tie
@@ -38,6 +40,9 @@ module _ (s : tie.Start) where
 
     grown-is : asWord (asWord pixel +ℤ asWord given) ≡ pixel +ℤ step
     grown-is = ap (λ (z : ℤ). asWord (asWord pixel +ℤ asWord z)) is ∙ word-sum pixel step (s .pre .0 .2) small
+
+    grown-small : natAbs (asWord (asWord pixel +ℤ asWord given)) ≤ 2 ^ 32
+    grown-small = within (2 ^ 32) grown-is (omega (arith, abs-sum pixel step, s .pre .0 .2, small))
 
 enum-told : tie.Need-enum-told
 enum-told c = search needs
@@ -73,17 +78,21 @@ add-result c = grown-fits (start c) (step c) (c .round .result) (step-small c) (
 returns : tie.Need-returns
 returns c =
     let s = start c in
-    let z = asWord (asWord (pixel s) +ℤ asWord (c .round .result)) in
-    subst (Asked s z) (sym (c .before .before .before .enum-told .given .1))
-    (subst (AskedNear s z) (sym (c .before .if1 .taken) ∙ near-is (c .before .before)) (grown-is s (step c) (c .round .result) (step-small c) (step-is c)))
+    let z = asWord (asWord (pixel s) +ℤ asWord (c .round .result)) in (
+      subst (Asked s z) (sym (c .before .before .before .enum-told .given .1))
+          (subst (AskedNear s z) (sym (c .before .if1 .taken) ∙ near-is (c .before .before)) (grown-is s (step c) (c .round .result) (step-small c) (step-is c))),
+      grown-small s (step c) (c .round .result) (step-small c) (step-is c),
+    )
 
 -- far: to the centre
 returns-2 : tie.Need-returns-2
 returns-2 c =
     let s = c .before .before .before .before .before in
     let z = asWord (s .args .centre) in
-    subst (Asked s z) (sym (c .before .before .enum-told .given .1))
-    (subst (AskedNear s z) (sym (c .if1 .left) ∙ near-is (c .before)) (toZ-ofZ (s .fits .centre) ∙ s .pre .1))
+    let is-centre : z ≡ s .args .centre = toZ-ofZ (s .fits .centre) in (
+      subst (Asked s z) (sym (c .before .before .enum-told .given .1)) (subst (AskedNear s z) (sym (c .if1 .left) ∙ near-is (c .before)) (is-centre ∙ s .pre .1 .0)),
+      within (2 ^ 32) is-centre (omega (arith, s .pre .1 .1)),
+    )
 
 enum-told-2 : tie.Need-enum-told-2
 enum-told-2 c = search needs
@@ -111,8 +120,10 @@ add-result-2 c = grown-fits (from c) (rise c) (c .round-up .result) (rise-small 
 returns-3 : tie.Need-returns-3
 returns-3 c =
     let s = from c in
-    subst (Asked s (asWord (asWord (pixel s) +ℤ asWord (c .round-up .result)))) (sym (c .before .enum-told2 .given .1))
-    (grown-is s (rise c) (c .round-up .result) (rise-small c) (rise-is c))
+    let z = asWord (asWord (pixel s) +ℤ asWord (c .round-up .result)) in (
+      subst (Asked s z) (sym (c .before .enum-told2 .given .1)) (grown-is s (rise c) (c .round-up .result) (rise-small c) (rise-is c)),
+      grown-small s (rise c) (c .round-up .result) (rise-small c) (rise-is c),
+    )
 
 pub follow-spec : {M : Type 1} → statement M
 follow-spec =

@@ -8,7 +8,7 @@ use mir.Facts.{toZ-ofZ}
 use Rattle.units.specs.Rounding.{rounded}
 use Rattle.units.proofs.Rounding.{rounded-half}
 use Rattle.state.specs.Moving.{followed, drifted}
-use Rattle.state.proofs.Nearness.{within, followed-small}
+use Rattle.state.proofs.Nearness.{within}
 use Rattle.state.proofs.Levels.{position-in}
 use Rattle.state.proofs.Words.{asWord, word-is, word-sum, word-sum-fits}
 use Rattle.state.proofs.moving.move_by.Statement.{statement}
@@ -39,11 +39,6 @@ module _ (s : tie.Start) where
   abbrev pixelBy : ℤ → ℤ
   pixelBy by = followed (s .args .direction) (s .args .stride) (s .args .ruler) (s .args .scale) by (s .args .spot)
 
-  pixel-small : natAbs (pixelBy n) ≤ 2 ^ 32
-  pixel-small =
-      let a = s .args in
-      followed-small (a .direction) (a .stride) (a .ruler) (s .pre .0 .0 .unit) (a .scale) n (a .spot) (s .pre .1 .0) after-small (s .pre .0 .2)
-
 add-after : tie.Need-add-after
 add-after c = let s = c .before .before in word-sum-fits (position s) (n s) (s .pre .0 .1) (s .pre .1 .0)
 
@@ -58,17 +53,17 @@ centre-is c =
 follow-requires : tie.Need-follow-requires
 follow-requires c κs =
     let s = c .before .before .before in
-    rw (toZ-ofZ (s .fits .n)) ((s .pre .0 .0, s .pre .1 .0, s .pre .0 .2), centre-is c)
+    rw (toZ-ofZ (s .fits .n)) ((s .pre .0 .0, s .pre .1 .0, s .pre .0 .2), (centre-is c, within (2 ^ 31) (centre-is c) (centre-small s)))
 
 pixel-is : (c : tie.After-follow) → let s = c .before .before .before .before in asWord (c .follow .result) ≡ pixelBy s (n s)
 pixel-is c =
     let s = c .before .before .before .before in
-    ap asWord (c .follow .ensures ∙ ap (pixelBy s) (toZ-ofZ (s .fits .n))) ∙ word-is (pixelBy s (n s)) (pixel-small s)
+    word-is (c .follow .result) (c .follow .ensures .1) ∙ c .follow .ensures .0 ∙ ap (pixelBy s) (toZ-ofZ (s .fits .n))
 
 held-near-requires : tie.Need-held-near-requires
 held-near-requires c κs =
     let s = c .before .before .before .before in
-    (s .pre .0 .0 .drift-small, within (2 ^ 31) (centre-is (c .before)) (centre-small s), within (2 ^ 32) (pixel-is c) (pixel-small s))
+    (s .pre .0 .0 .drift-small, within (2 ^ 31) (centre-is (c .before)) (centre-small s), within (2 ^ 32) (word-is (c .follow .result) (c .follow .ensures .1)) (c .follow .ensures .1))
 
 returns : tie.Need-returns
 returns c =

@@ -1,11 +1,10 @@
--- `state::registers::moved_by_register` meets its contract, for every register. Assumes nothing.
+-- `state::registers::moved_by_register` meets its contract, for every register and either stride. Assumes nothing.
 use mathlib.Core.Path.{ap, ap₂, _∙_}
 use borrow.Author.Needs.{needs}
 use lib.IntN.{ℤ}
 use mir.Facts.{toZ-ofZ}
 use Rattle.state.specs.declared.Level.{Level}
 use Rattle.state.specs.declared.moving.Direction.{Direction}
-use Rattle.state.specs.declared.moving.Stride.the-variants.{Rounded}
 use Rattle.state.specs.Registers.{movedBy, withRegister, directionOf}
 use Rattle.state.proofs.Levels.{bounded-register, register-stays}
 use Rattle.state.proofs.Words.{asWord}
@@ -30,8 +29,8 @@ returns c =
     let s = c .before .before .before in
     let a = s .args in
     c .moved-by .ensures
-    ∙ ap₂ (λ (direction : Direction) (holding : Level). movedBy direction Rounded (a .ruler) (a .scale) (asWord (a .n)) holding) (c .before .direction-of .ensures) (c .before .before .with-register .ensures)
-    ∙ ap (λ (n : ℤ). movedBy (directionOf (a .register)) Rounded (a .ruler) (a .scale) n (withRegister (a .register) n (a .level))) (toZ-ofZ (s .fits .n))
+    ∙ ap₂ (λ (direction : Direction) (holding : Level). movedBy direction (a .stride) (a .ruler) (a .scale) (asWord (a .n)) holding) (c .before .direction-of .ensures) (c .before .before .with-register .ensures)
+    ∙ ap (λ (n : ℤ). movedBy (directionOf (a .register)) (a .stride) (a .ruler) (a .scale) n (withRegister (a .register) n (a .level))) (toZ-ofZ (s .fits .n))
 
 pub moved-by-register-spec : {M : Type 1} → statement M
 moved-by-register-spec =

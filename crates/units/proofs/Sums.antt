@@ -5,14 +5,9 @@ use native.Mathlib.Nat.{div-mul-le-self, div-lt-iff-lt-mul, le-of-mul-le-mul-rig
 use native.Mathlib.Omega.{arith}
 use lib.IntN.{ℤ, pos, negsuc, negℤ, natAbs, _+ℤ_, _-ℤ_}
 use Rattle.numbers.specs.Parts.{up, dn}
-use Rattle.numbers.proofs.Signed.{sum, diff, up-neg, dn-neg}
+use Rattle.numbers.proofs.Signed.{sum, diff, up-neg, dn-neg, abs-within}
 use Rattle.units.specs.declared.Ratio.{Ratio}
 use Rattle.units.specs.Rounding.{nearestWhole, rounded, roundedUp}
-
--- a number whose parts are at most n apart is at most n from 0
-abs-within : (z : ℤ) (n : ℕ) → up z ≤ dn z + n → dn z ≤ up z + n → natAbs z ≤ n
-abs-within (pos m) n above below = omega arith
-abs-within (negsuc m) n above below = omega arith
 
 module _ (k : Ratio) (some : 0 < k .q) where
   abbrev p : ℕ
