@@ -2,11 +2,11 @@
 -- not move it. Assumes nothing.
 use Prim.Native.Nat.{ℕ, _*_, _≤_, _<_}
 use mathlib.Core.Path.{_≡_, refl, sym, ap, ap₂, _∙_, subst}
-use mathlib.Core.Bool.{Bool, true, false, cond, true≢false}
+use mathlib.Core.Bool.{Bool, true, false, cond, true≢false, and-eq-true-iff}
 use mathlib.Core.List.{List, [], _∷_, _++_, map, append-assoc, map-append}
 use native.Mathlib.Omega.{arith}
 use lib.ListN.{take}
-use lib.IntN.{ℤ, natAbs, _+ℤ_, _-ℤ_}
+use lib.IntN.{ℤ, pos, natAbs, _+ℤ_, _-ℤ_}
 use lib.Signed.{ltZ}
 use contract.Lifetimes.{Lfts}
 use Rattle.refusals.specs.Numbers.{positionOutOfRange}
@@ -15,6 +15,7 @@ use Rattle.refusals.proofs.Answer.{given-not-refused}
 use Rattle.numbers.specs.Parts.{up, dn}
 use Rattle.numbers.proofs.Signed.{sum, diff, same}
 use Rattle.units.specs.Rounding.{rounded, roundedUp}
+use Rattle.units.proofs.Rounding.{up-some}
 use Rattle.widths.specs.Scaling.{scaledBy}
 use Rattle.widths.specs.LookUp.{LookUp, found, absent}
 use Rattle.commands.specs.declared.Kind.{Kind}
@@ -31,7 +32,7 @@ use Rattle.state.specs.declared.moving.Stride.the-variants as Stride
 use Rattle.state.specs.declared.registers.Register.{Register}
 use Rattle.state.specs.declared.registers.Register.the-variants as Register
 use Rattle.state.specs.Moving.{leaves}
-use Rattle.state.specs.Registers.{State, freshState, poppedTo, spotOf, movedBy, registerOf, directionOf}
+use Rattle.state.specs.Registers.{State, freshState, poppedTo, spotOf, registerOf, directionOf}
 use Rattle.state.specs.Nearby.{Near, AllNear, StateNear}
 use Rattle.state.proofs.Nearby.{near-moved, near-character, near-register, near-fresh, up-unheld, up-stays, up-nearly}
 use Rattle.page.specs.declared.Record.{Record}
@@ -249,6 +250,12 @@ module _ (setting : Setting) where
           by true e = one-record e
           by false e = no-record (sym e)
 
+      -- it is at least a pixel wide
+      bar-some : isVisible (ruleHeight (c .params)) width ≡ true → 0 < setting .ruler .k .p → 0 < setting .ruler .k .q → ltZ (pos 0) (bar .extent) ≡ true
+      bar-some visible p q =
+          let wide = and-eq-true-iff (ltZ (pos 0) (ruleHeight (c .params))) (ltZ (pos 0) width) .0 visible .1 in
+          subst (λ (r : Record). ltZ (pos 0) (r .extent) ≡ true) (sym bar-is) (up-some (setting .ruler .k) p q width wide)
+
       -- it stands where the page stood
       bar-starts : bar .hh ≡ s .level .hh
       bar-starts = ap (λ (r : Record). r .hh) bar-is
@@ -342,6 +349,7 @@ module _ (κs : Lfts 3) (a x : Arguments) (records missing specials : ℕ) (post
         bar = bar;
         adds = adds;
         starts = bar-starts setting (at .here) (at .next) (c .command) sets bar does;
+        some = bar-some setting (at .here) (at .next) (c .command) sets bar does visible;
         grows = grown-by-bar setting (at .here) (at .next) (c .command) sets bar does;
         clear = bar-clear setting (at .here) (at .next) (c .command) sets bar does;
         free = bite-free setting (at .here) (at .next) (c .command) sets bar does;

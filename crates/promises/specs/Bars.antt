@@ -3,7 +3,7 @@ use Prim.Native.Nat.{_≤_, _<_}
 use mathlib.Core.Path.{_≡_}
 use mathlib.Core.Bool.{Bool, true, false}
 use mathlib.Core.List.{List, [], _∷_, _++_, map}
-use lib.IntN.{ℤ, natAbs, _+ℤ_, _-ℤ_}
+use lib.IntN.{ℤ, pos, natAbs, _+ℤ_, _-ℤ_}
 use lib.Signed.{ltZ}
 use Rattle.refusals.specs.Answer.{given}
 use Rattle.units.specs.Rounding.{rounded, roundedUp}
@@ -55,12 +55,13 @@ pub record Covers (bar : Record) (column : ℤ) : Type 0 where
   pub from : ltZ column (bar .hh) ≡ false
   pub before-end : ltZ column (bar .hh +ℤ bar .extent) ≡ true
 
--- a bar with a record, which stands at hh: unless D bites, hh grows by the record's own width, and each pixel of the bar is before hh; and D does not bite where hh was less than D from rounded h (rules 7.3, 7.4, 7.8)
+-- a bar with a record, which stands at hh and, K being above 0, is at least a pixel wide: unless D bites, hh grows by the record's own width, and each pixel of the bar is before hh; and D does not bite where hh was less than D from rounded h (rules 7.3, 7.4, 7.8)
 pub record ClearBar (setting : Setting) (written : List Record) (before : List Located) (c : Located) : Type 0 where
   pub at : AtCommand setting freshState written before c
   pub bar : Record
   pub adds : at .added ≡ placed bar
   pub starts : bar .hh ≡ at .here .level .hh
+  pub some : 0 < setting .ruler .k .p → 0 < setting .ruler .k .q → ltZ (pos 0) (bar .extent) ≡ true
   pub grows : bites setting bar (at .next) ≡ false → at .next .level .hh -ℤ at .here .level .hh ≡ bar .extent
   pub clear : bites setting bar (at .next) ≡ false → (column : ℤ) → Covers bar column → ltZ column (at .next .level .hh) ≡ true
   pub free : natAbs (at .here .level .hh -ℤ rounded (setting .ruler .k) (at .here .level .h)) < setting .ruler .drift → bites setting bar (at .next) ≡ false

@@ -4,7 +4,7 @@ use mathlib.Core.Bool.{true, false}
 use Prim.Native.Nat.{ℕ, zero, suc, _+_, _-_, _*_, _/_, _≤_, _<_, _^_}
 use native.Mathlib.Nat.{mul-le-mul, mul-le-mul-left, mul-le-mul-right, div-mul-le-self, div-lt-iff-lt-mul, le-div-iff-mul-le, le-mul-of-pos-right, le-of-mul-le-mul-right, one-mul, two-mul, mul-comm, add-mul, mul-add, div-zero, div-eq-of-lt}
 use native.Mathlib.Omega.{arith}
-use borrow.Author.Tests.{ltb-true}
+use borrow.Author.Tests.{ltb-true, lt-ltb}
 use lib.Dec.{T}
 use lib.IntN.{ℤ, pos, negsuc, natAbs}
 use lib.Signed.{ltZ}
@@ -56,14 +56,16 @@ pub up-positive : (k : Ratio) (n : ℤ) → ltZ n (pos 0) ≡ false → roundedU
 up-positive k (pos a) e = refl
 up-positive k (negsuc a) e = absurd (subst T e tt)
 
+-- where K is above 0, a distance above 0 is at least one pixel
+pub up-some : (k : Ratio) → 0 < k .p → 0 < k .q → (n : ℤ) → ltZ (pos 0) n ≡ true → ltZ (pos 0) (roundedUp k n) ≡ true
+up-some k p q (pos m) e = lt-ltb 0 _ (le-div-iff-mul-le q .1 (omega (arith, one-mul (k .q), p, q, le-mul-of-pos-right (k .p) (ltb-true 0 m e))))
+up-some k p q (negsuc m) e = absurd (subst T (sym e) tt)
+
 module _ {k : Ratio} (a : Accepted k) where
   wide : 0 < k .q
   wide = omega (arith, a .positive, a .half)
 
-  -- K × m rounded up is at least 1 where m is, and at most m
-  pub up-some : (m : ℕ) → 0 < m → 1 ≤ (k .p * m + (k .q - 1)) / k .q
-  up-some m h = le-div-iff-mul-le wide .1 (omega (arith, one-mul (k .q), wide, a .positive, le-mul-of-pos-right (k .p) h))
-
+  -- K × m rounded up is at most m
   pub up-small : (m : ℕ) → (k .p * m + (k .q - 1)) / k .q ≤ m
   up-small m =
       let less : (k .p * m + (k .q - 1)) / k .q < m + 1 =
