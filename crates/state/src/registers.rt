@@ -128,7 +128,7 @@ pub fn with_register(register: Register, n: i64, level: Level) -> Level
     }
 }
 
-// The level with n in a register, moved by n in the register's direction and a stride.
+// The level with n in a register, moved by n in the register's direction and a stride. It does not call moved_by: the compiler would then put neither into the walk over a page, and copy the page's array.
 pub fn moved_by_register(
     register: Register,
     stride: Stride,
@@ -141,6 +141,15 @@ pub fn moved_by_register(
     requires { ⌜ (natAbs n ≤ 2 ^ 31) × (leaves (spotOf (directionOf register) level .position +ℤ n) ≡ false) ⌝ }
     ensures { λ r. ⌜ r ≡ movedByRegister register stride ruler scale n level ⌝ }
 {
+    let direction = direction_of(register);
     let holding = with_register(register, n, level);
-    moved_by(direction_of(register), stride, ruler, scale, n, holding)
+    let spot = moving::move_by(
+        direction,
+        stride,
+        ruler,
+        scale,
+        n,
+        spot_of(direction, holding),
+    );
+    at_spot(direction, spot, holding)
 }

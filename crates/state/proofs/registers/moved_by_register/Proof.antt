@@ -1,37 +1,77 @@
 -- `state::registers::moved_by_register` meets its contract, for every register and either stride. Assumes nothing.
-use mathlib.Core.Path.{ap, ap₂, _∙_}
+use mathlib.Core.Path.{_≡_, ap, ap₂, _∙_}
 use borrow.Author.Needs.{needs}
 use lib.IntN.{ℤ}
 use mir.Facts.{toZ-ofZ}
 use Rattle.state.specs.declared.Level.{Level}
 use Rattle.state.specs.declared.moving.Direction.{Direction}
-use Rattle.state.specs.Registers.{movedBy, withRegister, directionOf}
-use Rattle.state.proofs.Levels.{bounded-register, register-stays}
+use Rattle.state.specs.declared.moving.Spot.{Spot}
+use Rattle.state.specs.Moving.{moved}
+use Rattle.state.specs.Registers.{spotOf, atSpot, withRegister, directionOf}
+use Rattle.state.proofs.Levels.{spot-in, bounded-register, register-stays}
 use Rattle.state.proofs.Words.{asWord}
 use Rattle.state.proofs.registers.moved_by_register.Statement.{statement}
 use Rattle.state.proofs.registers.moved_by_register.Tie as tie
 
-with-register-requires : tie.Need-with-register-requires
-with-register-requires c κs = search needs
-
 direction-of-requires : tie.Need-direction-of-requires
 direction-of-requires c κs = search needs
 
-moved-by-requires : tie.Need-moved-by-requires
-moved-by-requires c κs =
-    let s = c .before .before in
+with-register-requires : tie.Need-with-register-requires
+with-register-requires c κs = search needs
+
+spot-of-requires : tie.Need-spot-of-requires
+spot-of-requires c κs = search needs
+
+-- what the code has before it moves
+module _ (c : tie.After-spot-of) where
+  abbrev start : tie.Start
+  start = c .before .before .before
+
+  abbrev direction : Direction
+  direction = directionOf (start .args .register)
+
+  abbrev holding : Level
+  holding = withRegister (start .args .register) (start .args .n) (start .args .level)
+
+  direction-is : c .before .before .direction-of .result ≡ direction
+  direction-is = c .before .before .direction-of .ensures
+
+  holding-is : c .before .with-register .result ≡ holding
+  holding-is = c .before .with-register .ensures ∙ ap (λ (n : ℤ). withRegister (start .args .register) n (start .args .level)) (toZ-ofZ (start .fits .n))
+
+  spot-is : c .spot-of .result ≡ spotOf direction holding
+  spot-is = c .spot-of .ensures ∙ ap₂ spotOf direction-is holding-is
+
+move-by-requires : tie.Need-move-by-requires
+move-by-requires c κs =
+    let s = start c in
     let a = s .args in
-    rw (c .direction-of .ensures, c .before .with-register .ensures, toZ-ofZ (s .fits .n))
-    ((s .pre .0 .0, bounded-register (a .register) (a .n) (a .level) (s .pre .0 .1) (s .pre .1 .0)), (s .pre .1 .0, register-stays (a .register) (a .n) (a .level) (s .pre .1 .1)))
+    let small = spot-in (direction c) (holding c) (bounded-register (a .register) (a .n) (a .level) (s .pre .0 .1) (s .pre .1 .0)) in
+    rw (spot-is c, toZ-ofZ (s .fits .n)) ((s .pre .0 .0, small .0, small .1), (s .pre .1 .0, register-stays (a .register) (a .n) (a .level) (s .pre .1 .1)))
+
+at-spot-requires : tie.Need-at-spot-requires
+at-spot-requires c κs = search needs
 
 returns : tie.Need-returns
 returns c =
-    let s = c .before .before .before in
+    let before = c .before .before in
+    let s = start before in
     let a = s .args in
-    c .moved-by .ensures
-    ∙ ap₂ (λ (direction : Direction) (holding : Level). movedBy direction (a .stride) (a .ruler) (a .scale) (asWord (a .n)) holding) (c .before .direction-of .ensures) (c .before .before .with-register .ensures)
-    ∙ ap (λ (n : ℤ). movedBy (directionOf (a .register)) (a .stride) (a .ruler) (a .scale) n (withRegister (a .register) n (a .level))) (toZ-ofZ (s .fits .n))
+    let moves = c .before .move-by in
+    c .at-spot .ensures
+    ∙ ap₂ (λ (way : Direction) (level : Level). atSpot way (moves .result) level) (direction-is before) (holding-is before)
+    ∙ ap (λ (spot : Spot). atSpot (direction before) spot (holding before))
+    (moves .ensures
+    ∙ ap (λ (way : Direction). moved way (a .stride) (a .ruler) (a .scale) (asWord (a .n)) (before .spot-of .result)) (direction-is before)
+    ∙ ap₂ (moved (direction before) (a .stride) (a .ruler) (a .scale)) (toZ-ofZ (s .fits .n)) (spot-is before))
 
 pub moved-by-register-spec : {M : Type 1} → statement M
 moved-by-register-spec =
-    tie.close (tie.spec with-register-requires direction-of-requires moved-by-requires returns)
+    tie.close
+    (tie.spec
+    direction-of-requires
+    with-register-requires
+    spot-of-requires
+    move-by-requires
+    at-spot-requires
+    returns)
