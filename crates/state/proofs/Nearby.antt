@@ -128,6 +128,4 @@ module _ (ruler : Ruler) where
   -- so a move in the rounded stride, one of 0 too, sets the pixel to the rounded position, wherever a bar has left it
   pub fontless-sets-back : (direction : Direction) (n : ℤ) (spot : Spot)
       → moved direction Rounded ruler 0 n spot ≡ record { position = spot .position +ℤ n; pixel = rounded (ruler .k) (spot .position +ℤ n) }
-  fontless-sets-back direction n spot =
-      ap (λ (t : Bool). settled ruler (spot .position +ℤ n) (cond t (spot .pixel +ℤ rounded (ruler .k) n) (rounded (ruler .k) (spot .position +ℤ n)))) (never-near direction n)
-      ∙ settled-centred (spot .position +ℤ n)
+  fontless-sets-back direction n spot = rw (never-near direction n) (settled-centred (spot .position +ℤ n))
