@@ -1,5 +1,5 @@
--- After every command of a page the pixels are within D of the rounded position; and behind a bar hh has gone by the bar's own pixels, wherever D does
--- not move it. Assumes nothing.
+-- After every command of a page the pixels are within D of the rounded position; every rule that is set moves hh by its width rounded up, from which D moves it by at most one
+-- pixel; and behind a bar hh has gone by the bar's own pixels, wherever D does not move it. Assumes nothing.
 use Prim.Native.Nat.{ℕ, _*_, _≤_, _<_}
 use mathlib.Core.Path.{_≡_, refl, sym, ap, ap₂, _∙_, subst}
 use mathlib.Core.Bool.{Bool, true, false, cond, true≢false, and-eq-true-iff}
@@ -325,11 +325,12 @@ module _ (κs : Lfts 3) (a x : Arguments) (records missing specials : ℕ) (post
       let (g, written, bytes, at) = on-page before rest c own-is in
       let setting = groundsSetting a g in
       let width = ruleWidth (c .command .params) in
-      let moves = bar-does setting (at .here) (at .next) (c .command) sets (at .added) (at .does) .0 in
+      let (moves, adds) = bar-does setting (at .here) (at .next) (c .command) sets (at .added) (at .does) in
       let near = stays-near setting (commands before) freshState (at .here) (near-fresh (setting .ruler)) (at .leads) .0 in
       let moved = up-nearly (setting .ruler) Direction.Sideways (at .here .font .scale) width (spotOf Direction.Sideways (at .here .level)) (near Direction.Sideways) in
       let bar : BarMoves setting written before c = record {
         at = at;
+        adds = adds;
         moves = moves;
         nearly = subst (λ (s : State). natAbs (s .level .hh -ℤ (at .here .level .hh +ℤ roundedUp (setting .ruler .k) width)) ≤ 1) (sym moves) moved;
       } in

@@ -7,13 +7,13 @@ use lib.IntN.{ℤ, pos, natAbs, _+ℤ_, _-ℤ_}
 use lib.Signed.{ltZ}
 use Rattle.refusals.specs.Answer.{given}
 use Rattle.units.specs.Rounding.{rounded, roundedUp}
-use Rattle.commands.specs.Parameters.{ruleWidth}
+use Rattle.commands.specs.Parameters.{ruleHeight, ruleWidth}
 use Rattle.state.specs.declared.moving.Direction.the-variants.{Sideways}
 use Rattle.state.specs.Moving.{strays, settled}
 use Rattle.state.specs.Registers.{State, freshState, atSpot}
 use Rattle.page.specs.declared.Record.{Record}
 use Rattle.page.specs.PageList.{Located}
-use Rattle.page.specs.Placing.{Setting, Added, nothing, placed, missing, special, continues, withNumbers, after, Contents, placing}
+use Rattle.page.specs.Placing.{Setting, Added, nothing, placed, missing, special, continues, withNumbers, ruleAdded, after, Contents, placing}
 use Rattle.page.specs.Blocks.{to, afterAll}
 
 -- the record that a command adds, if it adds one (rule 8.3)
@@ -23,7 +23,7 @@ recordAdded (placed r) = r ∷ []
 recordAdded missing = []
 recordAdded special = []
 
--- a command of some that are placed, from a state on: what those before it come to and where they lead, where it leads, what it adds, and what stands among the records of all: theirs, its own, and the others (rule 8.3)
+-- a command of some that are placed, from a state on: what those before it come to and where they lead, where it leads, what it adds, and the records of all: theirs, then its own, then the others' (rule 8.3)
 pub record AtCommand (setting : Setting) (start : State) (records : List Record) (before : List Located) (c : Located) : Type 0 where
   pub earlier : Contents
   pub here : State
@@ -35,14 +35,15 @@ pub record AtCommand (setting : Setting) (start : State) (records : List Record)
   pub does : after setting here (c .command) ≡ continues next added
   pub stands : records ≡ earlier .placements ++ (recordAdded added ++ later)
 
--- where a rule of a width leads that is set: h grows by the width and hh by the width rounded up, which D holds; all else stays (rules 7.3, 7.4, 7.8)
+-- where a rule of this width leads when it is set: h grows by the width and hh by the width rounded up, which D holds; all else stays (rules 7.3, 7.4, 7.8)
 abbrev pub pastBar : Setting → State → ℤ → State
 pastBar setting s width =
     withNumbers s (atSpot Sideways (settled (setting .ruler) (s .level .h +ℤ width) (s .level .hh +ℤ roundedUp (setting .ruler .k) width)) (s .level))
 
--- any set_rule of a page that is placed, with a record or without, and how far hh is from the old one and the width rounded up: D moves it by at most one pixel (rules 7.4, 7.8)
+-- any set_rule of a page that is placed: what it adds, where it leads, and that D moves hh by at most one pixel from the old hh plus the width rounded up (rules 7.4, 7.8)
 pub record BarMoves (setting : Setting) (written : List Record) (before : List Located) (c : Located) : Type 0 where
   pub at : AtCommand setting freshState written before c
+  pub adds : at .added ≡ ruleAdded setting (at .here) (ruleHeight (c .command .params)) (ruleWidth (c .command .params))
   pub moves : at .next ≡ pastBar setting (at .here) (ruleWidth (c .command .params))
   pub nearly : natAbs (at .next .level .hh -ℤ (at .here .level .hh +ℤ roundedUp (setting .ruler .k) (ruleWidth (c .command .params)))) ≤ 1
 

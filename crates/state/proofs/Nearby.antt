@@ -1,7 +1,7 @@
--- The pixels of a page's state stay within D of its rounded positions, whatever moves, and where D does not move the pixel the stride that is
--- rounded up leaves it just so far on. Assumes nothing.
+-- The pixels of a page's state stay within D of its rounded positions, whatever moves. The stride that is rounded up takes the pixel on by just the distance
+-- rounded up, or by a pixel more or less where D moves it. Without a font a move in the rounded stride sets it to the rounded position. Assumes nothing.
 use Prim.Native.Nat.{ℕ, _+_, _*_, _≤_, _<_}
-use mathlib.Core.Path.{_≡_, sym, ap, _∙_, subst}
+use mathlib.Core.Path.{_≡_, sym, ap, subst}
 use mathlib.Core.Bool.{Bool, true, false, cond}
 use native.Mathlib.Omega.{arith}
 use borrow.Author.Tests.{le-ltb}
@@ -75,7 +75,7 @@ module _ (ruler : Ruler) where
     abbrev centre : ℤ
     centre = rounded (ruler .k) (spot .position +ℤ n)
 
-    -- the one is as far from the other as the pixel was from the rounded position, or one more or less
+    -- the one is at most one pixel further from the other than the pixel was from the rounded position
     ahead-off : natAbs (ahead -ℤ centre) ≤ natAbs (spot .pixel -ℤ rounded (ruler .k) (spot .position)) + 1
     ahead-off =
         let before = rounded (ruler .k) (spot .position) in
@@ -100,7 +100,7 @@ module _ (ruler : Ruler) where
       → strays (ruler .drift) (rounded (ruler .k) (spot .position +ℤ n)) (spot .pixel +ℤ roundedUp (ruler .k) n) ≡ false
   up-stays n spot less = le-ltb (ruler .drift) _ (omega (arith, ahead-off spot n, less))
 
-  -- and where it strays, D moves it by one pixel
+  -- and from within D it is moved by at most one pixel
   pub up-nearly : (direction : Direction) (scale : ℕ) (n : ℤ) (spot : Spot) → natAbs (spot .pixel -ℤ rounded (ruler .k) (spot .position)) ≤ ruler .drift
       → natAbs (moved direction RoundedUp ruler scale n spot .pixel -ℤ (spot .pixel +ℤ roundedUp (ruler .k) n)) ≤ 1
   up-nearly direction scale n spot near = held-nearly (ruler .drift) (centre spot n) (ahead spot n) (omega (arith, ahead-off spot n, near))

@@ -91,6 +91,6 @@ directionOf X = Sideways
 directionOf Y = Down
 directionOf Z = Down
 
--- a level with n in a register, moved by n in the register's direction (rule 7.9)
+-- a level with n in a register, moved by n in the register's direction and a stride (rules 7.3, 7.9)
 abbrev pub movedByRegister : Register → Stride → Ruler → ℕ → ℤ → Level → Level
 movedByRegister register stride ruler scale n l = movedBy (directionOf register) stride ruler scale n (withRegister register n l)

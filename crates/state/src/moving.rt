@@ -18,7 +18,7 @@ pub enum Direction {
 pub enum Stride {
     // by the rounded distance where the move is near, else to the rounded position
     Rounded,
-    // by the distance rounded up, which is as wide as a bar is drawn; sideways alone
+    // by the distance rounded up, which is as wide as a bar is drawn; named for bars alone
     RoundedUp,
 }
 

@@ -128,7 +128,7 @@ pub fn with_register(register: Register, n: i64, level: Level) -> Level
     }
 }
 
-// The level with n in a register, moved by n in the register's direction and a stride. It does not call moved_by, which the compiler would then leave out of the walk over a page, and copy the page's array.
+// The level with n in a register, moved by n in the register's direction and a stride. It does not call moved_by: the compiler would then not put that into the walk over a page, and would copy the page's array at each command.
 pub fn moved_by_register(
     register: Register,
     stride: Stride,

@@ -66,7 +66,7 @@ module _ {k : Ratio} (a : Accepted k) where
   wide = omega (arith, a .positive, a .half)
 
   -- K × m rounded up is at most m
-  pub up-small : (m : ℕ) → (k .p * m + (k .q - 1)) / k .q ≤ m
+  up-small : (m : ℕ) → (k .p * m + (k .q - 1)) / k .q ≤ m
   up-small m =
       let less : (k .p * m + (k .q - 1)) / k .q < m + 1 =
       div-lt-iff-lt-mul wide .1 (omega (arith, wide, mul-le-mul-right m (a .half), two-mul (k .p), add-mul (k .p) (k .p) m, add-mul m 1 (k .q), one-mul (k .q), mul-comm m (k .q))) in
