@@ -128,7 +128,7 @@ pub fn with_register(register: Register, n: i64, level: Level) -> Level
     }
 }
 
-// The level with n in a register, moved by n in the register's direction and a stride. It does not call moved_by: the compiler would then not put that into the walk over a page, and would copy the page's array at each command.
+// The level with n in a register, moved by n in the register's direction and a stride. It does not call moved_by: the compiler would then not put that into the walk over a page, and would copy the page at each such move.
 pub fn moved_by_register(
     register: Register,
     stride: Stride,
