@@ -1,5 +1,5 @@
 -- A command, its written form, and what stands at the front of a list of bytes. Assumes nothing.
-use Prim.Native.Nat.{ℕ, _<_}
+use Prim.Native.Nat.{ℕ, _+_, _<_}
 use mathlib.Core.Path.{_≡_}
 use mathlib.Core.Bool.{cond}
 use mathlib.Core.List.{List, [], _∷_, _++_}
@@ -31,6 +31,11 @@ form c = c .opcode ∷ c .params
 abbrev pub written : List Command → List ℕ
 written [] = []
 written (c ∷ cs) = form c ++ written cs
+
+-- how many bytes the commands before are written in, the newest first: the place of the next (rule 3.1)
+abbrev pub place : List Command → ℕ
+place [] = 0
+place (c ∷ past) = place past + (1 + length (c .params))
 
 -- what stands at the front of some bytes: no whole command, an opcode of none, or a command and what follows it (rule 2.7)
 pub data Front : Type 0 where

@@ -14,11 +14,11 @@ use Rattle.numbers.specs.Signs.{sameNumber}
 use Rattle.numbers.specs.Sizes.{lawfulSize}
 use Rattle.commands.specs.declared.Kind.the-variants.{Define}
 use Rattle.commands.specs.Kinds.{kindOf, is}
-use Rattle.commands.specs.Commands.{Command, kindOfCommand}
+use Rattle.commands.specs.Commands.{Command, kindOfCommand, place}
 use Rattle.commands.specs.Parameters.{definedFont, definition, fontScale, fontDesignSize}
 use Rattle.state.specs.Limits.{mostFonts}
 use Rattle.list.specs.declared.Stage.{Stage}
-use Rattle.list.specs.Past.{place, stage, isAfterPost, defines, fontNumber, Definition, none, stands, definitionOf, isDefined, fontCount}
+use Rattle.list.specs.Past.{stage, isAfterPost, defines, fontNumber, Definition, none, stands, definitionOf, isDefined, fontCount}
 use Rattle.list.specs.Rules.{lawfulFont, says, lawfulDefinition}
 use Rattle.list.specs.Steps.{command, entryOf, Tells, StandsIn, SayingIs}
 use Rattle.list.proofs.Arms.{is-kind}

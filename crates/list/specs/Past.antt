@@ -3,13 +3,12 @@
 use Prim.Native.Nat.{ℕ, _+_, _-_, max}
 use mathlib.Core.Bool.{Bool, true, false, cond, not, _&&_}
 use mathlib.Core.List.{List, [], _∷_}
-use lib.ListN.{length}
 use lib.IntN.{ℤ, pos, negsuc}
 use Rattle.numbers.specs.Signs.{sameNumber}
 use Rattle.commands.specs.declared.Kind.{Kind}
 use Rattle.commands.specs.declared.Kind.the-variants.{Bop, Eop, Push, Pop, Select, Define, Pre, Post, PostPost}
 use Rattle.commands.specs.Kinds.{is}
-use Rattle.commands.specs.Commands.{Command, kindOfCommand}
+use Rattle.commands.specs.Commands.{Command, kindOfCommand, place}
 use Rattle.commands.specs.declared.fields.UnsignedField.{UnsignedField}
 use Rattle.commands.specs.Fields.{unsignedIn, preNum, preDen, preMag}
 use Rattle.commands.specs.Parameters.{definedFont, definition}
@@ -19,11 +18,6 @@ use Rattle.list.specs.declared.Stage.the-variants.{AtStart, BeforePages,
 -- whether a command is of a kind (rule 2.2)
 abbrev pub isA : Kind → Command → Bool
 isA kind c = is (kindOfCommand c) kind
-
--- how many bytes the commands are written in: the place of the next (rule 3.1)
-abbrev pub place : List Command → ℕ
-place [] = 0
-place (c ∷ past) = place past + (1 + length (c .params))
 
 -- ---- where the list stands: pre, pages from bop to eop, post, post_post
 

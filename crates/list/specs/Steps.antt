@@ -11,13 +11,13 @@ use Rattle.numbers.specs.Signs.{sameNumber}
 use Rattle.commands.specs.declared.Kind.{Kind}
 use Rattle.commands.specs.declared.Kind.the-variants.{Bop, Select, Define, Pre, Post}
 use Rattle.commands.specs.Kinds.{kindOf, is}
-use Rattle.commands.specs.Commands.{Command, kindOfCommand, whole, front}
+use Rattle.commands.specs.Commands.{Command, kindOfCommand, whole, front, place}
 use Rattle.commands.specs.Fields.{unsignedIn, signedIn, bopPointer, preNum, preDen, preMag, postPointer, endPointer, endIdentification, definitionNumberSize}
 use Rattle.commands.specs.Parameters.{definedFont, selectedFont}
 use Rattle.list.specs.declared.Stage.{Stage}
 use Rattle.list.specs.declared.Volume.{Volume}
 use Rattle.list.specs.declared.Part.{Part}
-use Rattle.list.specs.Past.{isA, place, stage, stageAfter, depth, depthAfter, greatest, pages, lastBop, postPlace, num, den, mag, selected, defines, body, Definition, none, stands, definitionOf, isDefined, fontCount}
+use Rattle.list.specs.Past.{isA, stage, stageAfter, depth, depthAfter, greatest, pages, lastBop, postPlace, num, den, mag, selected, defines, body, Definition, none, stands, definitionOf, isDefined, fontCount}
 use Rattle.list.specs.Rules.{lawfulPreamble, mayStand, wrongAtDepth, lawfulFont, sameBytes, lawfulDefinition, lawfulPostamble, fault}
 
 -- a command of an opcode and its parameters

@@ -11,13 +11,13 @@ use Rattle.refusals.specs.Answer.{given}
 use Rattle.commands.specs.declared.Kind.{Kind}
 use Rattle.commands.specs.declared.Kind.the-variants.{Bop, Eop, Push, Pop}
 use Rattle.commands.specs.Kinds.{is}
-use Rattle.commands.specs.Commands.{Command, kindOfCommand}
+use Rattle.commands.specs.Commands.{Command, kindOfCommand, place}
 use Rattle.commands.proofs.Fronts.{front-sound}
 use Rattle.commands.proofs.Lengths.{whole-plain}
 use Rattle.list.specs.declared.Stage.{Stage}
 use Rattle.list.specs.declared.Stage.the-variants.{AtStart, BeforePages, OnPage, BetweenPages, AfterPost, AfterEnd}
 use Rattle.volume.specs.declared.Summary.{Summary}
-use Rattle.list.specs.Past.{isA, place, stage, stageAfter, depth, pages}
+use Rattle.list.specs.Past.{isA, stage, stageAfter, depth, pages}
 use Rattle.list.specs.Steps.{bopOf}
 use Rattle.list.specs.Rules.{wrongAtDepth, Allowed}
 use Rattle.volume.specs.Judged.{judged}

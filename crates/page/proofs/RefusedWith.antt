@@ -16,10 +16,10 @@ use Rattle.widths.proofs.RefusedWith.{table-refused-with}
 use Rattle.volume.proofs.RefusedWith.{file-refused-with}
 use Rattle.units.specs.Unit.{unitOf}
 use Rattle.widths.specs.Table.{widthRecordSize, checkedTable}
-use Rattle.commands.specs.Commands.{Command}
+use Rattle.commands.specs.Commands.{Command, place}
 use Rattle.commands.proofs.Fronts.{front-length}
 use Rattle.volume.specs.declared.Summary.{Summary}
-use Rattle.list.specs.Past.{place, num, den, mag}
+use Rattle.list.specs.Past.{num, den, mag}
 use Rattle.volume.specs.Judged.{judged}
 use Rattle.volume.specs.History.{history}
 use Rattle.state.specs.Registers.{State, freshState}

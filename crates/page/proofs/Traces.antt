@@ -19,14 +19,14 @@ use Rattle.units.specs.Steps.{Units}
 use Rattle.numbers.specs.Sizes.{lawfulSize}
 use Rattle.commands.specs.declared.Kind.the-variants.{Define, Pre, PostPost}
 use Rattle.commands.specs.Fields.{unsignedIn, preIdentification, preNum, preDen, preMag}
-use Rattle.commands.specs.Commands.{Command, kindOfCommand, whole, front}
+use Rattle.commands.specs.Commands.{Command, kindOfCommand, whole, front, place}
 use Rattle.commands.specs.Parameters.{fontScale}
 use Rattle.commands.proofs.Ranges.{below-or-not}
 use Rattle.commands.proofs.Fronts.{front-sound}
 use Rattle.list.specs.declared.Stage.{Stage}
 use Rattle.list.specs.declared.Stage.the-variants.{AtStart, BeforePages, OnPage, BetweenPages, AfterPost, AfterEnd}
 use Rattle.volume.specs.declared.Summary.{Summary}
-use Rattle.list.specs.Past.{isA, place, stage, num, den, mag, fontNumber, body, defines, stands, definitionOf}
+use Rattle.list.specs.Past.{isA, stage, num, den, mag, fontNumber, body, defines, stands, definitionOf}
 use Rattle.list.specs.Rules.{isAtStart, lawfulPreamble, positiveUnit, mayStand, lawfulFont, lawfulDefinition, fontLeftOut, Allowed}
 use Rattle.volume.specs.Judged.{judgedFrom, judged}
 use Rattle.volume.specs.History.{historyFrom, history}

@@ -4,10 +4,10 @@ use mathlib.Core.Bool.{Bool, true, false, cond, not, _&&_}
 use mathlib.Core.List.{List, [], _∷_, _++_}
 use lib.Dec.{eqb}
 use Rattle.commands.specs.declared.Kind.the-variants.{Eop}
-use Rattle.commands.specs.Commands.{Command}
+use Rattle.commands.specs.Commands.{Command, place}
 use Rattle.list.specs.declared.Stage.{Stage}
 use Rattle.list.specs.declared.Stage.the-variants.{AtStart, BeforePages, OnPage, BetweenPages, AfterPost, AfterEnd}
-use Rattle.list.specs.Past.{isA, place, stage, pages}
+use Rattle.list.specs.Past.{isA, stage, pages}
 
 -- a command with the place of its opcode (rule 3.1)
 pub record Located : Type 0 where

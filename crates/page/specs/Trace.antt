@@ -3,8 +3,7 @@ use Prim.Native.Nat.{ℕ}
 use mathlib.Core.Path.{_≡_}
 use mathlib.Core.List.{List, [], _∷_}
 use lib.ListN.{drop}
-use Rattle.commands.specs.Commands.{Command, whole, front}
-use Rattle.list.specs.Past.{place}
+use Rattle.commands.specs.Commands.{Command, whole, front, place}
 use Rattle.list.specs.Rules.{Allowed}
 
 -- the commands of past, the newest first, stand in the file one after the other from its start, and each keeps the rules where it stands (rules 3.1, 3.11)

@@ -7,10 +7,10 @@ use native.Mathlib.Omega.{arith}
 use Rattle.commands.specs.declared.Kind.{Kind}
 use Rattle.commands.specs.declared.Kind.the-variants.{Push, Pop, Post, PostPost}
 use Rattle.commands.specs.Kinds.{is}
-use Rattle.commands.specs.Commands.{Command, kindOfCommand}
+use Rattle.commands.specs.Commands.{Command, kindOfCommand, place}
 use Rattle.list.specs.declared.Stage.{Stage}
 use Rattle.list.specs.declared.Stage.the-variants.{AtStart, BeforePages, OnPage, BetweenPages, AfterPost, AfterEnd}
-use Rattle.list.specs.Past.{isA, place, stage, stageAfter, isAfterPost, depth, greatest, postPlace}
+use Rattle.list.specs.Past.{isA, stage, stageAfter, isAfterPost, depth, greatest, postPlace}
 use Rattle.list.specs.Rules.{Allowed}
 use Rattle.list.specs.Lawful.{Follows, ends, goes}
 use Rattle.list.proofs.Arms.{on-kinds}

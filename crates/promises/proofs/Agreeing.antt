@@ -16,8 +16,8 @@ use Rattle.commands.specs.Kinds.{is}
 use Rattle.commands.specs.declared.fields.UnsignedField.{UnsignedField}
 use Rattle.commands.specs.Fields.{preNum, preDen, preMag}
 use Rattle.commands.specs.Parameters.{characterCode, selectedFont}
-use Rattle.commands.specs.Commands.{Command, kindOfCommand}
-use Rattle.list.specs.Past.{isA, place, stage, depth, greatest, pages, lastBop, postPlace, unitIn, num, den, mag, selected, fontNumber, definitionOf, fontCount}
+use Rattle.commands.specs.Commands.{Command, kindOfCommand, place}
+use Rattle.list.specs.Past.{isA, stage, depth, greatest, pages, lastBop, postPlace, unitIn, num, den, mag, selected, fontNumber, definitionOf, fontCount}
 use Rattle.list.specs.Rules.{fault, Allowed}
 use Rattle.list.specs.Lawful.{Follows, ends, goes}
 use Rattle.volume.specs.Judged.{summary}

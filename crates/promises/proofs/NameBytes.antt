@@ -9,9 +9,9 @@ use lib.ListN.{length, take, drop}
 use lib.Seq.{take-at, drop-drop}
 use Rattle.numbers.specs.Signs.{sameNumber}
 use Rattle.commands.specs.Fields.{definitionNumberSize, definitionName}
-use Rattle.commands.specs.Commands.{Command, kindOfCommand, whole, front}
+use Rattle.commands.specs.Commands.{Command, kindOfCommand, whole, front, place}
 use Rattle.commands.proofs.Fronts.{front-sound}
-use Rattle.list.specs.Past.{place, stage, fontNumber, defines, Definition, none, stands, definitionOf}
+use Rattle.list.specs.Past.{stage, fontNumber, defines, Definition, none, stands, definitionOf}
 use Rattle.volume.specs.Names.{partOf, namedBy}
 use Rattle.page.specs.Trace.{Trace, start, more}
 

@@ -18,9 +18,9 @@ use Rattle.commands.specs.Kinds.{kindOf}
 use Rattle.commands.specs.declared.fields.UnsignedField.{UnsignedField}
 use Rattle.commands.specs.Fields.{unsignedIn, signedIn, postPointer, postNum, postDen, postMag, postDepth, postPages}
 use Rattle.commands.specs.Lengths.{lengths, fixedLength, innerLength, sizeOf}
-use Rattle.commands.specs.Commands.{Command, kindOfCommand, Whole, form, written}
+use Rattle.commands.specs.Commands.{Command, kindOfCommand, Whole, form, written, place}
 use Rattle.commands.proofs.Opcodes.{kind-range}
-use Rattle.list.specs.Past.{isA, place, stage, isAfterPost, greatest, pages, postPlace, num, den, mag}
+use Rattle.list.specs.Past.{isA, stage, isAfterPost, greatest, pages, postPlace, num, den, mag}
 use Rattle.list.specs.Rules.{lawfulPostamble, preambleWrong, definitionWrong, fontMissing, pointerWrong, postambleWrong, fault, Allowed}
 use Rattle.list.specs.Lawful.{Follows, ends, goes}
 use Rattle.list.proofs.Arms.{is-kind}

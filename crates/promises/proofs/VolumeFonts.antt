@@ -13,10 +13,10 @@ use Rattle.numbers.proofs.Signed.{same-number-refl, same-number-true}
 use Rattle.numbers.specs.Sizes.{lawfulSize}
 use Rattle.commands.specs.declared.Kind.the-variants.{Define, PostPost}
 use Rattle.commands.specs.Kinds.{is}
-use Rattle.commands.specs.Commands.{Command, kindOfCommand}
+use Rattle.commands.specs.Commands.{Command, kindOfCommand, place}
 use Rattle.commands.specs.Parameters.{fontScale, fontDesignSize}
 use Rattle.commands.proofs.Ranges.{below-or-not}
-use Rattle.list.specs.Past.{place, stage, isAfterPost, fontNumber, body, defines, Definition, none, stands, definitionOf, isDefined, fontCount}
+use Rattle.list.specs.Past.{stage, isAfterPost, fontNumber, body, defines, Definition, none, stands, definitionOf, isDefined, fontCount}
 use Rattle.list.specs.Rules.{lawfulFont, says, Allowed}
 use Rattle.list.specs.Lawful.{Keeps}
 use Rattle.list.proofs.SameBytes.{same-true}

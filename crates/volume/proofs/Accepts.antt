@@ -7,12 +7,11 @@ use mathlib.Core.Logic.{_↔_, ⊎-elim}
 use native.Mathlib.Omega.{arith}
 use lib.ListN.{length, length-append}
 use Rattle.refusals.specs.Answer.{Answer, refused, given}
-use Rattle.commands.specs.Commands.{Command, written}
+use Rattle.commands.specs.Commands.{Command, written, place}
 use Rattle.commands.specs.Reading.{longestFile}
 use Rattle.commands.proofs.Ranges.{below-or-not}
 use Rattle.commands.proofs.Fronts.{front-written, front-sound}
 use Rattle.volume.specs.declared.Summary.{Summary}
-use Rattle.list.specs.Past.{place}
 use Rattle.list.specs.Lawful.{fillers, Follows, ends, goes, Keeps, Lawful}
 use Rattle.volume.specs.Judged.{summary, tail, judgedFrom, judged}
 use Rattle.volume.specs.OfList.{upToLast, counts}

@@ -5,8 +5,8 @@ use Prim.Native.Nat.{ℕ, _≤_}
 use native.Mathlib.Omega.{arith}
 use Rattle.commands.specs.declared.Kind.the-variants.{Bop, Push, Pop, Post}
 use Rattle.commands.specs.Kinds.{is}
-use Rattle.commands.specs.Commands.{Command, kindOfCommand}
-use Rattle.list.specs.Past.{isA, place, stage, depth, greatest, pages, postPlace, defines, fontCount}
+use Rattle.commands.specs.Commands.{Command, kindOfCommand, place}
+use Rattle.list.specs.Past.{isA, stage, depth, greatest, pages, postPlace, defines, fontCount}
 
 -- a choice between two is at most what both are at most
 either : (t : Bool) {a b most : ℕ} → a ≤ most → b ≤ most → cond t a b ≤ most

@@ -12,13 +12,13 @@ use Rattle.refusals.specs.Numbers.{fileEnds, undefinedOpcode}
 use Rattle.refusals.specs.Answer.{refused}
 use Rattle.commands.specs.declared.Kind.the-variants.{Define, PostPost}
 use Rattle.commands.specs.Kinds.{is}
-use Rattle.commands.specs.Commands.{Command, form, kindOfCommand, Front, cut, undefined, whole, front}
+use Rattle.commands.specs.Commands.{Command, form, kindOfCommand, Front, cut, undefined, whole, front, place}
 use Rattle.commands.specs.Reading.{reading, readAt, longestFile}
 use Rattle.commands.proofs.Fronts.{front-sound, front-length}
 use Rattle.list.specs.declared.Stage.{Stage}
 use Rattle.list.specs.declared.Stage.the-variants.{OnPage}
 use Rattle.list.specs.declared.Volume.{Volume}
-use Rattle.list.specs.Past.{isA, place, stage, selected, fontNumber}
+use Rattle.list.specs.Past.{isA, stage, selected, fontNumber}
 use Rattle.list.specs.Rules.{lawfulFont, lawfulDefinition, fontLeftOut, fault}
 use Rattle.volume.specs.Judged.{summary, tail, judgedFrom, judged}
 use Rattle.volume.specs.History.{historyFrom, history}

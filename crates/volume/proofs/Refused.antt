@@ -10,12 +10,12 @@ use lib.ListN.{length, getD, length-append}
 use Rattle.refusals.specs.Numbers.{fileTooLong, undefinedOpcode}
 use Rattle.refusals.specs.Answer.{Answer, refused}
 use Rattle.commands.specs.declared.Kind.the-variants.{PostPost}
-use Rattle.commands.specs.Commands.{Command, Whole, form, written, Front, cut, undefined, whole, front}
+use Rattle.commands.specs.Commands.{Command, Whole, form, written, Front, cut, undefined, whole, front, place}
 use Rattle.commands.specs.Reading.{longestFile}
 use Rattle.commands.proofs.Ranges.{below-or-not}
 use Rattle.commands.proofs.Fronts.{after-undefined, front-written, front-sound, front-length, undefined-first}
 use Rattle.volume.specs.declared.Summary.{Summary}
-use Rattle.list.specs.Past.{isA, place}
+use Rattle.list.specs.Past.{isA}
 use Rattle.list.specs.Rules.{Allowed}
 use Rattle.list.specs.Lawful.{fillers}
 use Rattle.volume.specs.Judged.{summary, tail, judgedFrom, judged}

@@ -13,11 +13,11 @@ use Rattle.refusals.specs.Answer.{Answer, refused, given}
 use Rattle.refusals.specs.RefusedOnly.{RefusedOnly, FileRefusal, NameRefusal}
 use Rattle.refusals.proofs.RefusedOnly.{if-only, then-only, only-wider}
 use Rattle.commands.specs.declared.Kind.the-variants.{PostPost}
-use Rattle.commands.specs.Commands.{Command, Front, cut, undefined, whole, front}
+use Rattle.commands.specs.Commands.{Command, Front, cut, undefined, whole, front, place}
 use Rattle.commands.specs.Reading.{longestFile}
 use Rattle.commands.proofs.Fronts.{front-length, undefined-first}
 use Rattle.volume.specs.declared.Summary.{Summary}
-use Rattle.list.specs.Past.{isA, place, Definition, none, stands, definitionOf}
+use Rattle.list.specs.Past.{isA, Definition, none, stands, definitionOf}
 use Rattle.list.specs.Rules.{preambleWrong, misplaced, depthWrong, definitionWrong, fontMissing, pointerWrong, postambleWrong, fault}
 use Rattle.volume.specs.Judged.{summary, tail, onFront, onFault, onEnd, judgedFrom, judged}
 use Rattle.volume.specs.History.{history}

@@ -11,13 +11,13 @@ use Rattle.commands.specs.declared.Kind.the-variants.{Define, PostPost}
 use Rattle.commands.specs.declared.Reading.{Reading}
 use Rattle.commands.specs.Kinds.{kindOf, is}
 use Rattle.commands.specs.Lengths.{fixedLength}
-use Rattle.commands.specs.Commands.{Command, kindOfCommand}
+use Rattle.commands.specs.Commands.{Command, kindOfCommand, place}
 use Rattle.commands.proofs.Lengths.{fixed-of, whole-fixed}
 use Rattle.commands.proofs.Readings.{commandAt, Reads}
 use Rattle.list.specs.declared.Volume.{Volume}
 use Rattle.volume.specs.declared.Scanned.{Scanned}
 use Rattle.volume.specs.declared.Scanned.the-variants as Scanned
-use Rattle.list.specs.Past.{isA, place}
+use Rattle.list.specs.Past.{isA}
 use Rattle.list.specs.Rules.{fault}
 use Rattle.volume.specs.Judged.{tail, judged}
 use Rattle.volume.specs.History.{history}

@@ -13,8 +13,8 @@ use Rattle.numbers.specs.Signs.{sameNumber}
 use Rattle.numbers.proofs.Signed.{same-number-refl, same-number-true}
 use Rattle.commands.specs.declared.Kind.the-variants.{Define}
 use Rattle.commands.specs.Kinds.{is}
-use Rattle.commands.specs.Commands.{Command, kindOfCommand, whole, front}
-use Rattle.list.specs.Past.{place, stage, isAfterPost, fontNumber, defines, Definition, none, stands, definitionOf}
+use Rattle.commands.specs.Commands.{Command, kindOfCommand, whole, front, place}
+use Rattle.list.specs.Past.{stage, isAfterPost, fontNumber, defines, Definition, none, stands, definitionOf}
 use Rattle.list.specs.Rules.{lawfulFont}
 use Rattle.list.specs.Steps.{entryOf, tableAfter, Tells, StandsIn, AllStanding, Lawfully}
 use Rattle.list.proofs.FontTables.{lawful-in}

@@ -9,10 +9,10 @@ use borrow.Author.Tests.{lt-ltb, le-ltb}
 use Rattle.refusals.specs.Numbers.{fileTooLong, fileEnds, undefinedOpcode}
 use Rattle.refusals.specs.Answer.{Answer, refused}
 use Rattle.commands.specs.declared.Kind.the-variants.{PostPost}
-use Rattle.commands.specs.Commands.{Command, Front, cut, undefined, whole, front}
+use Rattle.commands.specs.Commands.{Command, Front, cut, undefined, whole, front, place}
 use Rattle.commands.specs.Reading.{longestFile}
 use Rattle.volume.specs.declared.Summary.{Summary}
-use Rattle.list.specs.Past.{isA, place}
+use Rattle.list.specs.Past.{isA}
 use Rattle.list.specs.Rules.{fault}
 use Rattle.volume.specs.Judged.{summary, tail, onFault, judgedFrom, judged}
 use Rattle.volume.specs.History.{historyFrom, history}

@@ -7,10 +7,10 @@ use lib.ListN.{length}
 use Rattle.refusals.specs.Numbers.{fileTooLong, fileEnds, undefinedOpcode, wrongTail}
 use Rattle.refusals.specs.Answer.{Answer, refused, given, refuseIf}
 use Rattle.commands.specs.declared.Kind.the-variants.{PostPost}
-use Rattle.commands.specs.Commands.{Command, Front, cut, undefined, whole, front}
+use Rattle.commands.specs.Commands.{Command, Front, cut, undefined, whole, front, place}
 use Rattle.commands.specs.Reading.{longestFile}
 use Rattle.volume.specs.declared.Summary.{Summary}
-use Rattle.list.specs.Past.{isA, place, pages, fontCount, greatest, postPlace}
+use Rattle.list.specs.Past.{isA, pages, fontCount, greatest, postPlace}
 use Rattle.list.specs.Rules.{fault}
 
 -- what the check gives of a list: pages, fonts, greatest depth, the place of post (rule 9.2)

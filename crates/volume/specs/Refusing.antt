@@ -7,9 +7,9 @@ use mathlib.Core.Logic.{_⊎_}
 use lib.ListN.{length, getD}
 use Rattle.refusals.specs.Numbers.{fileTooLong, fileEnds, undefinedOpcode, wrongTail}
 use Rattle.commands.specs.declared.Kind.the-variants.{PostPost}
-use Rattle.commands.specs.Commands.{Command, Whole, form, written}
+use Rattle.commands.specs.Commands.{Command, Whole, form, written, place}
 use Rattle.commands.specs.Reading.{longestFile}
-use Rattle.list.specs.Past.{isA, place}
+use Rattle.list.specs.Past.{isA}
 use Rattle.list.specs.Rules.{fault, Allowed}
 use Rattle.list.specs.Lawful.{fillers}
 

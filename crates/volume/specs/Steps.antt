@@ -10,7 +10,7 @@ use Rattle.refusals.specs.Answer.{Answer, given, refusal}
 use Rattle.commands.specs.declared.Kind.{Kind}
 use Rattle.commands.specs.declared.Kind.the-variants.{SetCharacter, SetRule, PutCharacter, PutRule, Nop, Right, W, X, Down, Y, Z}
 use Rattle.commands.specs.Kinds.{is}
-use Rattle.commands.specs.Commands.{Command, kindOfCommand, whole, front}
+use Rattle.commands.specs.Commands.{Command, kindOfCommand, whole, front, place}
 use Rattle.commands.specs.Reading.{longestFile}
 use Rattle.state.specs.Limits.{deepest}
 use Rattle.volume.specs.declared.Summary.{Summary}
@@ -22,7 +22,7 @@ use Rattle.volume.specs.declared.Named.{Named}
 use Rattle.volume.specs.declared.Named.the-variants as Named
 use Rattle.volume.specs.declared.Checked.{Checked}
 use Rattle.volume.specs.declared.Checked.the-variants as Checked
-use Rattle.list.specs.Past.{place, depth, greatest, pages, selected, none, stands, definitionOf}
+use Rattle.list.specs.Past.{depth, greatest, pages, selected, none, stands, definitionOf}
 use Rattle.list.specs.Steps.{Agrees, AllStanding, Lawfully, Tells, volumeOf}
 use Rattle.volume.specs.Judged.{judged, judgedFrom}
 use Rattle.volume.specs.History.{history, historyFrom}
