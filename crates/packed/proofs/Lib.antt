@@ -1,0 +1,13 @@
+pub mod Forms
+pub mod Fields
+pub mod Pixels
+pub mod Says
+pub mod Faults
+pub mod Standing
+pub mod Noted
+pub mod Going
+pub mod Written
+pub mod Preambles
+pub mod Writing
+pub mod Counting
+pub mod Made
