@@ -1,18 +1,18 @@
 -- There are as many records as packets. Assumes nothing.
-use mathlib.Core.Path.{_≡_, refl, sym, ap, ap₂, _∙_}
+use mathlib.Core.Path.{_≡_, refl, ap, ap₂, _∙_}
 use mathlib.Core.Bool.{Bool, true, false, cond, _&&_}
-use mathlib.Core.List.{List, [], _∷_, _++_, map}
+use mathlib.Core.List.{List, [], _∷_, _++_}
 use Prim.Native.Nat.{ℕ, zero, suc, _+_, _≤_, _<_}
 use native.Mathlib.Omega.{arith}
-use lib.Dec.{ltb, eqb}
-use lib.ListN.{length, take, length-append}
-use borrow.Author.Tests.{eq-eqb, ne-eqb, eqb-true, eqb-false}
+use lib.Dec.{eqb}
+use lib.ListN.{length, length-append}
+use borrow.Author.Tests.{ne-eqb, eqb-true, eqb-false}
 use Rattle.commands.specs.Commands.{Command}
-use Rattle.packed.specs.Commands.{isPacket, paramBytes}
+use Rattle.packed.specs.Commands.{isPacket}
 use Rattle.packed.specs.Packets.{codeIn}
-use Rattle.packed.specs.Rules.{isPacketFor, packets, fontFault}
+use Rattle.packed.specs.Rules.{isPacketFor, packets}
 use Rattle.packed.specs.Judged.{taken}
-use Rattle.packed.specs.Table.{Entry, fontChecksum, entryOf, packetsFor, packetsFrom, fontTable}
+use Rattle.packed.specs.Table.{fontChecksum, entryOf, packetsFor, packetsFrom, fontTable}
 use Rattle.packed.proofs.Faults.{packet-right}
 use Rattle.packed.proofs.Standing.{Standing, start, more}
 use Rattle.packed.proofs.Written.{length-map}

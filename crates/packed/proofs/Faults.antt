@@ -8,12 +8,12 @@ use lib.Dec.{ltb, leb, eqb}
 use lib.ListN.{length, take, drop, getD, take-append-drop}
 use lib.Seq.{length-take-le}
 use lib.IntN.{ℤ}
-use borrow.Author.Tests.{ltb-true, ltb-false, lt-ltb, eq-eqb, ne-eqb, eqb-true}
+use borrow.Author.Tests.{ltb-true, ltb-false, ne-eqb, eqb-true}
 use Rattle.numbers.specs.Bytes.{unsignedAt}
 use Rattle.numbers.proofs.Bytes.{unsigned-front}
 use Rattle.widths.specs.Scaling.{lawfulFirst}
 use Rattle.commands.specs.Commands.{Command, place}
-use Rattle.packed.specs.Commands.{isPacket, isNoOp, isPreamble, formOf, fixedBytes, countedBytes, paramBytes}
+use Rattle.packed.specs.Commands.{isPacket, isNoOp, isPreamble, formOf, countedBytes, paramBytes}
 use Rattle.packed.specs.Packets.{codeIn, widthIn, escapementIn}
 use Rattle.packed.specs.Rules.{ended, met, identification, misplacedAfter, tooShort, lawfulEscapement, packetWrong, packetFault, fontFault}
 use Rattle.packed.specs.Judged.{taken}
@@ -53,7 +53,7 @@ unfolding fontFault
 packet-right past c right flag =
     let due = none-due (misplacedAfter past c) (tooShort c) (packetWrong past c) (sym (ap (λ (b : Bool). cond (misplacedAfter past c) 19 (cond b (packetFault past c) 0)) flag) ∙ right) in
     let tests = four (ltb 255 (codeIn (c .opcode) (c .params))) (met (codeIn (c .opcode) (c .params)) past) (lawfulFirst (widthIn (c .opcode) (c .params) / 16777216))
-        (lawfulEscapement (escapementIn (c .opcode) (c .params))) (due .2) in
+    (lawfulEscapement (escapementIn (c .opcode) (c .params))) (due .2) in
     record {
       standing = due .0;
       room = ltb-false (countedBytes (c .opcode) (c .params)) (formOf (c .opcode) .fields) (due .1);

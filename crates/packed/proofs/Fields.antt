@@ -2,11 +2,10 @@
 use mathlib.Core.Path.{_≡_, refl, sym, ap, _∙_}
 use mathlib.Core.Bool.{Bool, true, false, cond}
 use mathlib.Core.List.{List, _++_}
-use Prim.Native.Nat.{ℕ, _+_, _-_, _^_, _≤_, _<_}
+use Prim.Native.Nat.{ℕ, _+_, _-_, _^_, _≤_}
 use native.Mathlib.Omega.{arith}
-use lib.ListN.{length, take, drop, take-append-drop}
-use lib.Seq.{length-take-le}
-use lib.IntN.{ℤ, pos}
+use lib.ListN.{length, drop}
+use lib.IntN.{pos}
 use Rattle.numbers.specs.Signs.{fromTwos}
 use Rattle.numbers.specs.Bytes.{unsignedAt, signedAt}
 use Rattle.numbers.proofs.Bytes.{unsigned-front, unsigned-drop}

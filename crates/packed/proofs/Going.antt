@@ -1,24 +1,24 @@
 -- The scan from command to command: what its loop keeps. Assumes nothing.
-use mathlib.Core.Path.{_≡_, refl, sym, ap, ap₂, subst, _∙_}
+use mathlib.Core.Path.{_≡_, refl, sym, ap, ap₂, _∙_}
 use mathlib.Core.Bool.{Bool, true, false, cond, not, _||_}
 use mathlib.Core.List.{List, [], _∷_}
 use Prim.Native.Nat.{ℕ, zero, suc, _+_, _≤_, _<_}
 use native.Mathlib.Numerals.{add-one}
 use native.Mathlib.Omega.{arith}
 use lib.Dec.{ltb, eqb}
-use lib.ListN.{length, take, drop, getD, set, replicate, length-drop, drop-of-length-le}
-use lib.Seq.{drop-cons, drop-drop}
+use lib.ListN.{length, take, drop, getD, set, replicate, drop-of-length-le}
+use lib.Seq.{drop-cons}
 use borrow.Author.Tests.{ltb-true, ltb-false, lt-ltb, le-ltb, eq-eqb, ne-eqb}
 use Rattle.refusals.specs.Answer.{Answer, refused, given, refuseIf, andThen}
 use Rattle.commands.specs.Commands.{Command, place}
 use Rattle.packed.specs.declared.Found.{Found}
 use Rattle.packed.specs.declared.Scanned.{Scanned}
-use Rattle.packed.specs.Commands.{isPacket, isPostamble, formOf, countedBytes, paramBytes}
+use Rattle.packed.specs.Commands.{isPacket, isPostamble, paramBytes}
 use Rattle.packed.specs.Packets.{codeIn}
 use Rattle.packed.specs.Rules.{ended, fontFault, places, packets}
-use Rattle.packed.specs.Judged.{taken, fontJudgedFrom, fontJudged, Note, noteOf, noted}
+use Rattle.packed.specs.Judged.{taken, fontJudgedFrom, fontJudged, noteOf, noted}
 use Rattle.packed.specs.Steps.{numberAt, Says, said}
-use Rattle.packed.proofs.Faults.{RightPacket, packet-right, taken-length, counted-taken, code-taken, number-same}
+use Rattle.packed.proofs.Faults.{packet-right, taken-length, counted-taken, code-taken, number-same}
 use Rattle.packed.proofs.Standing.{Standing, start, more, behind}
 use Rattle.packed.proofs.Noted.{marked}
 

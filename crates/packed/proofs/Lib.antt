@@ -10,4 +10,4 @@ pub mod Written
 pub mod Preambles
 pub mod Writing
 pub mod Counting
-pub mod Made
+pub mod MadeLaws

@@ -2,23 +2,21 @@
 use mathlib.Core.Path.{_≡_, refl, sym, ap, subst, _∙_}
 use mathlib.Core.Bool.{Bool, true, false, cond, not, _&&_, _||_}
 use mathlib.Core.List.{List, [], _∷_}
-use Prim.Native.Nat.{ℕ, zero, suc, _+_, _≤_, _<_}
-use native.Mathlib.Numerals.{add-one}
+use Prim.Native.Nat.{ℕ, _+_, _≤_, _<_}
 use native.Mathlib.Omega.{arith}
 use lib.Dec.{ltb, eqb}
 use lib.ListN.{length, take, drop, getD, set, replicate, length-drop, length-set, length-replicate, getD-replicate, List·getD-eq-default}
 use lib.Seq.{drop-drop, getD-drop, getD-set-same, getD-set-other}
-use lib.IntN.{ℤ}
-use borrow.Author.Tests.{ltb-true, ltb-false, lt-ltb, le-ltb, eq-eqb, ne-eqb, eqb-true, eqb-false}
+use borrow.Author.Tests.{ltb-true, ltb-false, lt-ltb, eqb-true, eqb-false}
 use Rattle.commands.specs.Commands.{Command, place}
-use Rattle.packed.specs.Commands.{isPacket, isPreamble, formOf, fixedBytes, countedBytes, paramBytes}
+use Rattle.packed.specs.Commands.{isPacket, isPreamble, formOf, countedBytes, paramBytes}
 use Rattle.packed.specs.Packets.{codeIn, widthIn, escapementIn}
-use Rattle.packed.specs.Rules.{ended, isPacketFor, met, misplacedAfter, fontFault, places, packets}
+use Rattle.packed.specs.Rules.{isPacketFor, met, fontFault, places}
 use Rattle.packed.specs.Judged.{taken}
 use Rattle.packed.specs.Table.{packetsFor}
 use Rattle.packed.proofs.Forms.{fixed-packet}
 use Rattle.packed.proofs.Says.{clash}
-use Rattle.packed.proofs.Faults.{RightPacket, packet-right, taken-length, counted-taken, code-taken, width-taken, escapement-taken}
+use Rattle.packed.proofs.Faults.{RightPacket, packet-right, counted-taken, code-taken, width-taken, escapement-taken}
 use Rattle.packed.proofs.Standing.{Standing, start, more}
 
 -- ---- where a packet stands

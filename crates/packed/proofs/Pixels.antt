@@ -1,13 +1,12 @@
 -- Rounding an escapement: by sign and magnitude, how far it goes, and that it is the nearest. Assumes nothing.
-use mathlib.Core.Path.{_≡_, refl, ap, _∙_}
+use mathlib.Core.Path.{_≡_, refl, ap}
 use mathlib.Core.Bool.{true, false}
-use Prim.Native.Nat.{ℕ, suc, _+_, _*_, _/_, _^_, _≤_, _<_}
+use Prim.Native.Nat.{ℕ, suc, _+_, _/_, _^_, _≤_}
 use native.Mathlib.Omega.{arith}
 use lib.IntN.{ℤ, pos, negsuc, negℤ, natAbs}
 use lib.Signed.{ltZ}
 use Rattle.numbers.specs.Signs.{withSign}
-use Rattle.numbers.specs.Parts.{up, dn}
-use Rattle.numbers.proofs.Signed.{lt-yes, lt-no, abs-is, abs-neg}
+use Rattle.numbers.proofs.Signed.{lt-yes, lt-no, abs-neg}
 use Rattle.packed.specs.Packets.{nearest}
 
 -- ---- as the code works it out

@@ -4,21 +4,20 @@ use mathlib.Core.Bool.{Bool, true, false, cond, not, _&&_}
 use mathlib.Core.List.{List, [], _∷_, _++_}
 use Prim.Native.Nat.{ℕ, _+_, _≤_, _<_}
 use native.Mathlib.Omega.{arith}
-use lib.Dec.{ltb, leb, eqb}
-use lib.ListN.{length, take, drop, length-drop, take-append-drop}
-use lib.Seq.{drop-drop}
+use lib.Dec.{leb}
+use lib.ListN.{length, take, drop, take-append-drop}
 use borrow.Author.Tests.{eqb-true, eq-eqb, ne-eqb, leb-false}
 use Rattle.numbers.specs.Bytes.{unsignedAt}
 use Rattle.numbers.proofs.Bytes.{unsigned-front, unsigned-drop}
-use Rattle.commands.specs.Commands.{Command, place}
-use Rattle.packed.specs.Commands.{isPacket, isNoOp, isPreamble, paramBytes, countedBytes}
-use Rattle.packed.specs.Rules.{ended, misplacedAfter, packetFault, fontFault}
+use Rattle.commands.specs.Commands.{Command}
+use Rattle.packed.specs.Commands.{isNoOp, isPreamble, paramBytes}
+use Rattle.packed.specs.Rules.{ended, misplacedAfter, fontFault}
 use Rattle.packed.specs.Judged.{taken}
 use Rattle.packed.specs.Table.{checksumIn, fontChecksum}
 use Rattle.packed.proofs.Forms.{fixed-preamble, counted-preamble}
 use Rattle.packed.proofs.Says.{clash}
 use Rattle.packed.proofs.Faults.{taken-length}
-use Rattle.packed.proofs.Standing.{Standing, start, more}
+use Rattle.packed.proofs.Standing.{Standing, more}
 
 -- ---- where the preamble may be
 

@@ -1,16 +1,15 @@
 -- What is found of a packet and of a command, case by case. Assumes nothing.
 use mathlib.Core.Path.{_≡_, refl, sym, ap, _∙_}
-use mathlib.Core.Bool.{Bool, true, false, cond, not, _||_}
+use mathlib.Core.Bool.{Bool, true, false, cond, _||_}
 use mathlib.Core.List.{List}
-use Prim.Native.Nat.{ℕ, _+_, _-_, _/_, _≤_, _<_}
+use Prim.Native.Nat.{ℕ, _+_, _-_, _≤_, _<_}
 use native.Mathlib.Omega.{arith}
 use lib.Dec.{ltb}
-use lib.ListN.{length, getD}
-use borrow.Author.Tests.{ltb-true, ltb-false, lt-ltb, le-ltb}
+use lib.ListN.{length}
+use borrow.Author.Tests.{ltb-false, lt-ltb, le-ltb}
 use Rattle.packed.specs.declared.Packet.{Packet}
 use Rattle.packed.specs.declared.Found.{Found}
 use Rattle.packed.specs.Commands.{formOf, countedBytes, paramBytes}
-use Rattle.packed.specs.Packets.{codeIn}
 use Rattle.packed.specs.Steps.{PacketIs, misplacedAt, wrongFields, wrongBytes, packetNumber, numberAt, PacketSays, Found-of}
 
 pub clash : true ≡ false → _≡_ {A = ℕ} 0 1
@@ -44,12 +43,11 @@ module _ (noted : List ℕ) (flag : ℕ) (rest : List ℕ) (from next : ℕ) whe
         (rw (le-ltb counted (formOf flag .fields) room, sym (wrong-same noted flag rest p is) ∙ w) refl, refl, λ e. absurd (omega arith))
 
     pub says-right : wrongFields noted p ≡ false → PacketSays noted flag rest from next (record { number = 0; next = next; code = p .code })
-    says-right w =
-        (
-          rw (le-ltb counted (formOf flag .fields) room, sym (wrong-same noted flag rest p is) ∙ w) refl,
-          refl,
-          λ e. (is .code-is, code-small (p .code) _ w),
-        )
+    says-right w = (
+      rw (le-ltb counted (formOf flag .fields) room, sym (wrong-same noted flag rest p is) ∙ w) refl,
+      refl,
+      λ e. (is .code-is, code-small (p .code) _ w),
+    )
 
 -- ---- a command
 

@@ -2,13 +2,13 @@
 use mathlib.Core.Path.{_≡_, refl, sym, ap, _∙_}
 use mathlib.Core.Bool.{Bool, true, false, not}
 use mathlib.Core.List.{List, [], _∷_}
-use Prim.Native.Nat.{ℕ, zero, suc, _+_, _≤_, _<_}
+use Prim.Native.Nat.{ℕ, zero, suc, _+_, _≤_}
 use native.Mathlib.Omega.{arith}
 use lib.Dec.{ltb}
-use lib.ListN.{length, take, drop, length-drop}
+use lib.ListN.{length, drop}
 use lib.Seq.{drop-drop}
 use borrow.Author.Tests.{ltb-false}
-use Rattle.refusals.specs.Answer.{Answer, refused, given, refuseIf}
+use Rattle.refusals.specs.Answer.{given}
 use Rattle.refusals.proofs.Answer.{given-not-refused, given-next, given-same}
 use Rattle.commands.specs.Commands.{Command, place}
 use Rattle.packed.specs.Commands.{paramBytes}

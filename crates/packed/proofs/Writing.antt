@@ -1,6 +1,6 @@
 -- The loop that writes the table: what it keeps. Assumes nothing.
-use mathlib.Core.Path.{_≡_, refl, sym, ap, subst, _∙_}
-use mathlib.Core.Bool.{Bool, true, false, cond}
+use mathlib.Core.Path.{_≡_, sym, ap, subst, _∙_}
+use mathlib.Core.Bool.{true, cond}
 use mathlib.Core.List.{List, [], _∷_, _++_, map}
 use Prim.Native.Nat.{ℕ, _+_, _-_, _*_, _≤_, _<_}
 use native.Mathlib.Omega.{arith}
@@ -12,10 +12,10 @@ use Rattle.commands.specs.Commands.{Command}
 use Rattle.widths.specs.Table.{widthRecordSize}
 use Rattle.packed.specs.Rules.{ended, places}
 use Rattle.packed.specs.Judged.{fontJudged}
-use Rattle.packed.specs.Table.{Entry, entryBytes, tableBytes, fontChecksum, entryOf, packetsFor, packetsFrom, fontTable}
+use Rattle.packed.specs.Table.{Entry, entryBytes, fontChecksum, entryOf, packetsFor, packetsFrom, fontTable}
 use Rattle.packed.specs.Steps.{entryAt, Puttable, Writable, WrittenBy}
 use Rattle.packed.proofs.Says.{clash}
-use Rattle.packed.proofs.Standing.{Standing, Judged, judged-stands}
+use Rattle.packed.proofs.Standing.{Standing, judged-stands}
 use Rattle.packed.proofs.Noted.{NotedAt, none, one, noted-at}
 use Rattle.packed.proofs.Preambles.{Preambled, preambled}
 use Rattle.packed.proofs.Written.{areaWith, area-length, Below, below-start, fewer, below-next, below-all}
@@ -71,11 +71,11 @@ module _ (pk : List ℕ) (scale : ℕ) (noted entry : List ℕ) (checksum : ℕ)
         go (none blank empty) = absurd (omega (arith, some, at-is code, blank))
         go (one c only is) =
             rw (at-is code) (
-              record {
-                inside = is .inside;
-                fields-there = is .room;
-                space = omega (arith, w .below .ends, at-least, ap length only, enough, writing-length);
-              }
+            record {
+              inside = is .inside;
+              fields-there = is .room;
+              space = omega (arith, w .below .ends, at-least, ap length only, enough, writing-length);
+            }
             )
 
     pub writing-on : Writing

@@ -1,24 +1,20 @@
 -- The table in the output area: one record after the other. Assumes nothing.
-use mathlib.Core.Path.{_≡_, refl, sym, ap, ap₂, subst, _∙_}
-use mathlib.Core.Bool.{Bool, true, false, cond, not}
+use mathlib.Core.Path.{_≡_, refl, sym, ap, ap₂, _∙_}
+use mathlib.Core.Bool.{cond}
 use mathlib.Core.List.{List, [], _∷_, _++_, map, append-assoc, append-nil}
-use Prim.Native.Nat.{ℕ, zero, suc, _+_, _-_, _*_, _≤_, _<_}
+use Prim.Native.Nat.{ℕ, suc, _+_, _-_, _*_, _≤_, _<_}
 use native.Mathlib.Omega.{arith}
 use lib.Dec.{ltb}
 use lib.ListN.{length, take, drop, getD, length-append, length-drop}
 use lib.Seq.{take-at, drop-at, drop-drop}
-use lib.IntN.{ℤ}
-use borrow.Author.Tests.{lt-ltb, le-ltb, ltb-true, ltb-false}
-use Rattle.refusals.specs.Answer.{given}
+use borrow.Author.Tests.{lt-ltb, le-ltb}
 use Rattle.numbers.specs.Bytes.{bytesOf}
 use Rattle.commands.specs.Commands.{Command}
 use Rattle.widths.specs.Table.{widthRecordSize}
 use Rattle.packed.specs.declared.Packet.{Packet}
-use Rattle.packed.specs.Packets.{codeIn, widthIn, escapementIn}
 use Rattle.packed.specs.Rules.{places}
-use Rattle.packed.specs.Judged.{fontJudged}
-use Rattle.packed.specs.Table.{Entry, entryBytes, tableBytes, fontChecksum, entryOf, packetsFor, packetsFrom, fontTable}
-use Rattle.packed.specs.Steps.{PacketIs, entryFrom, entryAt, Puttable}
+use Rattle.packed.specs.Table.{Entry, entryBytes, tableBytes, entryOf, packetsFor, packetsFrom}
+use Rattle.packed.specs.Steps.{PacketIs, entryFrom, entryAt}
 use Rattle.packed.proofs.Noted.{NotedAt, none, one, IsPacket}
 
 -- ---- a record
@@ -133,27 +129,27 @@ module _ (scale checksum : ℕ) (past : List Command) (pk entry : List ℕ) (cod
       (cond (ltb 0 at) (take written out ++ entryBytes (entryAt checksum scale pk at) ++ drop (written + 16) out) out)
   below-next (none blank empty) =
       rw (le-ltb 0 at (omega (arith, blank))) (
-        record {
-          done = b .done;
-          all = ap (λ (l : List Command). b .done ++ (map make l ++ map make (packetsFrom (256 - (code + 1)) (code + 1) past))) (sym empty) ∙ all-next;
-          ends = b .ends;
-          area = b .area;
-          small = omega arith;
-        }
+      record {
+        done = b .done;
+        all = ap (λ (l : List Command). b .done ++ (map make l ++ map make (packetsFrom (256 - (code + 1)) (code + 1) past))) (sym empty) ∙ all-next;
+        ends = b .ends;
+        area = b .area;
+        small = omega arith;
+      }
       )
   below-next (one c only is) =
       let later = map make (packetsFrom (256 - (code + 1)) (code + 1) past) in
       let next : List Entry = b .done ++ (make c ∷ []) in
       rw (lt-ltb 0 at (is .later)) (
-        record {
-          done = next;
-          all = append-assoc (b .done) (make c ∷ []) later ∙ ap (λ (l : List Command). b .done ++ (map make l ++ later)) (sym only) ∙ all-next;
-          ends = omega (arith, b .ends, length-append (b .done) (make c ∷ []));
-          area =
-              ap₂ (λ (l : List ℕ) (e : Entry). take written l ++ entryBytes e ++ drop (written + 16) l) (b .area) (same-entry checksum scale code at pk c is)
-              ∙ area-more (b .done) (make c) entry written (b .ends);
-          small = omega arith;
-        }
+      record {
+        done = next;
+        all = append-assoc (b .done) (make c ∷ []) later ∙ ap (λ (l : List Command). b .done ++ (map make l ++ later)) (sym only) ∙ all-next;
+        ends = omega (arith, b .ends, length-append (b .done) (make c ∷ []));
+        area =
+            ap₂ (λ (l : List ℕ) (e : Entry). take written l ++ entryBytes e ++ drop (written + 16) l) (b .area) (same-entry checksum scale code at pk c is)
+            ∙ area-more (b .done) (make c) entry written (b .ends);
+        small = omega arith;
+      }
       )
 
 -- when all codes are passed, the whole table is written

@@ -1,15 +1,13 @@
 -- What the code's own steps give and keep; no promise cites this. Assumes nothing.
 use Prim.Native.Nat.{ℕ, _+_, _-_, _*_, _/_, _^_, _≤_, _<_}
 use mathlib.Core.Path.{_≡_}
-use mathlib.Core.Bool.{Bool, true, cond, not, _&&_, _||_}
+use mathlib.Core.Bool.{Bool, cond, not, _&&_, _||_}
 use mathlib.Core.List.{List, _++_}
 use lib.Dec.{ltb, leb, eqb}
 use lib.ListN.{length, drop, getD}
 use lib.IntN.{natAbs}
 use Rattle.refusals.specs.Numbers.{fontEnds, misplacedInFont, packetTooShort, wrongPacket}
 use Rattle.refusals.specs.Answer.{Answer, refused, given, refusal}
-use Rattle.numbers.specs.Bytes.{unsignedAt}
-use Rattle.numbers.specs.Sizes.{lawfulSize}
 use Rattle.widths.specs.Scaling.{lawfulFirst}
 use Rattle.widths.specs.Table.{widthRecordSize}
 use Rattle.commands.specs.Commands.{Command}
@@ -18,8 +16,8 @@ use Rattle.packed.specs.declared.Extent.the-variants.{Ends, Cut}
 use Rattle.packed.specs.declared.Packet.{Packet}
 use Rattle.packed.specs.declared.Found.{Found}
 use Rattle.packed.specs.declared.Scanned.{Scanned}
-use Rattle.packed.specs.declared.TableMade.{TableMade}
-use Rattle.packed.specs.declared.TableMade.the-variants.{Records, Refused}
+use Rattle.packed.specs.declared.Made.{Made}
+use Rattle.packed.specs.declared.Made.the-variants.{Records, Refused}
 use Rattle.packed.specs.Commands.{isPacket, isNoOp, isPreamble, formOf, countedBytes, paramBytes}
 use Rattle.packed.specs.Packets.{codeIn, widthIn, escapementIn}
 use Rattle.packed.specs.Rules.{identification, lawfulEscapement, places}
@@ -118,7 +116,6 @@ pub record Writable (pk : List ℕ) (scale : ℕ) (noted : List ℕ) (room : ℕ
   pub judged : fontJudged pk ≡ given past
   pub places-are : noted ≡ places past
   pub enough : widthRecordSize * length (fontTable scale past) ≤ room
-  pub scale-right : lawfulSize scale ≡ true
 
 -- it is written into the area, and what stands behind it is left
 abbrev pub WrittenBy : List ℕ → ℕ → List ℕ → List ℕ → Type 0
@@ -126,6 +123,6 @@ WrittenBy pk scale entry exit =
     (past : List Command) → fontJudged pk ≡ given past → exit ≡ tableBytes (fontTable scale past) ++ drop (widthRecordSize * length (fontTable scale past)) entry
 
 -- what is handed back, as an answer
-abbrev pub madeSays : TableMade → Answer ℕ
+abbrev pub madeSays : Made → Answer ℕ
 madeSays (Records records) = given records
 madeSays (Refused r) = refusal r

@@ -1,5 +1,6 @@
 // PK fonts: which files are lawful ones, where the packet of each character stands, and the width table that they make.
 use refusals::Refusal;
+
 pub mod commands_in_font;
 pub mod judging;
 pub mod packets;
@@ -45,7 +46,7 @@ pub struct Scanned {
 }
 
 // How many records were written, or why none
-pub enum TableMade {
+pub enum Made {
     Records(usize),
     Refused(Refusal),
 }

@@ -1,6 +1,6 @@
 // The width table of a PK file, written into the output area.
+use crate::Made;
 use crate::Packet;
-use crate::TableMade;
 use crate::judging;
 use crate::packets;
 use refusals::Refusal;
@@ -55,7 +55,14 @@ fn checksum_of(pk: &[u8]) -> u64
 }
 
 // The record of the packet at a place, put into the area: where it ends there. At place 0 there is no packet, and nothing is put.
-fn put_record(pk: &[u8], at: usize, checksum: u64, scale: u64, out: &mut [u8], written: usize) -> usize
+fn put_record(
+    pk: &[u8],
+    at: usize,
+    checksum: u64,
+    scale: u64,
+    out: &mut [u8],
+    written: usize,
+) -> usize
     requires { ⌜ (0 < at → Puttable (now pk) at written (length (now out))) ⌝ }
     ensures { λ r. ⌜ r ≡ cond (ltb 0 at) (written + 16) written ⌝ }
     ensures { λ _. ⌜ now (out .exit) ≡ cond (ltb 0 at) (take written (now (out .entry)) ++ entryBytes (entryAt checksum scale (now (pk .entry)) at) ++ drop (written + 16) (now (out .entry))) (now (out .entry)) ⌝ }
@@ -85,12 +92,12 @@ fn write_records(pk: &[u8], scale: u64, places: &[usize; 256], out: &mut [u8])
 }
 
 // The width table of a PK file at a scale, written into the output area: how many records, or refusal 22, 18 to 21, or 17. A refusal leaves every byte of the area.
-pub fn width_table(pk: &[u8], scale: u64, out: &mut [u8]) -> TableMade
+pub fn width_table(pk: &[u8], scale: u64, out: &mut [u8]) -> Made
     ensures { λ r. ⌜ madeSays r ≡ recordsMade (tableMade (now (pk .entry)) scale (length (now (out .entry)))) ⌝ }
     ensures { λ _. ⌜ now (out .exit) ≡ tableArea (now (out .entry)) (tableMade (now (pk .entry)) scale (length (now (out .entry)))) ⌝ }
 {
     if !numbers::lawful_size(scale) {
-        return TableMade::Refused(Refusal {
+        return Made::Refused(Refusal {
             number: refusals::WRONG_SCALE,
             place: 0,
         });
@@ -98,19 +105,19 @@ pub fn width_table(pk: &[u8], scale: u64, out: &mut [u8]) -> TableMade
     let scanned = judging::scan(pk);
     let number = scanned.number;
     if 0 < number {
-        return TableMade::Refused(Refusal {
+        return Made::Refused(Refusal {
             number: number,
             place: scanned.place,
         });
     }
     let packets = scanned.packets;
     if out.len() / RECORD_SIZE < packets {
-        return TableMade::Refused(Refusal {
+        return Made::Refused(Refusal {
             number: refusals::AREA_TOO_SHORT,
             place: 0,
         });
     }
     let places = scanned.places;
     write_records(pk, scale, &places, out);
-    TableMade::Records(packets)
+    Made::Records(packets)
 }

@@ -5,7 +5,7 @@ use native.Mathlib.Omega.{arith}
 use lib.ListN.{length, drop, length-drop}
 use denote.Ref.{now}
 use Rattle.packed.specs.declared.Extent.{Extent}
-use Rattle.packed.specs.declared.Extent.the-variants.{Ends, Cut}
+use Rattle.packed.specs.declared.Extent.the-variants.{Ends}
 use Rattle.packed.specs.Commands.{formOf, countedBytes, paramBytes}
 use Rattle.packed.specs.Steps.{ExtentIs, Found-of}
 use Rattle.packed.proofs.Forms.{fixed-packet, fixed-preamble}
@@ -13,34 +13,22 @@ use Rattle.packed.proofs.Says.{found-cut, found-misplaced, found-other,
 use borrow.Author.Needs.{needs}
 use Rattle.packed.proofs.judging.command_found.Statement.{statement}
 use Rattle.packed.proofs.judging.command_found.Tie as tie
-use Rattle.packed.proofs.judging.command_found.Reads as reads
-use Rattle.packed.proofs.judging.command_found.Lts as lts
-use Rattle.numbers.proofs.wide.Reads as wide-reads
-use Rattle.packed.proofs.commands_in_font.extent_of.Reads as extent-of-reads
-use Rattle.packed.proofs.judging.is_misplaced.Reads as is-misplaced-reads
-use Rattle.packed.proofs.judging.packet_found.Reads as packet-found-reads
 
--- src/judging.rt:108:32
 shared-slice-read-wide : tie.Need-shared-slice-read-wide
 shared-slice-read-wide c = search needs
 
--- src/judging.rt:108:9
 wide-requires : tie.Need-wide-requires
 wide-requires c κs = search needs
 
--- src/judging.rt:109:16
 add-from : tie.Need-add-from
 add-from c = search needs
 
--- src/judging.rt:110:11
 extent-of-requires : tie.Need-extent-of-requires
 extent-of-requires c κs = search needs
 
--- src/judging.rt:111:22
 enum-known-next : tie.Need-enum-known-next
 enum-known-next c = search needs
 
--- src/judging.rt:112:16
 -- where the command ends
 abbrev ends-at : (c : tie.After-known-told) → Extent → Type 0
 ends-at c = ExtentIs (now (c .before .before .before .before .before .before .before .args .pk)) (c .before .before .before .before .before .before .before .args .at + 1) (c .before .before .before .before .wide .result)
@@ -56,7 +44,6 @@ fits c = omega (arith, ends c .0, ends c .1, length-drop (c .before .before .bef
 is-misplaced-requires : tie.Need-is-misplaced-requires
 is-misplaced-requires c κs = (c .before .before .before .before .before .before .before .pre, λ e. omega (arith, ends c .0, ends c .1, fixed-preamble (c .before .before .before .before .wide .result) e))
 
--- src/judging.rt:113:17
 returns : tie.Need-returns
 returns c =
     let a = c .before .before .before .before .before .before .before .before .before .args in
@@ -66,11 +53,9 @@ returns c =
     (c .before .before .before .before .before .before .wide .ensures .0)
     (found-misplaced (c .before .before .before .before .before .before .wide .result) (drop (a .at + 1) pk) (a .at) (a .ended) (now (a .places)) (length pk) _ (ends (c .before .before) .0) (ends (c .before .before) .1) (fits (c .before .before)) (sym (c .before .is-misplaced .ensures) ∙ c .if1 .taken) _)
 
--- src/judging.rt:120:17
 packet-found-requires : tie.Need-packet-found-requires
 packet-found-requires c κs = (omega (arith, ends (c .before .before .before) .0, fixed-packet (c .before .before .before .before .before .before .before .wide .result) (omega arith)), ends (c .before .before .before) .1)
 
--- src/judging.rt:120:17
 returns-2 : tie.Need-returns-2
 returns-2 c =
     let a = c .before .before .before .before .before .before .before .before .before .before .before .args in
@@ -84,11 +69,9 @@ returns-2 c =
     (c .before .before .before .before .before .before .before .before .wide .ensures .0)
     (found-packet (c .before .before .before .before .before .before .before .before .wide .result) (drop (a .at + 1) pk) (a .at) (a .ended) (now (a .places)) (length pk) _ (ends (c .before .before .before .before) .0) (ends (c .before .before .before .before) .1) (fits (c .before .before .before .before)) (sym (c .before .before .before .is-misplaced .ensures) ∙ c .before .before .if1 .left) (omega arith) (a .at + 1) counts (c .packet-found .result) (c .packet-found .ensures))
 
--- src/judging.rt:128:24
 enum-told : tie.Need-enum-told
 enum-told c = search needs
 
--- src/judging.rt:104:1
 returns-3 : tie.Need-returns-3
 returns-3 c =
     let a = c .before .before .before .before .before .before .before .before .before .before .args in
@@ -98,7 +81,6 @@ returns-3 c =
     (c .before .before .before .before .before .before .before .wide .ensures .0)
     (found-other (c .before .before .before .before .before .before .before .wide .result) (drop (a .at + 1) pk) (a .at) (a .ended) (now (a .places)) (length pk) _ (ends (c .before .before .before) .0) (ends (c .before .before .before) .1) (fits (c .before .before .before)) (sym (c .before .before .is-misplaced .ensures) ∙ c .before .if1 .left) (omega arith))
 
--- src/judging.rt:104:1
 returns-4 : tie.Need-returns-4
 returns-4 c =
     let a = c .before .before .before .before .before .before .args in

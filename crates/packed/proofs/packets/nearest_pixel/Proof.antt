@@ -1,11 +1,9 @@
 -- `packed::packets::nearest_pixel` meets its contract: rounding by sign and magnitude. Assumes nothing.
 use Prim.Native.Nat.{ℕ, _≤_, _+_, _/_}
-use mathlib.Core.Path.{_≡_, ap, subst, sym, _∙_}
+use mathlib.Core.Path.{_≡_, ap, _∙_}
 use native.Mathlib.Omega.{arith}
 use borrow.Author.Needs.{needs, sfits-of}
 use lib.IntN.{ℤ, natAbs}
-use mir.Syntax.{w64}
-use mir.Val.{toZ, ofZ}
 use mir.Facts.{toZ-ofZ}
 use Rattle.numbers.specs.Signs.{withSign}
 use Rattle.packed.specs.Packets.{nearest}

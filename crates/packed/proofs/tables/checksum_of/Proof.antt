@@ -9,23 +9,16 @@ use Rattle.packed.proofs.Fields.{there}
 use borrow.Author.Needs.{needs}
 use Rattle.packed.proofs.tables.checksum_of.Statement.{statement}
 use Rattle.packed.proofs.tables.checksum_of.Tie as tie
-use Rattle.packed.proofs.tables.checksum_of.Reads as reads
-use Rattle.packed.proofs.tables.checksum_of.Lts as lts
-use Rattle.numbers.proofs.unsigned_at.Reads as unsigned-at-reads
 
--- src/tables.rt:50:19
 unsigned-at-requires : tie.Need-unsigned-at-requires
 unsigned-at-requires c κs = search needs
 
--- src/tables.rt:51:30
 add-unsigned-at : tie.Need-add-unsigned-at
 add-unsigned-at c = search needs
 
--- src/tables.rt:51:5
 unsigned-at-requires-2 : tie.Need-unsigned-at-requires-2
 unsigned-at-requires-2 c κs = search needs
 
--- src/tables.rt:46:1
 returns : tie.Need-returns
 returns c =
     let pk = now (c .before .before .before .args .pk) in

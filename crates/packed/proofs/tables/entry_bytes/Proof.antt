@@ -11,75 +11,55 @@ use Rattle.packed.specs.Steps.{entryFrom}
 use borrow.Author.Needs.{needs}
 use Rattle.packed.proofs.tables.entry_bytes.Statement.{statement}
 use Rattle.packed.proofs.tables.entry_bytes.Tie as tie
-use Rattle.packed.proofs.tables.entry_bytes.Reads as reads
-use Rattle.packed.proofs.tables.entry_bytes.Lts as lts
-use Rattle.numbers.proofs.to_twos.Reads as to-twos-reads
 
--- src/tables.rt:24:9
 to-twos-requires : tie.Need-to-twos-requires
 to-twos-requires c κs = let s = c .before in (omega arith, omega arith, rw (read (s .args .packet .escapement) (omega (arith, s .pre .escapement-near))) (omega (arith, s .pre .escapement-near)))
 
--- src/tables.rt:26:9
 cast-t11 : tie.Need-cast-t11
 cast-t11 c = search needs
 
--- src/tables.rt:27:9
 cast-t15 : tie.Need-cast-t15
 cast-t15 c = search needs
 
--- src/tables.rt:28:9
 cast-t18 : tie.Need-cast-t18
 cast-t18 c = search needs
 
--- src/tables.rt:29:9
 cast-t20 : tie.Need-cast-t20
 cast-t20 c = search needs
 
--- src/tables.rt:30:9
 cast-t25 : tie.Need-cast-t25
 cast-t25 c = search needs
 
--- src/tables.rt:31:9
 cast-t29 : tie.Need-cast-t29
 cast-t29 c = search needs
 
--- src/tables.rt:32:9
 cast-t32 : tie.Need-cast-t32
 cast-t32 c = search needs
 
--- src/tables.rt:33:9
 cast-t34 : tie.Need-cast-t34
 cast-t34 c = search needs
 
--- src/tables.rt:34:9
 cast-t36 : tie.Need-cast-t36
 cast-t36 c = search needs
 
--- src/tables.rt:36:9
 cast-t39 : tie.Need-cast-t39
 cast-t39 c = search needs
 
--- src/tables.rt:37:9
 cast-t41 : tie.Need-cast-t41
 cast-t41 c = search needs
 
--- src/tables.rt:38:9
 cast-t46 : tie.Need-cast-t46
 cast-t46 c = search needs
 
--- src/tables.rt:39:9
 cast-t50 : tie.Need-cast-t50
 cast-t50 c = search needs
 
--- src/tables.rt:40:9
 cast-t53 : tie.Need-cast-t53
 cast-t53 c = search needs
 
--- src/tables.rt:41:9
 cast-t55 : tie.Need-cast-t55
 cast-t55 c = search needs
 
--- src/tables.rt:18:1
 -- the entry's bytes, by its escapement in two's complement
 whole : (e : Entry) (escapement : ℕ) → escapement ≡ toTwos (2 ^ 16) (e .escapement)
     → bytesOf 4 (e .checksum) ++ (bytesOf 4 (e .scale) ++ (bytesOf 1 (e .code) ++ (bytesOf 1 0 ++ (bytesOf 2 escapement ++ bytesOf 4 (e .width))))) ≡ entryBytes e

@@ -1,5 +1,6 @@
+-- `packed::tables::put_record` meets its contract. Assumes nothing.
 use Rattle.packed.proofs.Written.{entry-length, read-entry}
-use Rattle.packed.specs.Steps.{entryFrom, entryAt}
+use Rattle.packed.specs.Steps.{entryAt}
 use Rattle.packed.specs.Commands.{formOf}
 use Rattle.packed.specs.Table.{entryBytes}
 use borrow.Author.Tests.{lt-ltb, le-ltb}
@@ -7,37 +8,26 @@ use denote.Ref.{now}
 use lib.ListN.{length, take, drop}
 use lib.Dec.{ltb}
 use mathlib.Core.List.{List, _++_}
-use mathlib.Core.Bool.{Bool, true, false, cond}
+use mathlib.Core.Bool.{Bool, true, cond}
 use mathlib.Core.Path.{_≡_, refl, ap, sym, subst, _∙_}
 use Prim.Native.Nat.{ℕ, _+_, _≤_}
 use native.Mathlib.Omega.{arith}
 use borrow.Author.Needs.{needs}
 use Rattle.packed.proofs.tables.put_record.Statement.{statement}
 use Rattle.packed.proofs.tables.put_record.Tie as tie
-use Rattle.packed.proofs.tables.put_record.Reads as reads
-use Rattle.packed.proofs.tables.put_record.Lts as lts
-use Rattle.areas.proofs.paste.Reads as paste-reads
-use Rattle.numbers.proofs.wide.Reads as wide-reads
-use Rattle.packed.proofs.packets.packet_at.Reads as packet-at-reads
-use Rattle.packed.proofs.tables.entry_bytes.Reads as entry-bytes-reads
 
--- src/tables.rt:64:9
 returns : tie.Need-returns
 returns c = let none = le-ltb 0 (c .before .before .before .args .at) (omega arith) in (rw none refl, rw none refl)
 
--- src/tables.rt:66:41
 add-packet-at : tie.Need-add-packet-at
 add-packet-at c = let p = c .before .before .before .pre (omega arith) in omega (arith, p .inside)
 
--- src/tables.rt:66:63
 shared-slice-read-wide : tie.Need-shared-slice-read-wide
 shared-slice-read-wide c = let p = c .before .before .before .before .pre (omega arith) in p .inside
 
--- src/tables.rt:66:49
 wide-requires : tie.Need-wide-requires
 wide-requires c κs = search needs
 
--- src/tables.rt:66:9
 packet-at-requires : tie.Need-packet-at-requires
 packet-at-requires c κs =
     let a = c .before .before .before .before .before .args in
@@ -47,30 +37,24 @@ packet-at-requires c κs =
     (sym (c .wide .ensures .0))
     (p .fields-there)
 
--- src/tables.rt:67:17
 entry-bytes-requires : tie.Need-entry-bytes-requires
 entry-bytes-requires c κs = search needs
 
--- src/tables.rt:68:32
 slice-aggregate-paste : tie.Need-slice-aggregate-paste
 slice-aggregate-paste c = search needs
 
--- src/tables.rt:68:5
 paste-requires : tie.Need-paste-requires
 paste-requires c κs =
     let p = c .before .before .before .before .before .before .before .before .before .pre (omega arith) in
     let size = ap length (c .before .before .entry-bytes .ensures) ∙ entry-length _ in
     omega (arith, p .space, size)
 
--- src/tables.rt:69:5
 add-result : tie.Need-add-result
 add-result c = let p = c .before .before .before .before .before .before .before .before .before .before .before .before .pre (omega arith) in omega (arith, p .space, c .before .before .before .before .before .before .before .before .before .before .before .before .good .1)
 
--- src/tables.rt:58:1
 same-length : tie.Need-same-length
 same-length c = search needs
 
--- src/tables.rt:58:1
 returns-2 : tie.Need-returns-2
 returns-2 c =
     let a = c .before .before .before .before .before .before .before .before .before .before .before .before .args in

@@ -2,29 +2,20 @@
 use Prim.Native.Nat.{ℕ, _*_, _≤_, _<_}
 use mathlib.Core.Path.{_≡_, refl, sym, ap, _∙_}
 use mathlib.Core.Bool.{Bool, true, false, not}
-use mathlib.Core.List.{List}
 use native.Mathlib.Omega.{arith}
 use lib.ListN.{length}
 use denote.Ref.{now}
-use Rattle.refusals.specs.Answer.{Answer, refused, given}
-use Rattle.numbers.specs.Sizes.{lawfulSize}
+use Rattle.refusals.specs.Answer.{given}
 use Rattle.widths.specs.Table.{widthRecordSize}
-use Rattle.packed.specs.Table.{Entry, fontTable, recordsMade, tableMade, tableArea}
-use Rattle.packed.proofs.Made.{made-scale, made-refused, made-short, made-given, told-refused, told-noted, records-are}
+use Rattle.packed.specs.Table.{fontTable, recordsMade, tableArea}
+use Rattle.packed.proofs.MadeLaws.{made-scale, made-refused, made-short, made-given, told-refused, told-noted, records-are}
 use borrow.Author.Needs.{needs}
 use Rattle.packed.proofs.tables.width_table.Statement.{statement}
 use Rattle.packed.proofs.tables.width_table.Tie as tie
-use Rattle.packed.proofs.tables.width_table.Reads as reads
-use Rattle.packed.proofs.tables.width_table.Lts as lts
-use Rattle.numbers.proofs.lawful_size.Reads as lawful-size-reads
-use Rattle.packed.proofs.judging.scan.Reads as scan-reads
-use Rattle.packed.proofs.tables.write_records.Reads as write-records-reads
 
--- src/tables.rt:92:9
 lawful-size-requires : tie.Need-lawful-size-requires
 lawful-size-requires c κs = search needs
 
--- src/tables.rt:93:9
 -- the test of the scale
 not-lawful : (b r : Bool) → r ≡ b → not r ≡ true → b ≡ false
 not-lawful true r e f = absurd (let z : _≡_ {A = ℕ} 0 1 = cc in omega arith)
@@ -41,11 +32,9 @@ returns c =
     let made = made-scale (now (a .pk)) (a .scale) (length area) (not-lawful _ _ (c .before .lawful-size .ensures) (c .if1 .taken)) in
     (sym (ap recordsMade made), sym (ap (tableArea area) made))
 
--- src/tables.rt:98:9
 scan-requires : tie.Need-scan-requires
 scan-requires c κs = search needs
 
--- src/tables.rt:101:9
 returns-2 : tie.Need-returns-2
 returns-2 c =
     let a = c .before .before .before .before .before .before .args in
@@ -56,7 +45,6 @@ returns-2 c =
     let made = made-refused (now (a .pk)) (a .scale) (length area) right (scanned .result .number) (scanned .result .place) judged in
     (sym (ap recordsMade made), sym (ap (tableArea area) made))
 
--- src/tables.rt:108:9
 returns-3 : tie.Need-returns-3
 returns-3 c =
     let a = c .before .before .before .before .before .before .before .args in
@@ -69,7 +57,6 @@ returns-3 c =
     let made = made-short pk (a .scale) (length area) right (told .past) (told .judged) short in
     (sym (ap recordsMade made), sym (ap (tableArea area) made))
 
--- src/tables.rt:114:5
 write-records-requires : tie.Need-write-records-requires
 write-records-requires c κs =
     let a = c .before .before .before .before .before .before .before .before .before .before .args in
@@ -82,14 +69,11 @@ write-records-requires c κs =
       judged = told .judged;
       places-are = told .places-are;
       enough = omega (arith, records-are pk (a .scale) (told .past) (told .judged), told .packets-are);
-      scale-right = lawful _ _ (c .before .before .before .before .before .before .before .lawful-size .ensures) (c .before .before .before .before .before .before .if1 .left);
     }
 
--- src/tables.rt:88:1
 same-length : tie.Need-same-length
 same-length c = search needs
 
--- src/tables.rt:88:1
 returns-4 : tie.Need-returns-4
 returns-4 c =
     let a = c .before .before .before .before .before .before .before .before .before .before .before .before .before .args in

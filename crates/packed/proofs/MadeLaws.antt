@@ -1,13 +1,13 @@
 -- What width_table makes, case by case. Assumes nothing.
 use mathlib.Core.Path.{_≡_, refl, sym, ap, _∙_}
-use mathlib.Core.Bool.{Bool, true, false, cond, not}
-use mathlib.Core.List.{List, _++_}
-use Prim.Native.Nat.{ℕ, _*_, _/_, _≤_, _<_}
+use mathlib.Core.Bool.{Bool, true, false, cond}
+use mathlib.Core.List.{List}
+use Prim.Native.Nat.{ℕ, _*_, _≤_, _<_}
 use native.Mathlib.Omega.{arith}
-use lib.Dec.{ltb, eqb}
-use lib.ListN.{length, drop}
+use lib.Dec.{eqb}
+use lib.ListN.{length}
 use borrow.Author.Tests.{lt-ltb, le-ltb, eq-eqb, ne-eqb}
-use Rattle.refusals.specs.Answer.{Answer, refused, given, refuseIf, andThen}
+use Rattle.refusals.specs.Answer.{Answer, refused, given, andThen}
 use Rattle.refusals.proofs.Answer.{given-same}
 use Rattle.numbers.specs.Sizes.{lawfulSize}
 use Rattle.commands.specs.Commands.{Command}
@@ -15,7 +15,7 @@ use Rattle.widths.specs.Table.{widthRecordSize}
 use Rattle.packed.specs.declared.Scanned.{Scanned}
 use Rattle.packed.specs.Rules.{places, packets}
 use Rattle.packed.specs.Judged.{fontJudged, Note, noteOf, noted}
-use Rattle.packed.specs.Table.{Entry, fontTable, withRoom, tableMade}
+use Rattle.packed.specs.Table.{fontTable, tableMade}
 use Rattle.packed.specs.Steps.{said}
 use Rattle.packed.proofs.Standing.{judged-stands}
 use Rattle.packed.proofs.Counting.{records-counted}
