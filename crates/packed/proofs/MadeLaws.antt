@@ -5,7 +5,7 @@ use mathlib.Core.List.{List}
 use Prim.Native.Nat.{ℕ, _*_, _≤_, _<_}
 use native.Mathlib.Omega.{arith}
 use lib.Dec.{eqb}
-use lib.ListN.{length}
+use lib.ListN.{length, drop, length-append}
 use borrow.Author.Tests.{lt-ltb, le-ltb, eq-eqb, ne-eqb}
 use Rattle.refusals.specs.Answer.{Answer, refused, given, andThen}
 use Rattle.refusals.proofs.Answer.{given-same}
@@ -15,9 +15,10 @@ use Rattle.widths.specs.Table.{widthRecordSize}
 use Rattle.packed.specs.declared.Scanned.{Scanned}
 use Rattle.packed.specs.Rules.{places, packets}
 use Rattle.packed.specs.Judged.{fontJudged, Note, noteOf, noted}
-use Rattle.packed.specs.Table.{fontTable, tableMade}
+use Rattle.packed.specs.Table.{Entry, tableBytes, fontTable, tableMade, recordsMade, tableArea}
 use Rattle.packed.specs.Steps.{said}
 use Rattle.packed.proofs.Standing.{judged-stands}
+use Rattle.packed.proofs.Written.{table-length}
 use Rattle.packed.proofs.Counting.{records-counted}
 
 -- ---- the scale, the file, the area
@@ -87,3 +88,25 @@ module _ (pk : List ℕ) (r : Scanned) (says : said r ≡ noted pk) where
 -- as many records as packets
 pub records-are : (pk : List ℕ) (scale : ℕ) (past : List Command) → fontJudged pk ≡ given past → length (fontTable scale past) ≡ packets past
 records-are pk scale past e = records-counted pk scale past (judged-stands pk past e .stand)
+
+-- ---- the area
+
+-- a refused call leaves it
+pub refused-kept : (answer : Answer (List Entry)) (entry : List ℕ) (number place : ℕ) → recordsMade answer ≡ refused number place → tableArea entry answer ≡ entry
+refused-kept (refused n p) entry number place e = refl
+refused-kept (given entries) entry number place e = absurd (let z : _≡_ {A = ℕ} 0 1 = cc in omega arith)
+
+-- the records that are given are within it
+pub made-within : (answer : Answer (List Entry)) (records : ℕ) (entry exit : List ℕ) → given records ≡ recordsMade answer → exit ≡ tableArea entry answer → length exit ≡ length entry
+    → widthRecordSize * records ≤ length entry
+made-within (refused number place) records entry exit said area same = absurd (let z : _≡_ {A = ℕ} 0 1 = cc in omega arith)
+made-within (given entries) records entry exit said area same =
+    let count : records ≡ length entries = given-same records (length entries) said in
+    omega (
+      arith,
+      count,
+      same,
+      ap length area,
+      length-append (tableBytes entries) (drop (widthRecordSize * length entries) entry),
+      table-length entries,
+    )

@@ -20,6 +20,8 @@ use Rattle.reader.specs.declared.LookedUp.{LookedUp}
 use Rattle.reader.specs.declared.LookedUp.the-variants as LookedUp
 use Rattle.reader.specs.declared.Rounded.{Rounded}
 use Rattle.reader.specs.declared.Rounded.the-variants as Rounded
+use Rattle.reader.specs.declared.TableMade.{TableMade}
+use Rattle.reader.specs.declared.TableMade.the-variants as TableMade
 use Rattle.reader.specs.declared.Placed.{Placed}
 use Rattle.reader.specs.declared.Placed.the-variants as Placed
 
@@ -63,6 +65,16 @@ lookedAnswer (LookedUp.Refused number place) = refused number place
 abbrev pub roundedAnswer : Rounded → Answer ℤ
 roundedAnswer (Rounded.To n) = given n
 roundedAnswer (Rounded.Refused number place) = refused number place
+
+-- width_table: how many records (rule 9.9)
+abbrev pub madeAnswer : TableMade → Answer ℕ
+madeAnswer (TableMade.Records records) = given records
+madeAnswer (TableMade.Refused number place) = refused number place
+
+-- making the table is refused (rule 9.1)
+abbrev pub NotMade : TableMade → Type 0
+NotMade (TableMade.Records records) = ⊥
+NotMade (TableMade.Refused number place) = Unit {0}
 
 -- place_page: how many records, missing characters and specials (rule 9.8)
 abbrev pub placedAnswer : Placed → Answer Counts

@@ -1,5 +1,7 @@
 // The front door: every public entry, and nothing else. None has a `requires`: what an input breaks is refused, by number and place.
 use commands::Read;
+use packed::Made;
+use packed::tables;
 use page::PagePlaced;
 use page::placing;
 use units::UnitFound;
@@ -24,8 +26,9 @@ ghost use Rattle.units.specs.Rounding.{roundedDistance};
 ghost use Rattle.widths.specs.Scaling.{fixWord, scaledWidth};
 ghost use Rattle.widths.specs.Table.{checkedTable};
 ghost use Rattle.widths.specs.LookUp.{lookedUp};
+ghost use Rattle.packed.specs.Table.{tableMade, recordsMade, tableArea};
 ghost use Rattle.page.specs.Answers.{placedPage, placedCounts, areaAfter};
-ghost use Rattle.reader.specs.Answers.{commandAnswer, fileAnswer, Accepts, nameAnswer, roundedAnswer, scaledAnswer, tableAnswer, lookedAnswer, placedAnswer, Refuses};
+ghost use Rattle.reader.specs.Answers.{commandAnswer, fileAnswer, Accepts, nameAnswer, roundedAnswer, scaledAnswer, tableAnswer, lookedAnswer, madeAnswer, NotMade, placedAnswer, Refuses};
 
 // A command's opcode, where its parameters start and the place after them, or refusal 1, 2 or 3
 pub enum CommandRead {
@@ -236,6 +239,28 @@ pub fn look_up(table: &[u8], checksum: u32, scale: u32, code: i32) -> LookedUp
                 }
             }
         }
+    }
+}
+
+// How many records were written, or refusal 17 to 22
+pub enum TableMade {
+    Records(usize),
+    Refused { number: u8, place: usize },
+}
+
+// The width table of a PK font at a scale: a record for each packet, in the order of codes, is written into the output area, 16 bytes each. A refusal leaves every
+// byte of the area.
+pub fn width_table(pk: &[u8], scale: u32, out: &mut [u8]) -> TableMade
+    ensures { λ r. ⌜ madeAnswer r ≡ recordsMade (tableMade (now (pk .entry)) scale (length (now (out .entry)))) ⌝ }
+    ensures { λ _. ⌜ now (out .exit) ≡ tableArea (now (out .entry)) (tableMade (now (pk .entry)) scale (length (now (out .entry)))) ⌝ }
+    ensures { λ r. ⌜ (NotMade r → now (out .exit) ≡ now (out .entry)) ⌝ }
+{
+    match tables::width_table(pk, scale as u64, out) {
+        Made::Records(records) => TableMade::Records(records),
+        Made::Refused(why) => TableMade::Refused {
+            number: why.number,
+            place: why.place,
+        },
     }
 }
 
