@@ -399,10 +399,15 @@ def shortened(rng, data):
 
 
 def groups(gather, rng, long):
-    """Those of made-up files and of lines, one group a notion; the random ones many times in the long form."""
-    for make in (fields, lengths, specials, codes, preambles, scales_and_areas, orders, behind_the_postamble, greatest_sizes, lines):
+    """Made-up files, one group a notion; the random ones many times in the long form."""
+    for make in (fields, lengths, specials, codes, preambles, scales_and_areas, orders, behind_the_postamble, greatest_sizes):
         with gather("packed: " + make.__name__.replace("_", " ")) as group:
             make(group, rng)
     for turn in range(200 if long else 5):
         with gather(f"packed: random fonts {turn + 1}") as group:
             random_fonts(group, rng, 400)
+
+
+def line_groups(gather, rng):
+    with gather("packed: lines") as group:
+        lines(group, rng)
