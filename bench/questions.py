@@ -65,6 +65,6 @@ def ask_all(take, seed, damaged_files):
     made_up.bar_groups(gather, random.Random(f"{seed} bars"), False)
     small = [path.read_bytes() for path in paths if path.stat().st_size <= 2000]
     damaged.groups(gather, random.Random(f"{seed} damaged"), small, damaged_files, False)
-    packed.groups(gather, random.Random(f"{seed} packed"), False)
+    packed.groups(gather, lambda name: random.Random(f"{seed} {name}"), False, lambda name: name != "packed: lines")
     fonts = [path.read_bytes() for path, _ in pktype.kept_fonts()]
     packed.damaged_groups(gather, random.Random(f"{seed} packed damaged"), fonts, damaged_files, False)

@@ -1,6 +1,7 @@
 """PK fonts: made-up ones for each notion and at the edges, damaged ones, and lines. What must be answered is worked out from the rules by
 `tabling.py`, in exact numbers."""
 
+import functools
 import itertools
 
 import pk
@@ -140,13 +141,17 @@ def specials(group, rng):
         ask(group, font(*parts, tail=rng.randrange(9)))
 
 
-def any_packet(rng, code, raster=None):
+@functools.cache
+def lawful_escapements(form):
+    return [n for n in escapements(form) if n <= (0x7FFF7FFF if form is LONG else 32_767)]
+
+
+def any_packet(rng, code):
     """One that is right."""
     form = rng.choice(FORMS)
     width = rng.randrange(1 << 24) - ((1 << 24) * rng.randrange(2) if form is LONG else 0)
-    escapement = rng.choice([n for n in escapements(form) if form is SHORT or form is EXTENDED and n <= 32_767 or form is LONG and n < 0x7FFF8000])
     rest = [rng.randrange(256**size) for size in form.fields[2:]]
-    return packet(form, code, width, escapement, rest, rng.randbytes(rng.randrange(20)) if raster is None else raster, rng.randrange(30))
+    return packet(form, code, width, rng.choice(lawful_escapements(form)), rest, rng.randbytes(rng.randrange(20)), rng.randrange(30))
 
 
 def codes(group, rng):
@@ -255,13 +260,15 @@ def behind_the_postamble(group, rng):
 
 
 def greatest_sizes(group, rng):
-    """As long as a file may be and one byte more, by no-ops on either side of the postamble, a special, a raster, many specials."""
+    """As long as a file may be and one byte more, by a special, a raster, no-ops on either side of the postamble, many specials."""
     one = packet(SHORT, 65, 700_000, 30)
     for length in (65_535, 65_536, 65_537, LONGEST_FILE - 1, LONGEST_FILE, LONGEST_FILE + 1):
         more = length - len(font(one))
-        for data in (font(one, NOTHING * more), font(one, tail=more), font(special(bytes(more - 5), 4), one),
-                     font(packet(LONG, 65, 700_000, 30, raster=bytes(length - len(font(packet(LONG, 65)))))),
-                     font(one, special(b"") * (more // 2), NOTHING * (more % 2)), pre() + one + NOTHING * (more + 1), font(one, special(b"x" * (more - 5), 4, more - 4))):
+        files = [font(special(bytes(more - 5), 4), one), font(packet(LONG, 65, 700_000, 30, raster=bytes(length - len(font(packet(LONG, 65)))))),
+                 font(one, special(b"x" * (more - 5), 4, more - 4))]
+        if length >= LONGEST_FILE:  # these take the rules' model its time
+            files += [font(one, NOTHING * more), font(one, special(b"abc") * (more // 5), NOTHING * (more % 5))]
+        for data in files:
             ask(group, data)
     ask(group, font(*(packet(SHORT, code, code, 255 - code, raster=bytes(1015)) for code in range(254, -1, -1))))
 
@@ -398,16 +405,14 @@ def shortened(rng, data):
     return b"".join(command for command in commands if command[0] >= pk.XXX1 or rng.random() < 0.1) + tail
 
 
-def groups(gather, rng, long):
-    """Made-up files, one group a notion; the random ones many times in the long form."""
-    for make in (fields, lengths, specials, codes, preambles, scales_and_areas, orders, behind_the_postamble, greatest_sizes):
-        with gather("packed: " + make.__name__.replace("_", " ")) as group:
-            make(group, rng)
+def groups(gather, numbers, long, wanted=lambda name: True):
+    """Those groups of made-up files and lines that are wanted; the random ones many times in the long form. `numbers` gives each group its random
+    numbers, by its name."""
+    notions = (fields, lengths, specials, codes, preambles, scales_and_areas, orders, behind_the_postamble, greatest_sizes, lines)
+    makers = {"packed: " + make.__name__.replace("_", " "): make for make in notions}
     for turn in range(200 if long else 5):
-        with gather(f"packed: random fonts {turn + 1}") as group:
-            random_fonts(group, rng, 400)
-
-
-def line_groups(gather, rng):
-    with gather("packed: lines") as group:
-        lines(group, rng)
+        makers[f"packed: random fonts {turn + 1}"] = lambda group, rng: random_fonts(group, rng, 400)
+    for name, make in makers.items():
+        if wanted(name):
+            with gather(name) as group:
+                make(group, numbers(name))

@@ -62,6 +62,13 @@ def font(*commands, tail=0, **preamble):
     return pre(**preamble) + b"".join(commands) + END + NOTHING * tail
 
 
+def packet_length(file, at):
+    """What the packet at this place says of its length, where those bytes are there."""
+    form = form_of(file[at])
+    upper = file[at] % 4 if form is not LONG else 0
+    return upper * 256**form.length + unsigned(file[at + 1 : at + 1 + form.length])
+
+
 def command_end(file, at):
     """The place after the command at this place, or None where there is none, or where its bytes do not fit. Those of a packet are the
     fields up to the code and as many as its length says."""
@@ -69,9 +76,8 @@ def command_end(file, at):
         return None
     opcode = file[at]
     if opcode < XXX1:
-        form = form_of(opcode)
-        head, low = form.head, 1 + form.length
-        end = at + head + unsigned(file[at + 1 : at + low]) + (opcode % 4 * 256**form.length if form is not LONG else 0)
+        head = form_of(opcode).head
+        end = at + head + packet_length(file, at)
     elif opcode < YYY:
         head = 2 + opcode - XXX1
         end = at + head + unsigned(file[at + 1 : at + head])

@@ -124,8 +124,8 @@ def ask_about(group, data, testimony, refusable=False):
         group.expect(line, [["refused", 17, "at", 0]])
 
 
-def groups(gather, more):
-    """The kept fonts, all of which must be accepted, and others, PKtype asked about them where it is installed."""
+def groups(gather, more, wanted=lambda name: True):
+    """The kept fonts that are wanted, all of which must be accepted, and others, PKtype asked about them where it is installed."""
     installed = shutil.which("pktype")
     counts, reasons = [0, 0], {}
 
@@ -134,6 +134,8 @@ def groups(gather, more):
         counts[0], counts[1] = counts[0] + 1, counts[1] + len(testimony.packets)
 
     for path, testimony in kept_fonts():
+        if not wanted(f"packed: kept {path.name}"):
+            continue
         with gather(f"packed: kept {path.name}") as group:
             witnessed(group, path.read_bytes(), testimony)
             if installed:
