@@ -13,6 +13,7 @@ from tabling import LONGEST_AREA, LONGEST_FILE, answered, answered_line
 
 SCALE = 655_360
 WIDE = 1 << 32
+SMALL_FONT = 3000  # bytes
 # Of each kind of command one that fits, and what is wrong with each of the others. `packet` stands for all packets that are right.
 RIGHT = {
     "packet": packet(SHORT, 7, 1, 1), "empty special": special(b""), "special": special(b"\xf5", 2), "yyy": numeric(-1), "no-op": NOTHING, "post": END,
@@ -95,7 +96,7 @@ def lengths(group, rng):
                 continue
             one = packet(form, 3, 2, 1, raster=bytes(max(0, length - own)), length=length)[: form.head + length]
             for data in (font(one), font(one, special(b"x")), pre() + one, pre() + one[:-1], pre() + one + NOTHING, pre() + one[: form.head],
-                         pre() + one[: form.head - 1], font(one[:-1]), font(one, b"\0"), font(one, one)):
+                         pre() + one[: form.head - 1], font(one[:-1]), font(one, b"\0"), font(one, one[: 100_000])):
                 ask(group, data)
         # What the length says is more than there is: by one, or by so much that a sum of 32 bits comes to a place inside the file.
         short = font(packet(form, 3, 2, 1), END)
@@ -375,8 +376,8 @@ def random_damage(rng, file, others):
 
 
 def damaged_groups(gather, rng, real, count, long):
-    """Every single step away from small files, of two of them with all values of each byte, and random damage of these, of random ones and of
-    real ones, until there are `count`. Gives how many files there were."""
+    """Every single step away from small files, of two of them (in the long form of all) with all values of each byte, in the long form from small
+    real ones too; then random damage of these, of random ones and of real ones, until there are `count`. Gives how many files there were."""
     small, asked = small_bases(), 0
 
     def ask_all(title, files, group_size=2000):
@@ -390,10 +391,10 @@ def damaged_groups(gather, rng, real, count, long):
 
     for at, file in enumerate(small):
         ask_all(f"single steps {at + 1}:", dict.fromkeys(single_steps(file, range(256) if long or at in (0, 2) else None)))
-    for data in real if long else []:
-        ask_all("steps from real ones", dict.fromkeys(single_steps(data, None)))
-    # A real file's later bytes are as good as unknown to both programs: of long ones a few packets are enough.
-    others = small + [data if len(data) < 3000 else shortened(rng, data) for data in real]
+    for at, data in enumerate([data for data in real if len(data) <= SMALL_FONT] if long else []):
+        ask_all(f"steps from real fonts {at + 1}:", single_steps(data, None))
+    # Most of a long font is rasters, which nothing reads: a few of its packets are enough.
+    others = small + [data if len(data) <= SMALL_FONT else shortened(rng, data) for data in real]
     bases = (rng.choice(others) if rng.random() < 0.7 else random_font(rng) for _ in range(max(0, count - asked)))
     ask_all("random damage", (random_damage(rng, base, others) for base in bases))
     return asked
