@@ -14,6 +14,7 @@ import re
 import shutil
 import subprocess
 
+import packed
 from dvi import big
 from tables import RECORD, record
 from tabling import LONGEST_FILE
@@ -105,7 +106,7 @@ def kept_fonts():
         yield path, read(path.with_name(path.name + ".typed").read_text())
 
 
-SCALES = (1, 655_360, 134_217_727)
+SCALES, OTHER_SCALE = (1, 655_360, 134_217_727), 7
 
 
 def ask_about(group, data, testimony, refusable=False):
@@ -125,7 +126,7 @@ def ask_about(group, data, testimony, refusable=False):
 
 
 def groups(gather, more, wanted=lambda name: True):
-    """The kept fonts that are wanted, all of which must be accepted, and others, PKtype asked about them where it is installed."""
+    """The kept fonts that are wanted, all of which must be accepted, and others, PKtype asked about them where it is installed, the rules anyway."""
     installed = shutil.which("pktype")
     counts, reasons = [0, 0], {}
 
@@ -151,6 +152,6 @@ def groups(gather, more, wanted=lambda name: True):
                 witnessed(group, data, hear(path), refusable=True)
             except NoWitness as reason:
                 reasons[str(reason)] = reasons.get(str(reason), 0) + 1
-            group.ask(b"widths %s 655360 60000" % group.keep(data))
+            packed.ask(group, data, OTHER_SCALE)
     print(f"PKtype: {counts[0]} testimonies, {counts[1]} packets; not asked about:",
           ", ".join(f"{count} ({reason})" for reason, count in sorted(reasons.items())) or "none", flush=True)
