@@ -125,6 +125,20 @@ def ask_about(group, data, testimony, refusable=False):
         group.expect(line, [["refused", 17, "at", 0]])
 
 
+def ask_table(group, testimony):
+    """The table itself: it is right, and has each character of the font and no other."""
+    rows = testimony.rows(SCALES[1])[:-1]
+    table = group.keep(bytes.fromhex("".join(row for row, in rows)))
+    line = b"table %s" % table
+    group.ask(line)
+    group.expect(line, [["right", len(rows)]])
+    found = {code: (pixels(dx), *big(width, 4)) for code, width, dx in testimony.packets}
+    for code in range(256):
+        line = b"look %s %d %d %d" % (table, testimony.check_sum, SCALES[1], code)
+        group.ask(line)
+        group.expect(line, [["found", *found[code]] if code in found else ["absent"]])
+
+
 def groups(gather, more, wanted=lambda name: True):
     """The kept fonts that are wanted, all of which must be accepted, and others, PKtype asked about them where it is installed, the rules anyway."""
     installed = shutil.which("pktype")
@@ -139,6 +153,7 @@ def groups(gather, more, wanted=lambda name: True):
             continue
         with gather(f"packed: kept {path.name}") as group:
             witnessed(group, path.read_bytes(), testimony)
+            ask_table(group, testimony)
             if installed:
                 witnessed(group, path.read_bytes(), hear(path))
     for path in more:
