@@ -15,12 +15,13 @@ import random
 import sys
 
 import questions
-from readers import ANSWER_LENGTHS, PLAIN, PROVED, RECORD, Job, Readers, works_of
+from readers import ANSWER_LENGTHS, PLAIN, PROVED, RECORDS, Job, Readers, works_of
 
 GUARD = 64
 ANSWER = 8  # two numbers more than the longest answer
 SMALL = 70_000  # bytes; what is longer is asked as it is only
 RESOLUTIONS = (0, 1, 50, 99, 100, 199, 200, 300, 600, 1200, 10_000, 10_001, 4_294_967_295)
+SCALES = (0, 1, 134_217_727, 134_217_728, 4_294_967_295)
 LONGEST_FILE = 16_777_216
 
 
@@ -66,10 +67,10 @@ def with_area(job, area_length):
 
 
 def compare_with_areas(comparing, job):
-    """As it is; and where a page is placed, with an area just long enough, and a byte shorter."""
+    """As it is; and where records are written, with an area just long enough, and a byte shorter."""
     code, answer, _ = comparing.compare(job)
-    if job.entry == "place" and code == 0:
-        enough = RECORD * answer[0]
+    if job.entry in RECORDS and code == 0:
+        enough = RECORDS[job.entry] * answer[0]
         comparing.compare(with_area(job, enough))
         if enough > 0:
             comparing.compare(with_area(job, enough - 1))
@@ -131,6 +132,11 @@ def variant(rng, job, number):
             changed.area_length = rng.randrange(job.area_length // 4 + 1)
     elif job.entry == "look" and rng.random() < 0.5:
         changed.code = rng.randrange(-(2**31), 2**31)
+    elif job.entry == "widths":
+        if rng.random() < 0.1:
+            changed.scale = rng.choice(SCALES)
+        if rng.random() < 0.25:
+            changed.area_length = rng.randrange(job.area_length + 1)
     return changed
 
 
@@ -159,7 +165,7 @@ def main():
     codes = comparing.codes
     refused = ", ".join(f"{code}: {codes[code]}" for code in sorted(codes) if code not in (0, 255))
     print(f"equal: {codes.total()} answers, {codes[0]} results; refusals by number {refused}")
-    lacking = [number for number in range(1, 18) if codes[number] == 0]
+    lacking = [number for number in range(1, 23) if codes[number] == 0]
     if int(asked) and lacking:
         print(f"never occurred: {lacking}")
         sys.exit(1)

@@ -1,7 +1,7 @@
 #!/usr/bin/env python3
-"""The bench's work: DVI files, width tables and the manifest that names each job. Standard library only; the same bytes each time.
+"""The bench's work: DVI files, width tables, PK fonts and the manifest that names each job. Standard library only; the same bytes each time.
 
-    make.py PUBLISHED OUT     the folder of published files; where the work goes
+    make.py PUBLISHED FONTS OUT     the folders of published files and of PK fonts; where the work goes
 
 A line of the manifest: ENTRY GROUP NAME SIZE, then the entry's files and numbers. Sizes rise in geometric steps inside a group, so that growth can be
 fitted. A small work of many different commands is several files alike: asked over and over, a single small one would be learnt by heart by the
@@ -15,14 +15,18 @@ from pathlib import Path
 
 sys.path.insert(0, str(Path(__file__).resolve().parent.parent / "tests" / "compare"))
 import dvi  # noqa: E402
+import pk  # noqa: E402
 
 LONGEST_FILE = 16_777_216
 MOST_PAGES = 65_535
 MOST_FONTS = 64
+CODES = 256
 RESOLUTION = 300
+SCALE = 655_360
+REAL_FONTS = ("cmr10.72", "cmr10.300", "cmr17.600", "cminch.300", "ecrm1000.300", "odd.300")
 SEED = 1
 QUICK = {"-1024K", "-1", "-64", "-4096", "-100", "-10000"}  # ends of names
-DIFFERENT_BYTES, DIFFERENT_RECORDS = 1 << 20, 10_000  # in all files of a work together, at least
+DIFFERENT_BYTES, DIFFERENT_RECORDS, DIFFERENT_PACKETS = 1 << 20, 10_000, 2048  # in all files of a work together, at least
 
 
 big = dvi.big
@@ -303,6 +307,36 @@ def rules_page(rng, rules):
     return b"".join(out), 0
 
 
+# ---- PK fonts ----
+
+
+def short_packet(rng, code, raster):
+    """As most packets of most fonts are."""
+    return pk.packet(pk.SHORT, code, rng.randrange(1 << 20), rng.randrange(1, 80), [rng.randrange(1, 80) for _ in range(4)], rng.randbytes(raster), rng.randrange(30))
+
+
+def mixed_commands(rng, size):
+    """What may stand between packets, in random order: no-ops, yyy, specials of every size, with few bytes."""
+    out, length = [], 0
+    while length < size:
+        out.append(rng.choice([pk.NOTHING, pk.numeric(rng.randrange(1 << 32)), pk.special(rng.randbytes(rng.randrange(20)), rng.randrange(1, 5))]))
+        length += len(out[-1])
+    return b"".join(out)
+
+
+def packets_of_all_forms(rng, count):
+    """Packets in random order of codes, the three forms in turn, a raster of ten to sixty bytes each."""
+    codes = rng.sample(range(CODES), count)
+    return b"".join(pk.packet(rng.choice(pk.FORMS), code, rng.randrange(1 << 20), rng.randrange(200), raster=rng.randbytes(rng.randrange(10, 60))) for code in codes)
+
+
+def packets_with_raster(rng, size):
+    """All codes in turn, with rasters that make the file so long."""
+    each = size // CODES
+    form = pk.SHORT if each < 1000 else pk.EXTENDED
+    return b"".join(pk.packet(form, code, rng.randrange(1 << 20), rng.randrange(200), raster=bytes(each - form.head - form.counted)) for code in range(CODES))
+
+
 # ---- the manifest ----
 
 
@@ -318,9 +352,9 @@ class Work:
             self.known.add(name)
         return name
 
-    def keep_all(self, name, files):
+    def keep_all(self, name, files, ending="dvi"):
         """Files alike, as the manifest lists them, and their mean length."""
-        names = [self.keep(f"{name}.dvi" if index == 0 else f"{name}.{index}.dvi", data) for index, data in enumerate(files)]
+        names = [self.keep(f"{name}.{ending}" if index == 0 else f"{name}.{index}.{ending}", data) for index, data in enumerate(files)]
         return ",".join(names), sum(map(len, files)) // len(files)
 
     def check(self, group, name, *files):
@@ -330,6 +364,10 @@ class Work:
     def place(self, group, name, size, files, table):
         names, _ = self.keep_all(name, files)
         self.lines.append(f"place {group} {name} {size} {names} {self.keep(*table)} {RESOLUTION} 1")
+
+    def widths(self, group, name, files, size=None):
+        names, length = self.keep_all(name, files, "pk")
+        self.lines.append(f"widths {group} {name} {size or length} {names} {SCALE}")
 
     def manifest(self, name, lines):
         (self.folder / name).write_text("".join(line + "\n" for line in lines))
@@ -414,15 +452,36 @@ def published_page_jobs(work, published, count):
         work.lines.append(f"place published-pages {name.removesuffix('.dvi')} {len(data)} {name} {name}.widths {RESOLUTION} {fullest + 1}")
 
 
+def font_jobs(work, rng, sizes):
+    """PK fonts that grow: by what stands between packets, by the number of packets, by their rasters, which are passed over."""
+    for size in sizes:
+        kib = size // 1024
+        few = b"".join(short_packet(rng, code, 20) for code in rng.sample(range(CODES), 16))
+        room = size - len(pk.font(few))
+        work.widths("pk-no-ops", f"pk-no-ops-{kib}K", [pk.font(few, pk.NOTHING * room)])
+        work.widths("pk-specials", f"pk-specials-{kib}K", [pk.font(few, pk.special(b"") * (room // 2))])
+        alike = max(1, DIFFERENT_BYTES // size)
+        work.widths("pk-mixed", f"pk-mixed-{kib}K", [pk.font(few, mixed_commands(rng, room)) for _ in range(alike)])
+        work.widths("pk-raster", f"pk-raster-{kib}K", [pk.font(packets_with_raster(rng, size))])
+    for count in steps(1, CODES, 4):
+        work.widths("pk-packets", f"pk-packets-{count}", [pk.font(packets_of_all_forms(rng, count)) for _ in range(DIFFERENT_PACKETS // count)], count)
+
+
+def real_font_jobs(work, fonts):
+    for name, data in fonts.items():
+        work.widths("pk-fonts", name, [data])
+
+
 def is_quick(line):
     """Whether a work is in the short form: one size or two of each group."""
     _, group, name, *_ = line.split()
-    return group == "published-pages" or name.removeprefix(group) in QUICK
+    return group in ("published-pages", "pk-fonts") or name.removeprefix(group) in QUICK
 
 
 def main():
-    published_folder, out = Path(sys.argv[1]), Path(sys.argv[2])
+    published_folder, fonts_folder, out = map(Path, sys.argv[1:])
     published = {path.name: path.read_bytes() for path in sorted(published_folder.glob("*.dvi"))}
+    fonts = {path.name.removesuffix("pk"): path.read_bytes() for path in sorted(fonts_folder.glob("*pk"))}
     work, rng = Work(out), random.Random(SEED)
     published_jobs(work, rng, published)
     work.manifest("published", work.lines)
@@ -433,6 +492,8 @@ def main():
     place_jobs(work, rng, list(steps(100, 100_000, 10)))
     published_page_jobs(work, published, 6)
     table_jobs(work, list(steps(16, 65_536, 4)))
+    font_jobs(work, rng, list(steps(1 << 16, LONGEST_FILE, 4)))
+    real_font_jobs(work, {name: fonts[name] for name in REAL_FONTS})
     work.manifest("quick", filter(is_quick, work.lines))
     work.manifest("full", work.lines)
 

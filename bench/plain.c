@@ -1,6 +1,6 @@
 /* The reader's jobs in plain C, from documents 01 and 02, written for speed: one scan of the file that notes the wanted page;
    a page walked twice, first with h and v alone (16 and 17 must be known before a byte is written), then with the pixels; the
-   metrics of a font's characters kept once they are found. */
+   metrics of a font's characters kept once they are found. A PK font read once, with a note of where each code's packet is. */
 #include "plain.h"
 #include <string.h>
 
@@ -693,6 +693,187 @@ static struct refusal place(const uint8_t *file, size_t file_length, const uint8
     return nothing_wrong;
 }
 
+/* ---- PK fonts ---- */
+
+#define PACKED_IDENTIFICATION 89u
+#define CODES 256u
+#define GREATEST_DX 0x7fff7fff /* the last that is rounded to 32,767 */
+
+/* A form's bytes before those that the packet length counts, and the fewest that it may count. */
+enum { SHORT_HEAD = 3, SHORT_FIELDS = 8, EXTENDED_HEAD = 4, EXTENDED_FIELDS = 13, LONG_HEAD = 9, LONG_FIELDS = 28 };
+
+/* Whether the command at a place, before the end of the file, has all its bytes. */
+static int fits_at(const uint8_t *pk, size_t length, size_t at)
+{
+    const uint8_t opcode = pk[at], *parameters = pk + at + 1;
+    const size_t left = length - at - 1;
+    size_t size, more = 0;
+    if (opcode < 240) {
+        const unsigned low = opcode & 7;
+        size = low < 4 ? SHORT_HEAD - 1 : low < 7 ? EXTENDED_HEAD - 1 : LONG_HEAD - 1;
+        if (left < size)
+            return 0;
+        more = low < 4 ? (size_t)(low << 8 | parameters[0])
+             : low < 7 ? (size_t)((low & 3) << 16 | unsigned2(parameters))
+                       : unsigned4(parameters);
+    } else if (opcode < 244) {
+        size = opcode - 239u;
+        if (left < size)
+            return 0;
+        more = unsigned_in(parameters, opcode - 239u);
+    } else if (opcode == 247) {
+        size = 18;
+        if (left < size)
+            return 0;
+        more = parameters[1];
+    } else
+        size = opcode == 244 ? 4 : 0;
+    return left >= size && left - size >= more;
+}
+
+/* A command that may not stand where it stands: 18 where it is cut, too. */
+static struct refusal out_of_place(const uint8_t *pk, size_t length, size_t at)
+{
+    return refuse(fits_at(pk, length, at) ? 19 : 18, at);
+}
+
+struct packed {
+    uint32_t check_sum;
+    size_t packets;
+    size_t note[CODES]; /* the place of the packet of a code, or 0 */
+};
+
+/* The whole font: 18 to 21, from the front. */
+static struct refusal judge_font(const uint8_t *pk, size_t length, struct packed *font)
+{
+    if (length == 0)
+        return refuse(18, 0);
+    if (pk[0] != 247 || !fits_at(pk, length, 0) || pk[1] != PACKED_IDENTIFICATION)
+        return out_of_place(pk, length, 0);
+    size_t at = 19 + (size_t)pk[2], packets = 0;
+    font->check_sum = unsigned4(pk + at - 12);
+    memset(font->note, 0, sizeof font->note);
+
+    for (;;) {
+        if (at == length)
+            return refuse(18, at);
+        const uint8_t opcode = pk[at], *parameters = pk + at + 1;
+        const size_t left = length - at;
+        size_t size;
+        if (opcode < 240) {
+            const unsigned low = opcode & 7;
+            uint32_t code;
+            if (low < 4) {
+                if (left < SHORT_HEAD)
+                    return refuse(18, at);
+                size = low << 8 | parameters[0];
+                if (left - SHORT_HEAD < size)
+                    return refuse(18, at);
+                if (size < SHORT_FIELDS)
+                    return refuse(20, at);
+                code = parameters[1];
+                size += SHORT_HEAD;
+            } else if (low < 7) {
+                if (left < EXTENDED_HEAD)
+                    return refuse(18, at);
+                size = (low & 3) << 16 | unsigned2(parameters);
+                if (left - EXTENDED_HEAD < size)
+                    return refuse(18, at);
+                if (size < EXTENDED_FIELDS)
+                    return refuse(20, at);
+                code = parameters[2];
+                if (parameters[6] > 127)
+                    return refuse(21, at);
+                size += EXTENDED_HEAD;
+            } else {
+                if (left < LONG_HEAD)
+                    return refuse(18, at);
+                size = unsigned4(parameters);
+                if (left - LONG_HEAD < size)
+                    return refuse(18, at);
+                if (size < LONG_FIELDS)
+                    return refuse(20, at);
+                code = unsigned4(parameters + 4);
+                if (code >= CODES || (uint8_t)(parameters[8] + 1) > 1 || signed4(parameters + 12) > GREATEST_DX)
+                    return refuse(21, at);
+                size += LONG_HEAD;
+            }
+            if (font->note[code] != 0)
+                return refuse(21, at);
+            font->note[code] = at;
+            packets++;
+        } else if (opcode == 246) {
+            /* runs of them, by a branch that is foreseen well */
+            for (size = 1; size < left && pk[at + size] == 246; size++)
+                ;
+        } else if (opcode < 244) {
+            const size_t head = opcode - 238u;
+            if (left < head)
+                return refuse(18, at);
+            size = unsigned_in(parameters, opcode - 239u);
+            if (left - head < size)
+                return refuse(18, at);
+            size += head;
+        } else if (opcode == 244) {
+            size = 5;
+            if (left < size)
+                return refuse(18, at);
+        } else if (opcode == 245)
+            break;
+        else
+            return out_of_place(pk, length, at);
+        at += size;
+    }
+    for (at++; at < length; at++)
+        if (pk[at] != 246)
+            return out_of_place(pk, length, at);
+    font->packets = packets;
+    return nothing_wrong;
+}
+
+/* The record of the packet at a place, all of whose fields are there and in their ranges. */
+static void put_width_record(uint8_t *record, const uint8_t *packet, uint32_t check_sum, uint32_t scale, uint8_t code)
+{
+    const unsigned low = packet[0] & 7;
+    const uint8_t *width; /* its last three bytes */
+    uint32_t escapement;
+    uint8_t first = 0;
+    if (low < 4) {
+        width = packet + SHORT_HEAD;
+        escapement = width[3];
+    } else if (low < 7) {
+        width = packet + EXTENDED_HEAD;
+        escapement = unsigned2(width + 3);
+    } else {
+        width = packet + LONG_HEAD + 1;
+        first = packet[LONG_HEAD];
+        escapement = (uint32_t)(((int64_t)signed4(width + 3) + 32768) >> 16); /* nearest, halves up */
+    }
+    put4(record, check_sum);
+    put4(record + 4, scale);
+    put4(record + 8, (uint32_t)code << 24 | (escapement & 0xffff));
+    put4(record + 12, (uint32_t)first << 24 | unsigned3(width));
+}
+
+static struct refusal make_table(const uint8_t *pk, size_t pk_length, uint32_t scale, uint8_t *area, size_t area_length, size_t *records)
+{
+    if (!lawful_size(scale))
+        return refuse(22, 0);
+    struct packed font;
+    struct refusal refusal = judge_font(pk, pk_length, &font);
+    if (refusal.number != 0)
+        return refusal;
+    if (area_length / WIDTH_RECORD < font.packets)
+        return refuse(17, 0);
+    for (unsigned code = 0; code < CODES; code++)
+        if (font.note[code] != 0) {
+            put_width_record(area, pk + font.note[code], font.check_sum, scale, (uint8_t)code);
+            area += WIDTH_RECORD;
+        }
+    *records = font.packets;
+    return nothing_wrong;
+}
+
 /* ---- the entries ---- */
 
 static uint32_t refused(struct refusal refusal, int64_t *answer)
@@ -763,5 +944,18 @@ uint32_t plain_look_up(const uint8_t *table, size_t table_length, uint32_t check
     answer[1] = (int16_t)unsigned2(record + 10);
     for (int i = 0; i < 4; i++)
         answer[2 + i] = record[12 + i];
+    return 0;
+}
+
+uint32_t plain_width_table(const uint8_t *pk, size_t pk_length, uint32_t scale, uint8_t *area, size_t area_length,
+                           int64_t *answer, size_t answer_length)
+{
+    if (answer_length < 1)
+        return TOO_SHORT_ANSWER;
+    size_t records;
+    struct refusal refusal = make_table(pk, pk_length, scale, area, area_length, &records);
+    if (refusal.number != 0)
+        return refused(refusal, answer);
+    answer[0] = (int64_t)records;
     return 0;
 }

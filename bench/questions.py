@@ -1,4 +1,4 @@
-"""The questions of tests/compare as jobs: made-up files, each group for one notion, bars, published files, and damaged ones."""
+"""The questions of tests/compare as jobs: made-up files, each group for one notion, bars, PK fonts, published files, and damaged ones."""
 
 import contextlib
 import random
@@ -9,6 +9,8 @@ TESTS = Path(__file__).resolve().parent.parent / "tests"
 sys.path.insert(0, str(TESTS / "compare"))
 import damaged  # noqa: E402
 import made_up  # noqa: E402
+import packed  # noqa: E402
+import pktype  # noqa: E402
 import published  # noqa: E402
 
 from readers import ENTRIES, job_of  # noqa: E402
@@ -63,3 +65,6 @@ def ask_all(take, seed, damaged_files):
     made_up.bar_groups(gather, random.Random(f"{seed} bars"), False)
     small = [path.read_bytes() for path in paths if path.stat().st_size <= 2000]
     damaged.groups(gather, random.Random(f"{seed} damaged"), small, damaged_files, False)
+    packed.groups(gather, lambda name: random.Random(f"{seed} {name}"), False, lambda name: name != "packed: lines")
+    fonts = [path.read_bytes() for path, _ in pktype.kept_fonts()]
+    packed.damaged_groups(gather, random.Random(f"{seed} packed damaged"), fonts, damaged_files, False)

@@ -4,9 +4,10 @@ import ctypes
 from pathlib import Path
 
 PROVED, PLAIN = 0, 1
-ENTRIES = ("check", "place", "table", "look")
-ANSWER_LENGTHS = {"check": 4, "place": 3, "table": 1, "look": 6}
-RECORD = 20
+ENTRIES = ("check", "place", "table", "look", "widths")
+ANSWER_LENGTHS = {"check": 4, "place": 3, "table": 1, "look": 6, "widths": 1}
+RECORDS = {"place": 20, "widths": 16}  # bytes, of the entries that write into an area
+CODES = 256
 
 
 class Question(ctypes.Structure):
@@ -39,20 +40,22 @@ class Job:
             self.resolution, self.page = numbers
         elif entry == "look":
             self.checksum, self.scale, self.code = numbers
+        elif entry == "widths":
+            (self.scale,) = numbers
         self.area_length = self.enough() if area_length is None else area_length
 
     def enough(self):
-        """An area that any page of the file fits into: a record takes a command, and a command a byte."""
-        return RECORD * len(self.file) if self.entry == "place" else 0
+        """An area that any page of the file fits into: a record takes a command, and a command a byte; or any font's records, one a code."""
+        return RECORDS.get(self.entry, 0) * (len(self.file) if self.entry == "place" else CODES)
 
 
 def job_of(words, files, group, name, size=0):
-    """ENTRY, its files, its numbers; for place the length of the area may follow."""
+    """ENTRY, its files, its numbers; for place and widths the length of the area may follow."""
     entry, *words = words
-    file = files(words.pop(0)) if entry in ("check", "place") else b""
-    table = files(words.pop(0)) if entry != "check" else b""
+    file = files(words.pop(0)) if entry in ("check", "place", "widths") else b""
+    table = files(words.pop(0)) if entry in ("place", "table", "look") else b""
     numbers = [int(word) for word in words]
-    area_length = numbers.pop() if entry == "place" and len(numbers) == 3 else None
+    area_length = numbers.pop() if len(numbers) > {"place": 2, "widths": 1}.get(entry, 3) else None
     return Job(entry, group, name, size, file, table, numbers, area_length)
 
 

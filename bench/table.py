@@ -4,8 +4,8 @@
 import math
 import sys
 
-UNITS = {"check": "byte", "place": "record", "table": "record", "look": "record"}
-OTHER_UNITS = {"moves": "move", "published-pages": "byte"}
+UNITS = {"check": "byte", "place": "record", "table": "record", "look": "record", "widths": "byte"}
+OTHER_UNITS = {"moves": "move", "published-pages": "byte", "pk-packets": "packet"}
 
 
 def exponent(points):

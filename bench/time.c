@@ -4,7 +4,7 @@
 #include "hurlyburn.h"
 #include "plain.h"
 
-enum entry { CHECK, PLACE, TABLE, LOOK };
+enum entry { CHECK, PLACE, TABLE, LOOK, WIDTHS };
 enum reader { PROVED, PLAIN };
 
 /* The fields of Question in bench/readers.py. */
@@ -39,9 +39,12 @@ static inline uint32_t asked(enum reader reader, const struct question *q, int64
             answer_length);
     case TABLE:
         return (reader == PROVED ? hurlyburn_check_table : plain_check_table)(q->table, q->table_length, answer, answer_length);
-    default:
+    case LOOK:
         return (reader == PROVED ? hurlyburn_look_up : plain_look_up)(q->table, q->table_length, q->checksum, q->scale, q->code,
                                                                       answer, answer_length);
+    default:
+        return (reader == PROVED ? hurlyburn_width_table : plain_width_table)(q->file, q->file_length, q->scale, q->area,
+                                                                              q->area_length, answer, answer_length);
     }
 }
 

@@ -80,7 +80,7 @@ fn m() -> Vec<u8> {
     parts().build()
 }
 
-fn changed(mut file: Vec<u8>, at: usize, byte: u8) -> Vec<u8> {
+pub fn changed(mut file: Vec<u8>, at: usize, byte: u8) -> Vec<u8> {
     file[at] = byte;
     file
 }
@@ -104,7 +104,7 @@ fn placed(file: &[u8], table: &[u8], resolution: u32, page: u32, area: u64) -> V
     }
 }
 
-fn width_record(check_sum: u32, scale: i64, code: u8, escapement: i16, width: [u8; 4]) -> Vec<u8> {
+pub fn width_record(check_sum: u32, scale: i64, code: u8, escapement: i16, width: [u8; 4]) -> Vec<u8> {
     let mut out = check_sum.to_be_bytes().to_vec();
     out.extend(four(scale));
     out.extend([code, 0]);
@@ -113,7 +113,7 @@ fn width_record(check_sum: u32, scale: i64, code: u8, escapement: i16, width: [u
     out
 }
 
-fn tabled(table: &[u8]) -> String {
+pub fn tabled(table: &[u8]) -> String {
     match Table::check(table) {
         Ok(table) => format!("right {}", table.count()),
         Err(refusal) => refusal.to_string(),
@@ -219,7 +219,7 @@ fn widths() {
 }
 
 /// A file of this test run alone.
-fn written(name: &str, bytes: &[u8]) -> String {
+pub fn written(name: &str, bytes: &[u8]) -> String {
     let folder = concat!(env!("CARGO_MANIFEST_DIR"), "/target/tried");
     std::fs::create_dir_all(folder).unwrap();
     let path = format!("{folder}/{name}");

@@ -3,6 +3,7 @@
 use crate::check::check;
 use crate::commands::read_command;
 use crate::fonts::name_of_font;
+use crate::packed::width_table;
 use crate::placing::{place, record_line};
 use crate::refusal::Refusal;
 use crate::units::round_distance;
@@ -18,12 +19,13 @@ const NO_INPUT: &str = "no input";
 #[derive(Clone, Copy)]
 pub struct Limits {
     pub dvi: Option<u64>,
+    pub pk: Option<u64>,
     pub table: Option<u64>,
     pub area: u64,
 }
 
-pub const DESK: Limits = Limits { dvi: Some(262_144), table: Some(65_536), area: 60_000 };
-pub const LONG: Limits = Limits { dvi: None, table: None, area: u64::MAX };
+pub const DESK: Limits = Limits { dvi: Some(262_144), pk: Some(262_144), table: Some(65_536), area: 60_000 };
+pub const LONG: Limits = Limits { dvi: None, pk: None, table: None, area: u64::MAX };
 
 /// The line could not be understood, or a file not be read.
 struct NoInput;
@@ -40,6 +42,7 @@ pub fn answer(line: &[u8], limits: Limits) -> String {
 fn asked(line: &[u8], limits: Limits) -> Result<Result<String, Refusal>, NoInput> {
     let words: Vec<&[u8]> = line.split(|byte| *byte == b' ').collect();
     let dvi = |name: &[u8]| contents(name, limits.dvi);
+    let pk = |name: &[u8]| contents(name, limits.pk);
     let table = |name: &[u8]| contents(name, limits.table);
     match words[..] {
         [b"read", file, at] => {
@@ -99,6 +102,16 @@ fn asked(line: &[u8], limits: Limits) -> Result<Result<String, Refusal>, NoInput
                 // The counts come last.
                 let records = placed.records.len();
                 lines.push(format!("end {records} {} {}", placed.missing, placed.specials));
+                lines.join("\n")
+            }))
+        }
+        [b"widths", file, scale, area] => {
+            let scale = unsigned_word(scale)?;
+            let area = plain(area, limits.area)?;
+            let file = pk(file)?;
+            Ok(width_table(&file, scale, area).map(|records| {
+                let mut lines: Vec<String> = records.iter().map(|record| hexadecimal(record)).collect();
+                lines.push(format!("end {}", records.len()));
                 lines.join("\n")
             }))
         }

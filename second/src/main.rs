@@ -1,4 +1,4 @@
-//! A reader for DVI files that answers lines from standard input.
+//! A reader for DVI files and PK fonts that answers lines from standard input.
 
 #![forbid(unsafe_code)]
 
@@ -7,6 +7,7 @@ mod commands;
 mod fonts;
 mod lines;
 mod numbers;
+mod packed;
 mod placing;
 mod refusal;
 mod units;
@@ -14,6 +15,8 @@ mod widths;
 
 #[cfg(test)]
 mod examples;
+#[cfg(test)]
+mod packed_examples;
 
 use std::io::{self, BufRead, Write};
 

@@ -5,10 +5,10 @@ use crate::numbers::{signed, unsigned};
 use crate::refusal::{refusal, Refusal};
 
 /// The bytes that one record of the table takes.
-const RECORD: usize = 16;
+pub const RECORD: usize = 16;
 
 /// From -16 to just below 16, a fix word's first byte does no more than repeat the sign.
-fn right_first_byte(byte: u8) -> bool {
+pub fn right_first_byte(byte: u8) -> bool {
     byte == 0 || byte == 255
 }
 

@@ -21,10 +21,13 @@ ANSWERS = {
     b"table": rb"right \d+",
     b"look": rb"(?:found -?\d+ \d+ \d+ \d+ \d+|absent)",
     b"place": rb"end \d+ \d+ \d+",
+    b"widths": rb"end \d+",
 }
 FORMS = {word: re.compile(rb"(?:refused \d+ at \d+|no input|" + form + rb")\Z") for word, form in ANSWERS.items()}
 NO_INPUT = re.compile(rb"no input\Z")
-RECORD_LINE = re.compile(rb"[cr] \d+ \d+ -?\d+ -?\d+ -?\d+ -?\d+\Z")
+# The questions whose answers have records, a row each before the last: how such a row looks, and what is enough to know it.
+RECORDS = {b"place": re.compile(rb"[cr] \d+ \d+ -?\d+ -?\d+ -?\d+ -?\d+\Z"), b"widths": re.compile(rb"[0-9a-f]{32}\Z")}
+STARTS = {b"place": re.compile(rb"[cr] "), b"widths": RECORDS[b"widths"]}
 MOST_RESTARTS = 12
 MOST_BYTES = 1_000_000_000  # of one run's answers; a side that writes more has gone wrong
 
@@ -89,9 +92,9 @@ def split_answers(lines, output):
     answers, at = [], 0
     for line in lines:
         start = at
-        if line.startswith(b"place "):
-            while at < len(rows) and rows[at][:2] in (b"c ", b"r "):
-                at += 1
+        record = STARTS.get(line.split(b" ", 1)[0])
+        while record and at < len(rows) and record.match(rows[at]):
+            at += 1
         if at == len(rows):
             return answers, rows[start:]
         at += 1
@@ -152,7 +155,7 @@ def well_formed(line, answer):
     if len(rows) == 1 and not rows[0].startswith(b"end "):
         return True
     records = int(rows[-1].split(b" ")[1]) if rows[-1].startswith(b"end ") else -1
-    return records == len(rows) - 1 and (not records or bool(RECORD_LINE.match(rows[0]) and RECORD_LINE.match(rows[-2])))
+    return records == len(rows) - 1 and (not records or bool(RECORDS[word].match(rows[0]) and RECORDS[word].match(rows[-2])))
 
 
 def differs(line, first, second):

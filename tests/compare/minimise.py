@@ -1,11 +1,12 @@
 """Making a failing line's files smaller while it still fails, and keeping the smallest."""
 
 import dvi
+import pk
 from asking import ask_both, differs
 
 MOST_ROUNDS = 80
 MOST_TRIES = 400  # candidates that one run of the two programs is asked about
-FILE_WORDS = {b"read": (1,), b"check": (1,), b"name": (1,), b"table": (1,), b"look": (1,), b"place": (1, 2)}
+FILE_WORDS = {b"read": (1,), b"check": (1,), b"name": (1,), b"table": (1,), b"look": (1,), b"place": (1, 2), b"widths": (1,)}
 
 
 def without(runs, left_out):
@@ -92,7 +93,13 @@ class Minimiser:
         """The case with files as small as they get."""
         case = Case(line)
         for at in case.files:
-            if at == 1 and case.words[0] not in (b"table", b"look"):
+            if case.words[0] == b"widths":
+                commands, tail = pk.commands_of(case.files[at])
+                self.shorten(case, at, commands, lambda some, tail=tail: b"".join(some) + tail)
+                data = case.files[at]
+                if len(data) < 4000:
+                    self.shorten(case, at, [data[i : i + 1] for i in range(len(data))], b"".join)
+            elif at == 1 and case.words[0] not in (b"table", b"look"):
                 commands, tail = dvi.commands_of(case.files[at])
 
                 def mended_file(bound):
@@ -114,7 +121,7 @@ def keep_case(sides, case, folder, scratch, note):
     folder.mkdir(parents=True, exist_ok=True)
     names = {}
     for at, data in case.files.items():
-        path = folder / ("file.dvi" if at == 1 and case.words[0] not in (b"table", b"look") else "table")
+        path = folder / ("file.pk" if case.words[0] == b"widths" else "file.dvi" if at == 1 and case.words[0] not in (b"table", b"look") else "table")
         path.write_bytes(data)
         names[at] = str(path).encode()
     line = case.line(names)

@@ -59,6 +59,20 @@ def reading(group, rng):
         group.ask(b"read %s %d" % (group.keep(noise), rng.randrange(42)))
 
 
+def misspelt(group, line, file):
+    """A right line, and those one step away from it: blanks, words left out, other words in the place of its files and numbers."""
+    words = line.split(b" ")
+    group.ask(line, line + b" 1", line + b" ", b" " + line, line.replace(b" ", b"  ", 1), line.replace(b" ", b"\t", 1), line + b"\r")
+    group.ask(line.upper(), words[0], words[0] + b" ", words[0][:-1] + line[len(words[0]) :], words[0] + b"s" + line[len(words[0]) :])
+    for at in range(1, len(words)):
+        group.ask(b" ".join(words[:at] + words[at + 1 :]))
+        for other in (b"", b"-", b"x", b"1x", b"x1", b"0x1", b"+1", b"1.0", b"1e3", b"--1", b"1-", b"-1", b"-0", b"00", b"007", b"-007", b"256", b"255",
+                      b"60000", b"60001", b"2147483647", b"2147483648", b"-2147483648", b"-2147483649", b"4294967295", b"4294967296",
+                      b"18446744073709551615", b"18446744073709551616", b"9" * 40, b"-" + b"9" * 40, b"\xff", b"1\x002",
+                      file + b"x", file + b"/", group.folder_name, b"/", b".", b"/nonexistent/" + file[-4:]):
+            group.ask(b" ".join([*words[:at], other, *words[at + 1 :]]))
+
+
 def no_input(group, rng):
     """Lines that are none of the desk's, numbers one past their ranges, files that are not there."""
     data = volume(PLAIN_UNITS, page([]))
@@ -68,16 +82,7 @@ def no_input(group, rng):
         b"look %s 1 2 3" % table, b"place %s %s 300 1 60000" % (file, table),
     ]
     for line in right_lines:
-        words = line.split(b" ")
-        group.ask(line, line + b" 1", line + b" ", b" " + line, line.replace(b" ", b"  ", 1), line.replace(b" ", b"\t", 1), line + b"\r")
-        group.ask(line.upper(), words[0], words[0] + b" ", words[0][:-1] + line[len(words[0]) :], words[0] + b"s" + line[len(words[0]) :])
-        for at in range(1, len(words)):
-            group.ask(b" ".join(words[:at] + words[at + 1 :]))
-            for other in (b"", b"-", b"x", b"1x", b"x1", b"0x1", b"+1", b"1.0", b"1e3", b"--1", b"1-", b"-1", b"-0", b"00", b"007", b"-007", b"256", b"255",
-                          b"60000", b"60001", b"2147483647", b"2147483648", b"-2147483648", b"-2147483649", b"4294967295", b"4294967296",
-                          b"18446744073709551615", b"18446744073709551616", b"9" * 40, b"-" + b"9" * 40, b"\xff", b"1\x002",
-                          file + b"x", file + b"/", group.folder_name, b"/", b".", b"/nonexistent/" + file[-4:]):
-                group.ask(b" ".join([*words[:at], other, *words[at + 1 :]]))
+        misspelt(group, line, file)
     group.ask(b"", b" ", b"\t", b"hello", b"check", b"checked %s" % file, b"CHECK %s" % file, b"refused 2 at 0", b"end 0 0 0", b"no input", b"\xff\xfe",
               b"\0", b"check \0", b"check %s\0" % file, b"check %s\0.dvi" % file, b"#", b"x" * 3000, b"check " + b"y" * 3000, b"1 " * 1500)
 

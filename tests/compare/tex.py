@@ -37,6 +37,9 @@ PLAIN_SOURCES = {
                 r"\hrule width-9pt\hrule height1sp f\vrule width1sp height1sp g\vrule width3sp h\bye",
     "bars": r"\def\b#1{\vrule width#1pt height6pt }\def\row#1{\hbox{7\b{.1}42\b{#1}8\b{.4}05\b{1.3}9\kern.3pt\b{#1}{\bf3}\b{.7}x\kern1pt"
             r"\b{.2}\b{.3}\b{.1}\kern-1pt\b{#1}y\b{.02}\b{.02}\b{.02}z}}\row{.17}\row{.5}\row1\row{1.9}\row{2.61}\row7\row{20}\row{72.27}\bye",
+    # One font at two sizes, as a width table has it twice.
+    "headings": r"\font\head=cmbx10 scaled\magstep1 \font\sub=cmr10 scaled\magstep1 \centerline{\head Bonn -- K\"oln -- Essen}\bigskip\leftline{\sub"
+                r" Monday to Friday}07:42, {\bf 08:05}, {\it not on} 24~December\par\leftline{\sub Saturday {\head only}}08:11 \head 09:33\bye",
     "timetable": TIMETABLE + r"\nopagenumbers\offinterlineskip\hrule\times{16}{\row}\bye",
     "fonts": r"\def\f#1#2{{\font\x=#1 \x #2 abc AVAWA \char'012 \char127\par}}\f{cmr5}{five}\f{cmr7}{seven}\f{cmbx10}{bold}\f{cmti10}{slant}"
              r"\f{cmtt10}{type}\f{cmsy10}{ABC}\f{cmmi10}{math}\f{cmex10}{ab}\f{cmr10 at 17.3pt}{large}\f{cmr10 scaled 2986}{huge}"
