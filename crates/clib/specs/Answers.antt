@@ -70,7 +70,7 @@ signedNumbers n = toTwos (2 ^ 64) n ∷ []
 abbrev pub placedNumbers : Counts → List ℕ
 placedNumbers c = c .records ∷ c .missing ∷ c .specials ∷ []
 
--- how many records a table has (rule 10.4)
+-- how many records a table has, or a table that was made (rule 10.4)
 abbrev pub tableNumbers : ℕ → List ℕ
 tableNumbers records = records ∷ []
 

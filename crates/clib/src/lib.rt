@@ -9,6 +9,7 @@ use reader::Placed;
 use reader::Rounded;
 use reader::Scaled;
 use reader::TableChecked;
+use reader::TableMade;
 ghost use mathlib.Core.Path.{_≡_};
 ghost use lib.ListN.{length};
 ghost use Rattle.commands.specs.Reading.{commandRead};
@@ -18,6 +19,7 @@ ghost use Rattle.units.specs.Rounding.{roundedDistance};
 ghost use Rattle.widths.specs.Scaling.{fixWord, scaledWidth};
 ghost use Rattle.widths.specs.Table.{checkedTable};
 ghost use Rattle.widths.specs.LookUp.{lookedUp};
+ghost use Rattle.packed.specs.Table.{tableMade, recordsMade, tableArea};
 ghost use Rattle.page.specs.Answers.{placedPage, placedCounts, areaAfter};
 ghost use Rattle.clib.specs.Answers.{ifRoom, code, arrayAfter, commandNumbers, fileNumbers, signedNumbers, placedNumbers, tableNumbers, lookedNumbers, nameNumbers};
 
@@ -196,6 +198,30 @@ pub extern "C" fn hurlyburn_look_up(
             answers::give(answer, &numbers)
         }
         LookedUp::Refused { number, place } => answers::refuse(answer, number, place),
+    }
+}
+
+// The width table of a PK font at a scale, written into the area: records.
+#[no_mangle]
+pub extern "C" fn hurlyburn_width_table(
+    pk: &[u8],
+    scale: u32,
+    area: &mut [u8],
+    answer: &mut [u64],
+) -> u32
+    ensures { λ r. ⌜ r ≡ code 1 (now (answer .entry)) (recordsMade (tableMade (now (pk .entry)) scale (length (now (area .entry))))) ⌝ }
+    ensures { λ _. ⌜ now (answer .exit) ≡ arrayAfter 1 tableNumbers (now (answer .entry)) (recordsMade (tableMade (now (pk .entry)) scale (length (now (area .entry))))) ⌝ }
+    ensures { λ _. ⌜ now (area .exit) ≡ ifRoom 1 (now (answer .entry)) (tableArea (now (area .entry)) (tableMade (now (pk .entry)) scale (length (now (area .entry))))) (now (area .entry)) ⌝ }
+{
+    if answer.len() < 1 {
+        return answers::ARRAY_TOO_SHORT;
+    }
+    match reader::width_table(pk, scale, area) {
+        TableMade::Records(records) => {
+            let numbers = [records as u64];
+            answers::give(answer, &numbers)
+        }
+        TableMade::Refused { number, place } => answers::refuse(answer, number, place),
     }
 }
 

@@ -1,5 +1,6 @@
 // Every public entry of the reader on a desk: a question a line on standard input, its answer on standard output.
 mod files_asked;
+mod fonts_asked;
 mod lines;
 mod numbers_asked;
 mod pages_asked;

@@ -1,5 +1,6 @@
 // A line's question, by its first word and how many words it has.
 use crate::files_asked;
+use crate::fonts_asked;
 use crate::lines;
 use crate::numbers_asked;
 use crate::pages_asked;
@@ -16,6 +17,7 @@ enum Question {
     Scale,
     Table,
     Look,
+    Widths,
     Place,
     Nothing,
 }
@@ -28,6 +30,9 @@ fn question_of(line: &[u8]) -> Question {
     }
     if count == 3 {
         return of_three(name);
+    }
+    if count == 4 {
+        return of_four(name);
     }
     if count == 5 {
         return of_five(name);
@@ -57,6 +62,13 @@ fn of_three(name: &[u8]) -> Question {
     }
     if check::same(name, b"spell") {
         return Question::Spell;
+    }
+    Question::Nothing
+}
+
+fn of_four(name: &[u8]) -> Question {
+    if check::same(name, b"widths") {
+        return Question::Widths;
     }
     Question::Nothing
 }
@@ -91,6 +103,7 @@ pub fn answer(line: &[u8], file: &mut [u8], widths: &mut [u8], area: &mut [u8]) 
         Question::Scale => numbers_asked::scale(line).print(),
         Question::Table => tables_asked::table(line, widths).print(),
         Question::Look => tables_asked::look(line, widths).print(),
+        Question::Widths => fonts_asked::widths(line, file, area),
         Question::Place => pages_asked::place(line, file, widths, area),
         Question::Nothing => asking::no_input(),
     }

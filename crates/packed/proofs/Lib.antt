@@ -11,3 +11,4 @@ pub mod Preambles
 pub mod Writing
 pub mod Counting
 pub mod MadeLaws
+pub mod RefusedWith

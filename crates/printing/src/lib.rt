@@ -5,6 +5,7 @@ ghost use Prim.Native.Nat.{_<_};
 ghost use lib.IntN.{natAbs};
 
 pub mod line;
+pub mod rows;
 
 pub fn text(bytes: &[u8]) {
     io::write_all(STDOUT_FILENO, bytes);
@@ -32,7 +33,7 @@ pub fn hexadecimal(bytes: &[u8]) {
     }
 }
 
-fn digit(n: u8) -> u8
+pub fn digit(n: u8) -> u8
     requires { ⌜ n < 16 ⌝ }
 {
     if n < 10 {

@@ -5,8 +5,8 @@ use mathlib.Core.Logic.{inl, inr}
 use native.Mathlib.Omega.{arith}
 use lib.IntN.{ℤ}
 use Rattle.refusals.specs.Answer.{Answer}
-use Rattle.refusals.specs.RefusedOnly.{RefusedOnly, Listed, FileRefusal, CommandRefusal, NameRefusal, DistanceRefusal, WidthRefusal, TableRefusal, PageRefusal}
-use Rattle.refusals.proofs.RefusedOnly.{only-wider, file-numbers, name-numbers, unit-numbers, page-numbers}
+use Rattle.refusals.specs.RefusedOnly.{RefusedOnly, Listed, FileRefusal, CommandRefusal, NameRefusal, DistanceRefusal, WidthRefusal, TableRefusal, PageRefusal, MadeRefusal}
+use Rattle.refusals.proofs.RefusedOnly.{only-wider, file-numbers, name-numbers, unit-numbers, page-numbers, made-numbers}
 use Rattle.units.specs.Rounding.{roundedDistance}
 use Rattle.units.proofs.RefusedWith.{distance-refused-with}
 use Rattle.widths.specs.declared.FixWord.{FixWord}
@@ -19,12 +19,14 @@ use Rattle.commands.proofs.RefusedWith.{command-refused-with}
 use Rattle.volume.specs.Judged.{judged}
 use Rattle.volume.specs.Names.{namePlace}
 use Rattle.volume.proofs.RefusedWith.{file-refused-with, name-refused-with}
+use Rattle.packed.specs.Table.{tableMade, recordsMade}
+use Rattle.packed.proofs.RefusedWith.{made-refused-with}
 use Rattle.page.specs.Answers.{placedPage, placedCounts}
 use Rattle.page.proofs.RefusedWith.{page-refused-with}
 
 -- a number of the list
 abbrev Low : ℕ → Type 0
-Low number = (1 ≤ number) × (number ≤ 17)
+Low number = (1 ≤ number) × (number ≤ 22)
 
 -- what is refused only with numbers of the list
 listed : {A : Type 0} (May : ℕ → ℕ → Type 0) (answer : Answer A) → ((number place : ℕ) → May number place → Low number) → RefusedOnly May answer → Listed answer
@@ -52,7 +54,10 @@ table-low : (table : List ℕ) (number place : ℕ) → TableRefusal widthRecord
 table-low table number place (is, there, below) = (omega (arith, is), omega (arith, is))
 
 page-low : (file table : List ℕ) (number place : ℕ) → PageRefusal file widthRecordSize table number place → Low number
-page-low file table number place may = page-numbers file widthRecordSize table may
+page-low file table number place may = let (low, high) = page-numbers file widthRecordSize table may in (low, omega arith)
+
+made-low : (pk : List ℕ) (number place : ℕ) → MadeRefusal pk number place → Low number
+made-low pk number place may = let (low, high) = made-numbers pk may in (omega arith, high)
 
 -- ---- of each entry
 
@@ -81,3 +86,6 @@ looked-listed table checksum scale character =
 pub placed-listed : (file table : List ℕ) (resolution page room : ℕ) → Listed (placedCounts (placedPage file table resolution page room))
 placed-listed file table resolution page room =
     listed (PageRefusal file widthRecordSize table) (placedCounts (placedPage file table resolution page room)) (page-low file table) (page-refused-with file table resolution page room)
+
+pub made-listed : (pk : List ℕ) (scale room : ℕ) → Listed (recordsMade (tableMade pk scale room))
+made-listed pk scale room = listed (MadeRefusal pk) (recordsMade (tableMade pk scale room)) (made-low pk) (made-refused-with pk scale room)

@@ -6,7 +6,7 @@ use mathlib.Core.List.{List}
 use mathlib.Core.Logic.{inl, inr}
 use native.Mathlib.Omega.{arith}
 use Rattle.refusals.specs.Answer.{Answer, refused, given, refuseIf, andThen}
-use Rattle.refusals.specs.RefusedOnly.{RefusedOnly, FileRefusal, NameRefusal, UnitRefusal, PageRefusal}
+use Rattle.refusals.specs.RefusedOnly.{RefusedOnly, FileRefusal, NameRefusal, UnitRefusal, PageRefusal, MadeRefusal}
 
 module _ {A : Type 0} (May : ℕ → ℕ → Type 0) where
   -- a test whose refusal may be, and what follows it
@@ -57,3 +57,10 @@ module _ {number place : ℕ} where
   page-numbers file size table (inr (inr (inr (inl (inl is, at))))) = (omega (arith, is), omega (arith, is))
   page-numbers file size table (inr (inr (inr (inl (inr is, at))))) = (omega (arith, is), omega (arith, is))
   page-numbers file size table (inr (inr (inr (inr (is, at))))) = (omega (arith, is), omega (arith, is))
+
+  -- 17 to 22
+  pub made-numbers : (pk : List ℕ) → MadeRefusal pk number place → (17 ≤ number) × (number ≤ 22)
+  made-numbers pk (inl (is, at)) = (omega (arith, is), omega (arith, is))
+  made-numbers pk (inr (inl (inl (is, at)))) = (omega (arith, is), omega (arith, is))
+  made-numbers pk (inr (inl (inr (low, high, at)))) = (omega (arith, low), omega (arith, high))
+  made-numbers pk (inr (inr (is, at))) = (omega (arith, is), omega (arith, is))

@@ -1,0 +1,48 @@
+// The question about a PK font, which is read into the buffer that is lent.
+use crate::lines::word;
+use asking::files;
+use asking::words;
+use asking::words::Unsigned;
+use asking::words::Unsigned32;
+use printing::line::Line;
+use printing::rows;
+use reader::TableMade;
+
+// widths PK SCALE AREA-BYTES
+pub fn widths(line: &[u8], file: &mut [u8], area: &mut [u8]) {
+    let Unsigned::Is(room) = words::read_unsigned(word(line, 3), area.len() as u64) else {
+        asking::no_input();
+        return;
+    };
+    let lent = room as usize;
+    widths_in(line, file, &mut area[..lent]);
+}
+
+fn widths_in(line: &[u8], file: &mut [u8], area: &mut [u8]) {
+    let Unsigned32::Is(scale) = words::read_unsigned32(word(line, 2)) else {
+        asking::no_input();
+        return;
+    };
+    let found = files::read_whole(word(line, 1), file);
+    if !found.whole {
+        asking::no_input();
+        return;
+    }
+    let length = found.length;
+    made(&file[..length], scale, area);
+}
+
+fn made(pk: &[u8], scale: u32, area: &mut [u8]) {
+    match reader::width_table(pk, scale, area) {
+        TableMade::Records(records) => {
+            let end = 16 * records;
+            rows::print(&area[..end], 16);
+            Line::empty()
+                .text(b"end")
+                .count(records as u64)
+                .text(b"\n")
+                .print();
+        }
+        TableMade::Refused { number, place } => printing::refused(number, place),
+    }
+}
