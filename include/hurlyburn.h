@@ -1,4 +1,4 @@
-/* Hurlyburn, a proved reader of DVI files (DVI Driver Standard, level 0): its C interface.
+/* Hurlyburn, a proved reader of DVI files (DVI Driver Standard, level 0) and of the widths in PK fonts: its C interface.
 
    `rt staticlib clib` writes target/staticlib/libclib.a for x86-64 Linux; link it beside your program and the C library.
    include/example.c is a whole program. Every entry of the reader is here, and each is proved to answer exactly what the rules
@@ -11,7 +11,7 @@
      least. Only the numbers that are named at a function are written, from the first on; all others stay as they were.
    - What is returned is
        0           the result is given;
-       1 to 17     the file, the table or the question is refused, for the reason of that number in the list below; answer[0] is
+       1 to 22     the file, the table or the question is refused, for the reason of that number in the list below; answer[0] is
                    then the place, counted in bytes from 0, and the other numbers stay as they were;
        255         answer_length is too small for the function's result, whatever the inputs are. Nothing was judged and nothing
                    written, neither into answer nor into an area.
@@ -43,8 +43,14 @@
        15   a page that the file has not
        16   h or v at 2^31 or beyond, on either side
        17   an area that is too short for the records
+       18   a PK font: no command stands where one is due, its bytes run past the end of the file, or the postamble is missing
+       19   a PK font: a command where it is not allowed, an opcode of 248 or more, another identification than 89
+       20   a PK font: a packet length below the packet's own fields
+       21   a PK font: a code above 255 or one that an earlier packet has, a width whose first byte is neither 0 nor 255, or an
+            escapement that two bytes with a sign do not hold
+       22   a scale of 0, or above 134,217,727
 
-   The place of 2 to 10 and of 16 is where the opcode of the wrong command stands, or would have to; of 11 that byte's, or the
+   The place of 2 to 10, of 16 and of 18 to 21 is where the opcode or the flag of the wrong command stands, or would have to; of 11 that byte's, or the
    length of the file; of 14 where the first wrong record begins. It is 0 for all others, for a single distance or width, and for
    the name of a font that is not defined (8). */
 #ifndef HURLYBURN_H
@@ -70,10 +76,14 @@ extern "C" {
 #define HURLYBURN_SCALE_NUMBERS 1
 #define HURLYBURN_TABLE_NUMBERS 1
 #define HURLYBURN_LOOK_NUMBERS 6
+#define HURLYBURN_WIDTH_TABLE_NUMBERS 1
 #define HURLYBURN_NAME_NUMBERS 2
 
 /* how many bytes a placed character or rule takes in the area */
 #define HURLYBURN_RECORD_BYTES 20
+
+/* how many bytes a record of a width table has */
+#define HURLYBURN_WIDTH_RECORD_BYTES 16
 
 /* The command whose opcode stands at byte `at` of a DVI file; nothing before or behind it is judged. answer: the opcode, where its
    parameters start, the place after them. Refusal 1; then 2 or 3, whose place is `at` (negative in answer where `at` is 2^63 or
@@ -113,6 +123,17 @@ uint32_t hurlyburn_check_table(const uint8_t *table, size_t table_length, int64_
    character, 0 and nothing more. Refusal 14. */
 uint32_t hurlyburn_look_up(const uint8_t *table, size_t table_length, uint32_t checksum, uint32_t scale, int32_t code,
                            int64_t *answer, size_t answer_length);
+
+/* The width table of a PK font at a scale, which is the font's scaled size in the DVI file's units: for each packet of the font a
+   record, in the order of codes, is written into area, from its first byte on, HURLYBURN_WIDTH_RECORD_BYTES each; the bytes behind
+   them stay as they were. A font has 256 packets at most. A refusal leaves every byte of area. The table is one that
+   hurlyburn_check_table finds right; tables of several fonts, put together so that the first nine bytes of their records rise, are
+   another. answer: the number of records. Refusals 22, then 18 to 21, then 17.
+
+   A record has the font's check sum and the scale, four bytes each; the code; a byte 0; two bytes for the escapement in pixels,
+   which is signed; and the four bytes of the width. The greatest byte comes first. */
+uint32_t hurlyburn_width_table(const uint8_t *pk, size_t pk_length, uint32_t scale, uint8_t *area, size_t area_length,
+                               int64_t *answer, size_t answer_length);
 
 /* The name of a font, area first, as its definition before post has it: a part of the caller's own file. The whole file is checked
    first. answer: the place of the part's first byte, and the place past its last. Refusals 1 to 11; 8 with place 0 for a font that
