@@ -50,9 +50,9 @@
             escapement that two bytes with a sign do not hold
        22   a scale of 0, or above 134,217,727
 
-   The place of 2 to 10, of 16 and of 18 to 21 is where the opcode or the flag of the wrong command stands, or would have to; of 11 that byte's, or the
-   length of the file; of 14 where the first wrong record begins. It is 0 for all others, for a single distance or width, and for
-   the name of a font that is not defined (8). */
+   The place of 2 to 10, of 16 and of 18 to 21 is where the opcode or the flag of the wrong command stands, or would have to; of 11
+   that byte's, or the length of the file; of 14 where the first wrong record begins. It is 0 for all others, for a single distance
+   or width, and for the name of a font that is not defined (8). */
 #ifndef HURLYBURN_H
 #define HURLYBURN_H
 

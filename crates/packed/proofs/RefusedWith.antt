@@ -74,9 +74,9 @@ module _ (pk : List ℕ) where
   made-refused-with scale room =
       let May = MadeRefusal pk in
       then-only May (tableMade pk scale room) (λ entries. given (length entries)) (
-        if-only May (not (lawfulSize scale)) 22 0 _ (inl (refl, refl)) (
-          then-only May (fontJudged pk) (λ past. withRoom room (fontTable scale past)) (only-wider (FontRefusal pk) May (fontJudged pk) (λ number place may. inr (inl may)) font-refused-with) (
-            λ past. if-only May (ltb room (widthRecordSize * length (fontTable scale past))) 17 0 (given (fontTable scale past)) (inr (inr (refl, refl))) tt
-          )
-        )
+      if-only May (not (lawfulSize scale)) 22 0 _ (inl (refl, refl)) (
+      then-only May (fontJudged pk) (λ past. withRoom room (fontTable scale past)) (only-wider (FontRefusal pk) May (fontJudged pk) (λ number place may. inr (inl may)) font-refused-with) (
+      λ past. if-only May (ltb room (widthRecordSize * length (fontTable scale past))) 17 0 (given (fontTable scale past)) (inr (inr (refl, refl))) tt
+      )
+      )
       ) (λ entries. tt)

@@ -40,11 +40,11 @@ not-true : (b : Bool) → not b ≡ false → b ≡ true
 not-true true e = refl
 not-true false e = absurd (let z : _≡_ {A = ℕ} 0 1 = cc in omega arith)
 
-never : (past : List Command) (bytes : List ℕ) (all : List Command) → fontJudgedFrom zero past bytes ≡ given all → ⊥
+pub never : (past : List Command) (bytes : List ℕ) (all : List Command) → fontJudgedFrom zero past bytes ≡ given all → ⊥
 unfolding fontJudgedFrom
 never past bytes all e = given-not-refused all 18 (place past) (sym e)
 
-at-end : (left : ℕ) (past all : List Command) → fontJudgedFrom (suc left) past [] ≡ given all → (ended past ≡ true) × (past ≡ all)
+pub at-end : (left : ℕ) (past all : List Command) → fontJudgedFrom (suc left) past [] ≡ given all → (ended past ≡ true) × (past ≡ all)
 unfolding fontJudgedFrom
 at-end left past all e =
     let next = given-next (not (ended past)) 18 (place past) (given past) all e in

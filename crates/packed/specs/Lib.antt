@@ -5,3 +5,4 @@ pub mod Lawful
 pub mod Judged
 pub mod Table
 pub mod Steps
+pub mod Starred

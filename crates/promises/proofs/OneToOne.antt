@@ -15,9 +15,11 @@ use Rattle.reader.specs.declared.TableChecked.{TableChecked}
 use Rattle.reader.specs.declared.TableChecked.the-variants as TableChecked
 use Rattle.reader.specs.declared.LookedUp.{LookedUp}
 use Rattle.reader.specs.declared.LookedUp.the-variants as LookedUp
+use Rattle.reader.specs.declared.TableMade.{TableMade}
+use Rattle.reader.specs.declared.TableMade.the-variants as TableMade
 use Rattle.reader.specs.declared.Placed.{Placed}
 use Rattle.reader.specs.declared.Placed.the-variants as Placed
-use Rattle.reader.specs.Answers.{commandAnswer, fileAnswer, nameAnswer, roundedAnswer, scaledAnswer, tableAnswer, lookedAnswer, placedAnswer}
+use Rattle.reader.specs.Answers.{commandAnswer, fileAnswer, nameAnswer, roundedAnswer, scaledAnswer, tableAnswer, lookedAnswer, madeAnswer, placedAnswer}
 
 -- the outcome of an answer: of a refusal, and of a result
 abbrev outcome : {A R : Type 0} → (ℕ → ℕ → R) → (A → R) → Answer A → R
@@ -94,6 +96,14 @@ looked-back (LookedUp.Refused number place) = refl
 
 pub looked-one-to-one : (r s : LookedUp) → lookedAnswer r ≡ lookedAnswer s → r ≡ s
 looked-one-to-one = one lookedAnswer (outcome LookedUp.Refused looked) looked-back
+
+-- width_table
+made-back : (r : TableMade) → outcome TableMade.Refused TableMade.Records (madeAnswer r) ≡ r
+made-back (TableMade.Records records) = refl
+made-back (TableMade.Refused number place) = refl
+
+pub made-one-to-one : (r s : TableMade) → madeAnswer r ≡ madeAnswer s → r ≡ s
+made-one-to-one = one madeAnswer (outcome TableMade.Refused TableMade.Records) made-back
 
 -- place_page
 placed-back : (r : Placed) → outcome Placed.Refused (λ c. Placed.Records (c .records) (c .missing) (c .specials)) (placedAnswer r) ≡ r

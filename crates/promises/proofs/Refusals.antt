@@ -7,7 +7,7 @@ use lib.ListN.{length}
 use contract.Lifetimes.{Lfts}
 use denote.Ref.{now}
 use Rattle.refusals.specs.Answer.{Answer}
-use Rattle.refusals.specs.RefusedOnly.{RefusedOnly, FileRefusal, CommandRefusal, NameRefusal, DistanceRefusal, WidthRefusal, TableRefusal, PageRefusal}
+use Rattle.refusals.specs.RefusedOnly.{RefusedOnly, FileRefusal, CommandRefusal, NameRefusal, DistanceRefusal, WidthRefusal, TableRefusal, PageRefusal, MadeRefusal}
 use Rattle.units.proofs.RefusedWith.{distance-refused-with}
 use Rattle.widths.specs.Scaling.{fixWord}
 use Rattle.widths.specs.Table.{widthRecordSize}
@@ -15,14 +15,16 @@ use Rattle.widths.proofs.RefusedWith.{width-refused-with, table-refused-with, l
 use Rattle.commands.proofs.RefusedWith.{command-refused-with}
 use Rattle.volume.proofs.RefusedWith.{file-refused-with, name-refused-with}
 use Rattle.page.proofs.RefusedWith.{page-refused-with}
+use Rattle.packed.proofs.RefusedWith.{made-refused-with}
 use Rattle.reader.specs.declared.CommandRead.{CommandRead}
 use Rattle.reader.specs.declared.FileChecked.{FileChecked}
 use Rattle.reader.specs.declared.Rounded.{Rounded}
 use Rattle.reader.specs.declared.Scaled.{Scaled}
 use Rattle.reader.specs.declared.TableChecked.{TableChecked}
 use Rattle.reader.specs.declared.LookedUp.{LookedUp}
+use Rattle.reader.specs.declared.TableMade.{TableMade}
 use Rattle.reader.specs.declared.Placed.{Placed}
-use Rattle.reader.specs.Answers.{commandAnswer, fileAnswer, nameAnswer, roundedAnswer, scaledAnswer, tableAnswer, lookedAnswer, placedAnswer}
+use Rattle.reader.specs.Answers.{commandAnswer, fileAnswer, nameAnswer, roundedAnswer, scaledAnswer, tableAnswer, lookedAnswer, madeAnswer, placedAnswer}
 use Rattle.reader.proofs.read_command.Reads as read-command
 use Rattle.reader.proofs.check_file.Reads as check-file
 use Rattle.reader.proofs.font_name.Reads as font-name
@@ -30,6 +32,7 @@ use Rattle.reader.proofs.round_distance.Reads as round-distance
 use Rattle.reader.proofs.scale_width.Reads as scale-width
 use Rattle.reader.proofs.check_table.Reads as check-table
 use Rattle.reader.proofs.look_up.Reads as look-up
+use Rattle.reader.proofs.width_table.Reads as width-table
 use Rattle.reader.proofs.place_page.Reads as place-page
 
 -- what holds of the meaning holds of an answer that says it
@@ -81,3 +84,8 @@ pub place-page-refusals : (κs : Lfts 3) → (file table : _) → (resolution pa
     → RefusedOnly (PageRefusal (now file) widthRecordSize (now table)) (placedAnswer r)
 place-page-refusals κs file table resolution page area r x post =
     said (PageRefusal (now file) widthRecordSize (now table)) (post .0) (page-refused-with (now file) (now table) resolution page (length (now area)))
+
+-- 22 at 0; 18 in the file or at its end; 19 to 21 in the file; 17 at 0
+pub width-table-refusals : (κs : Lfts 2) → (pk : _) → (scale : ℕ) → (area : _) → (r : TableMade) → (x : _) → width-table.Post κs (pk, (scale, (area, tt))) r x
+    → RefusedOnly (MadeRefusal (now pk)) (madeAnswer r)
+width-table-refusals κs pk scale area r x post = said (MadeRefusal (now pk)) (post .0) (made-refused-with (now pk) scale (length (now area)))

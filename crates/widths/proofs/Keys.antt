@@ -47,7 +47,7 @@ module _ (a b c d : ℕ) where
 abbrev pub characterKey : ℕ → ℕ → ℕ → ℕ
 characterKey checksum scale code = (checksum * 2 ^ 32 + scale) * 256 + code
 
-nine : (table : List ℕ) (at : ℕ) → unsignedAt table at 9 ≡ characterKey (unsignedAt table at 4) (unsignedAt table (at + 4) 4) (getD table (at + 8) 0)
+pub nine : (table : List ℕ) (at : ℕ) → unsignedAt table at 9 ≡ characterKey (unsignedAt table at 4) (unsignedAt table (at + 4) 4) (getD table (at + 8) 0)
 nine table at = unsigned-more table at 8 ∙ ap (λ (n : ℕ). n * 256 + getD table (at + 8) 0) (unsigned-join table at 4 4)
 
 -- a key of a code alone has scale 0
