@@ -1,18 +1,17 @@
 -- A PK file is accepted exactly if it is the written form of a list of commands that keeps the rules, and it is that of no other list. Assumes nothing.
-use Prim.Native.Nat.{ℕ, zero, suc, _+_, _≤_, _<_}
+use Prim.Native.Nat.{ℕ, zero, suc, _+_, _<_}
 use mathlib.Core.Path.{_≡_, refl, sym, ap, _∙_}
 use mathlib.Core.Bool.{true}
 use mathlib.Core.List.{List, [], _∷_, _++_, append-nil}
 use mathlib.Core.Logic.{_↔_}
 use native.Mathlib.Omega.{arith}
-use lib.Dec.{ltb}
 use lib.ListN.{length, take, drop, length-append, take-append-drop}
 use lib.Seq.{take-at, drop-at}
 use borrow.Author.Tests.{le-ltb}
-use Rattle.refusals.specs.Answer.{given, refuseIf}
+use Rattle.refusals.specs.Answer.{given}
 use Rattle.refusals.proofs.Answer.{given-same}
-use Rattle.commands.specs.Commands.{Command, form, written, place}
-use Rattle.packed.specs.Commands.{fixedBytes, countedBytes, paramBytes}
+use Rattle.commands.specs.Commands.{Command, written}
+use Rattle.packed.specs.Commands.{fixedBytes, paramBytes}
 use Rattle.packed.specs.Rules.{ended, fontFault}
 use Rattle.packed.specs.Lawful.{WholeInFont, FollowsInFont, ends, goes, LawfulFont}
 use Rattle.packed.specs.Judged.{taken, fontJudgedFrom, fontJudged}

@@ -1,12 +1,11 @@
 -- The table made of a font has one record for each packet and one packet for each record, and its codes rise. Assumes nothing.
 use Prim.Native.Nat.{ℕ, zero, suc, _+_, _≤_, _<_}
-use mathlib.Core.Path.{_≡_, refl, sym, ap, subst, _∙_}
-use mathlib.Core.Bool.{Bool, true, false, cond, _&&_, and-eq-true-iff}
+use mathlib.Core.Path.{_≡_, refl, sym, subst}
+use mathlib.Core.Bool.{Bool, true, false, cond, and-eq-true-iff}
 use mathlib.Core.List.{List, [], _∷_, _++_, map}
 use mathlib.Core.Logic.{_⊎_, inl, inr, ⊎-elim}
 use native.Mathlib.Omega.{arith}
 use lib.Dec.{eqb}
-use lib.ListN.{length}
 use borrow.Author.Tests.{eq-eqb, eqb-true, eqb-false}
 use Rattle.refusals.specs.Answer.{given}
 use Rattle.commands.specs.Commands.{Command}
@@ -16,9 +15,9 @@ use Rattle.packed.specs.Rules.{isPacketFor, packets}
 use Rattle.packed.specs.Judged.{taken, fontJudged}
 use Rattle.packed.specs.Table.{Entry, fontChecksum, entryOf, packetsFor, packetsFrom, fontTable}
 use Rattle.packed.proofs.Faults.{packet-right}
-use Rattle.packed.proofs.Standing.{Standing, start, judged-stands}
+use Rattle.packed.proofs.Standing.{Standing, judged-stands}
 use Rattle.packed.proofs.Standing as standing
-use Rattle.packed.proofs.Noted.{NotedAt, IsPacket, noted-at}
+use Rattle.packed.proofs.Noted.{NotedAt, noted-at}
 use Rattle.packed.proofs.Noted as noted
 use Rattle.packed.proofs.MadeLaws.{records-are}
 use Rattle.promises.specs.Fonts.{Among, first, later, Rising, none, more, OneForOne}

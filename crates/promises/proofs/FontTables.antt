@@ -1,30 +1,30 @@
 -- The table made of a font is one that the table check finds right, and each of its records reads as the entry it was made of. Assumes nothing.
 use Prim.Native.Nat.{ℕ, zero, suc, _+_, _-_, _*_, _/_, _%_, _^_, _≤_, _<_}
 use mathlib.Core.Path.{_≡_, refl, sym, ap, ap₂, subst, _∙_}
-use mathlib.Core.Bool.{Bool, true, false, cond, not, _&&_, _||_, and-eq-true-iff}
+use mathlib.Core.Bool.{Bool, true, false, _||_, and-eq-true-iff}
 use mathlib.Core.List.{List, [], _∷_, _++_, append-assoc, append-nil}
 use native.Mathlib.Omega.{arith}
-use lib.Dec.{ltb, leb, eqb}
-use lib.ListN.{length, getD, take, drop, length-append}
+use lib.Dec.{leb, eqb}
+use lib.ListN.{length, getD, length-append}
 use lib.Seq.{drop-at}
 use lib.IntN.{ℤ, pos, negsuc}
 use lib.Signed.{leZ}
-use borrow.Author.Tests.{lt-ltb, le-leb, lt-leb, leb-true, eq-eqb, eqb-true}
-use Rattle.refusals.specs.Answer.{given, refuseIf}
-use Rattle.numbers.specs.Bytes.{unsignedAt, signedAt, bytesOf, signedBytesOf}
+use borrow.Author.Tests.{lt-ltb, le-leb, lt-leb, leb-true, eqb-true}
+use Rattle.refusals.specs.Answer.{given}
+use Rattle.numbers.specs.Bytes.{unsignedAt, bytesOf, signedBytesOf}
 use Rattle.numbers.specs.Signs.{fromTwos}
 use Rattle.numbers.specs.Parts.{up, dn}
 use Rattle.numbers.specs.Sizes.{lawfulSize}
-use Rattle.numbers.proofs.Bytes.{unsigned-one, unsigned-more, unsigned-join, unsigned-front, unsigned-drop, length-bytes, read-back, read-signed}
+use Rattle.numbers.proofs.Bytes.{unsigned-one, unsigned-drop, read-back, read-signed}
 use Rattle.numbers.proofs.Signed.{le-yes, one-part}
 use Rattle.widths.specs.Scaling.{fixWord, lawfulFirst}
 use Rattle.packed.specs.Rules.{lawfulEscapement}
 use Rattle.widths.specs.declared.FixWord.{FixWord}
 use Rattle.widths.proofs.Keys.{characterKey, nine}
-use Rattle.widths.specs.Table.{widthRecordSize, WidthRecord, recordAt, recordOf, rises, lawfulFields, wholeRecord, rightRecord, checkedFrom, checkedTable}
+use Rattle.widths.specs.Table.{widthRecordSize, recordAt, recordOf, rises, lawfulFields, wholeRecord, rightRecord, checkedFrom, checkedTable}
 use Rattle.packed.specs.Table.{Entry, entryBytes, tableBytes}
-use Rattle.packed.proofs.Written.{entry-length, table-length, table-append}
-use Rattle.promises.specs.Fonts.{Rising, none, more, Fits, Reads}
+use Rattle.packed.proofs.Written.{table-length, table-append}
+use Rattle.promises.specs.Fonts.{Rising, more, Fits, Reads}
 
 -- ---- a number behind some bytes
 

@@ -1,5 +1,5 @@
 -- What an accepted call of width_table makes, and when a call is accepted. Stated of the contract itself. Assumes nothing.
-use Prim.Native.Nat.{ℕ, _+_, _*_, _≤_, _<_}
+use Prim.Native.Nat.{ℕ, _+_, _*_, _≤_}
 use mathlib.Core.Path.{_≡_, refl, sym, ap, subst, _∙_}
 use mathlib.Core.Bool.{Bool, true, false, not}
 use mathlib.Core.List.{List, [], _∷_, _++_, map}
@@ -10,12 +10,12 @@ use denote.Ref.{now}
 use lib.Dec.{ltb}
 use lib.ListN.{length, take, drop}
 use lib.Seq.{take-at}
-use borrow.Author.Tests.{ltb-false, le-ltb}
-use Rattle.refusals.specs.Answer.{Answer, refused, given, refuseIf, andThen}
+use borrow.Author.Tests.{ltb-false}
+use Rattle.refusals.specs.Answer.{Answer, refused, given, andThen}
 use Rattle.refusals.proofs.Answer.{given-same, given-next}
 use Rattle.numbers.specs.Sizes.{lawfulSize}
 use Rattle.widths.specs.Table.{widthRecordSize, recordOf, checkedTable}
-use Rattle.commands.specs.Commands.{Command, written}
+use Rattle.commands.specs.Commands.{Command}
 use Rattle.packed.specs.Commands.{isPacket}
 use Rattle.packed.specs.Rules.{packets}
 use Rattle.packed.specs.Lawful.{LawfulFont}
@@ -28,7 +28,7 @@ use Rattle.packed.proofs.Written.{table-length}
 use Rattle.packed.proofs.MadeLaws.{made-given}
 use Rattle.reader.specs.declared.TableMade.the-variants as TableMade
 use Rattle.reader.proofs.width_table.Reads as width-table
-use Rattle.promises.specs.Fonts.{upon, Among, first, later, Rising, OneForOne, Fits, Reads, Makes}
+use Rattle.promises.specs.Fonts.{upon, Among, first, later, OneForOne, Fits, Reads, Makes}
 use Rattle.promises.proofs.FontLists.{judged-lawful, lawful-judged}
 use Rattle.promises.proofs.FontPackets.{from-all, one-for-one}
 use Rattle.promises.proofs.FontTables.{Alike, no-entry, an-entry, alike-checks, record-reads}

@@ -1,10 +1,10 @@
 -- Every starred example of document 01 holds. Assumes nothing.
 use mathlib.Core.Path.{_≡_}
 use mathlib.Core.List.{List, [], _∷_, _++_, map}
-use Rattle.units.specs.Starred.{UnitExample, RoundingExample, unitExamples, roundingExamples, unitFound, roundingFound, units-hold, roundings-hold}
-use Rattle.widths.specs.Starred.{WidthExample, widthExamples, widthFound, widths-hold}
-use Rattle.state.specs.Starred.{MoveExample, moveExamples, moveFound, moves-hold}
-use Rattle.volume.specs.Starred.{FileExample, fileExamples, fileFound, files-hold}
+use Rattle.units.specs.Starred.{unitExamples, roundingExamples, unitFound, roundingFound, units-hold, roundings-hold}
+use Rattle.widths.specs.Starred.{widthExamples, widthFound, widths-hold}
+use Rattle.state.specs.Starred.{moveExamples, moveFound, moves-hold}
+use Rattle.volume.specs.Starred.{fileExamples, fileFound, files-hold}
 use Rattle.promises.specs.Starred.{Example, of-file, of-unit, of-rounding, of-moves, of-width, Holds, AllHold, starred}
 
 -- one list after another

@@ -4,8 +4,9 @@ use mathlib.Core.Path.{_≡_}
 use mathlib.Core.Bool.{true}
 use mathlib.Core.List.{List, [], _∷_, _++_}
 use lib.ListN.{length, take, drop}
-use Rattle.widths.specs.declared.FixWord.{FixWord}
+use lib.IntN.{ℤ}
 use Rattle.refusals.specs.Answer.{given}
+use Rattle.numbers.specs.Parts.{up, dn}
 use Rattle.numbers.specs.Bytes.{unsignedAt, bytesOf}
 use Rattle.numbers.specs.Sizes.{lawfulSize}
 use Rattle.widths.specs.Scaling.{fixWord, lawfulFirst}
@@ -65,3 +66,9 @@ pub record Makes (pk : List ℕ) (scale records : ℕ) (before after : List ℕ)
   pub area : after ≡ tableBytes entries ++ drop (widthRecordSize * records) before
   pub checks : checkedTable (take (widthRecordSize * records) after) ≡ given records
   pub record-reads : (front : List Entry) (e : Entry) (back : List Entry) → entries ≡ front ++ (e ∷ back) → Reads (recordOf (take (widthRecordSize * records) after) (length front)) e
+
+-- e is the number nearest to z 65,536ths, and the upper one where two are as near: 65,536 e is z or up to half a pixel above it, or less than half a pixel below it; the parts of z and e on the sides
+-- on which they count (rule 11.7)
+pub record NearestPixel (z e : ℤ) : Type 0 where
+  pub not-above : 65536 * up e + dn z ≤ up z + 65536 * dn e + 32768
+  pub not-below : up z + 65536 * dn e + 32768 < 65536 * up e + dn z + 65536
