@@ -24,7 +24,7 @@ returns c =
     let pk = now (c .before .before .before .args .pk) in
     let comment = c .before .unsigned-at in
     let count : comment .result ≡ unsignedAt (drop 1 pk) 1 1 = comment .ensures .0 ∙ there pk 1 1 2 1 refl in
-    c .unsigned-at2 .ensures .0 ∙ there pk 1 (6 + unsignedAt (drop 1 pk) 1 1) (7 + comment .result) 4 (omega (arith, count))
+    c .unsigned-at2 .ensures .0 ∙ there pk 1 (6 + unsignedAt (drop 1 pk) 1 1) _ 4 (omega (arith, count))
 
 pub checksum-of-spec : {M : Type 1} → statement M
 checksum-of-spec =
