@@ -196,13 +196,18 @@ static void look(char *words[])
     take_back(&widths);
 }
 
+static void print_hexadecimal(const uint8_t *bytes, size_t count)
+{
+    for (size_t i = 0; i < count; i++)
+        printf("%02x", bytes[i]);
+    printf("\n");
+}
+
 /* The bytes from a place of the caller's file up to another. */
 static void print_bytes(const struct input *file, int64_t start, int64_t end)
 {
     printf(start == end ? "spelled -" : "spelled ");
-    for (int64_t i = start; i < end; i++)
-        printf("%02x", file->bytes[i]);
-    printf("\n");
+    print_hexadecimal(file->bytes + start, (size_t)(end - start));
 }
 
 static void name(char *words[], int spelled)
@@ -273,6 +278,38 @@ static void place(char *words[])
     take_back(&file);
 }
 
+static void tabled(const struct input *pk, uint32_t scale, size_t room)
+{
+    struct output area;
+    struct numbers answer;
+    lend_output(room, &area);
+    lend_numbers(&answer);
+    uint32_t code = hurlyburn_width_table(pk->bytes, pk->length, scale, area.bytes, area.length, answer.number,
+                                          HURLYBURN_WIDTH_TABLE_NUMBERS);
+    size_t records = code == 0 ? (size_t)answer.number[0] : 0;
+    if (!only_front_written(&area, HURLYBURN_WIDTH_RECORD_BYTES * records))
+        puts("guard broken");
+    else if (is_result(code, &answer, HURLYBURN_WIDTH_TABLE_NUMBERS)) {
+        for (size_t i = 0; i < records; i++)
+            print_hexadecimal(area.bytes + HURLYBURN_WIDTH_RECORD_BYTES * i, HURLYBURN_WIDTH_RECORD_BYTES);
+        printf("end %lld\n", (long long)answer.number[0]);
+    }
+    take_output_back(&area);
+}
+
+static void width_table(char *words[])
+{
+    struct input pk;
+    uint32_t scale;
+    uint64_t room;
+    if (!read_unsigned(words[2], &scale) || !read_number(words[3], LONGEST_AREA, &room) || !lend_file(words[1], &pk)) {
+        no_input();
+        return;
+    }
+    tabled(&pk, scale, (size_t)room);
+    take_back(&pk);
+}
+
 static void answer_line(char *line)
 {
     char *words[MOST_WORDS];
@@ -295,6 +332,8 @@ static void answer_line(char *line)
         scaled(words);
     else if (count == 6 && !strcmp(words[0], "place"))
         place(words);
+    else if (count == 4 && !strcmp(words[0], "widths"))
+        width_table(words);
     else
         no_input();
 }

@@ -1,6 +1,7 @@
 /* What a call of the C interface writes and what it leaves: every length of the answer array from none on, areas of every interesting
-   length, inputs of length 0. Takes a DVI file whose first page has records, a width table that is right for it, and the number of a font
-   that it defines; prints each failure, and how many tests passed and failed. */
+   length, inputs of length 0, a PK font longer than 2^32 bytes. Takes a DVI file whose first page has records, a width table that is right
+   for it, the number of a font that it defines, and a PK font: no comment, a first packet of the short form without a raster, a second of the
+   long form, the postamble byte at the end. Prints each failure, and how many tests passed and failed. */
 #include "hurlyburn.h"
 #include "lent.h"
 #include <stdio.h>
@@ -9,8 +10,9 @@
 
 #define RESOLUTION 300
 #define PAGE 1
+#define SCALE 655360
 
-static struct input file, widths;
+static struct input file, widths, pk;
 static int32_t font;
 static unsigned passed, failed;
 
@@ -89,6 +91,11 @@ static uint32_t name(size_t less, struct output *area, int64_t *answer, size_t l
     return hurlyburn_font_name(file.bytes, file.length - less, font, answer, length);
 }
 
+static uint32_t tabled(size_t less, struct output *area, int64_t *answer, size_t length)
+{
+    return hurlyburn_width_table(pk.bytes, pk.length - less, SCALE, area->bytes, area->length, answer, length);
+}
+
 static const struct call {
     const char *name;
     size_t least, written; /* of a result */
@@ -103,6 +110,7 @@ static const struct call {
     {"look", HURLYBURN_LOOK_NUMBERS, 6, look},
     {"look, absent", HURLYBURN_LOOK_NUMBERS, 1, look_absent},
     {"name", HURLYBURN_NAME_NUMBERS, 2, name},
+    {"widths", HURLYBURN_WIDTH_TABLE_NUMBERS, 1, tabled},
 };
 
 #define CALLS (sizeof calls / sizeof calls[0])
@@ -148,40 +156,69 @@ static void every_length(const struct call *call, size_t less)
 
 /* ---- the area */
 
-static void area_of(size_t length, size_t records, const uint8_t *known)
+/* An entry that writes records, so many bytes each. */
+struct writer {
+    const char *name;
+    size_t numbers, record;
+    uint32_t (*ask)(size_t less, struct output *area, int64_t *answer, size_t length);
+};
+
+static const struct writer placing = {"area of place", HURLYBURN_PLACE_NUMBERS, HURLYBURN_RECORD_BYTES, place};
+static const struct writer tabling = {"area of widths", HURLYBURN_WIDTH_TABLE_NUMBERS, HURLYBURN_WIDTH_RECORD_BYTES, tabled};
+
+static void area_of(const struct writer *writer, size_t length, size_t records, const uint8_t *known)
 {
     struct output area;
     struct numbers answer;
-    size_t bytes = HURLYBURN_RECORD_BYTES * records;
+    size_t bytes = writer->record * records;
     lend_output(length, &area);
     lend_numbers(&answer);
-    uint32_t code = place(0, &area, answer.number, HURLYBURN_PLACE_NUMBERS);
+    uint32_t code = writer->ask(0, &area, answer.number, writer->numbers);
     if (length < bytes) {
-        expect(code == 17 && answer.number[0] == 0, "a short area is not refused", "area", length);
-        expect(only_front_written(&area, 0), "a refused call writes into the area", "area", length);
-        expect(only_front_numbers_written(&answer, 1), "a refused call writes more than the place", "area", length);
+        expect(code == 17 && answer.number[0] == 0, "a short area is not refused", writer->name, length);
+        expect(only_front_written(&area, 0), "a refused call writes into the area", writer->name, length);
+        expect(only_front_numbers_written(&answer, 1), "a refused call writes more than the place", writer->name, length);
     } else {
-        expect(code == 0 && answer.number[0] == (int64_t)records, "a long area is refused", "area", length);
-        expect(!memcmp(area.bytes, known, bytes), "other records", "area", length);
-        expect(only_front_written(&area, bytes), "more is written than the records", "area", length);
+        expect(code == 0 && answer.number[0] == (int64_t)records, "a long area is refused", writer->name, length);
+        expect(!memcmp(area.bytes, known, bytes), "other records", writer->name, length);
+        expect(only_front_written(&area, bytes), "more is written than the records", writer->name, length);
     }
     take_output_back(&area);
 }
 
-static void areas(void)
+/* Every length of the area; gives what was written into a long one, which the caller takes back, and the number of records. */
+static size_t areas(const struct writer *writer, struct output *area)
+{
+    struct numbers answer;
+    lend_output(AREA, area);
+    lend_numbers(&answer);
+    uint32_t code = writer->ask(0, area, answer.number, writer->numbers);
+    size_t records = code == 0 ? (size_t)answer.number[0] : 0;
+    size_t bytes = writer->record * records;
+    expect(records > 1 && bytes < AREA, "no records to test with", writer->name, records);
+    for (size_t length = 0; length <= bytes + 2 * writer->record; length++)
+        area_of(writer, length, records, area->bytes);
+    return records;
+}
+
+static void placed_areas(void)
+{
+    struct output area;
+    size_t records = areas(&placing, &area);
+    for (size_t i = 0; i < records; i++)
+        expect(area.bytes[HURLYBURN_RECORD_BYTES * i] == 1 || area.bytes[HURLYBURN_RECORD_BYTES * i] == 2, "no record", placing.name, i);
+    take_output_back(&area);
+}
+
+/* What is written is a right table. */
+static void tabled_areas(void)
 {
     struct output area;
     struct numbers answer;
-    lend_output(AREA, &area);
+    size_t records = areas(&tabling, &area);
     lend_numbers(&answer);
-    uint32_t code = place(0, &area, answer.number, HURLYBURN_PLACE_NUMBERS);
-    size_t records = code == 0 ? (size_t)answer.number[0] : 0;
-    size_t bytes = HURLYBURN_RECORD_BYTES * records;
-    expect(records > 1 && bytes < AREA, "the page has no records to test with", "area", records);
-    for (size_t i = 0; i < records; i++)
-        expect(area.bytes[HURLYBURN_RECORD_BYTES * i] == 1 || area.bytes[HURLYBURN_RECORD_BYTES * i] == 2, "no record", "area", i);
-    for (size_t length = 0; length <= bytes + 2 * HURLYBURN_RECORD_BYTES; length++)
-        area_of(length, records, area.bytes);
+    uint32_t code = hurlyburn_check_table(area.bytes, HURLYBURN_WIDTH_RECORD_BYTES * records, answer.number, HURLYBURN_TABLE_NUMBERS);
+    expect(code == 0 && answer.number[0] == (int64_t)records, "no right table", tabling.name, records);
     take_output_back(&area);
 }
 
@@ -201,7 +238,76 @@ static void refused_place(uint32_t resolution, uint32_t page, uint32_t number)
     take_output_back(&area);
 }
 
+/* Of a copy of the font with one byte made another, or cut. */
+static void refused_widths(size_t length, size_t at, uint8_t byte, uint32_t scale, uint32_t number, int64_t place)
+{
+    struct output area, copy;
+    struct numbers answer;
+    lend_output(AREA, &area);
+    lend_output(length, &copy);
+    memcpy(copy.bytes, pk.bytes, length);
+    copy.bytes[at] = byte;
+    lend_numbers(&answer);
+    uint32_t code = hurlyburn_width_table(copy.bytes, length, scale, area.bytes, area.length, answer.number, HURLYBURN_WIDTH_TABLE_NUMBERS);
+    expect(code == number && answer.number[0] == place, "not the refusal that is tested", "widths", number);
+    expect(only_front_written(&area, 0), "a refused call writes into the area", "widths", number);
+    expect(only_front_numbers_written(&answer, 1), "a refused call writes more than the place", "widths", number);
+    take_output_back(&copy);
+    take_output_back(&area);
+}
+
+/* The first packet's flag stands at 19, its length and its code behind; the second's flag at 30. */
+static void every_refusal_of_widths(void)
+{
+    refused_widths(pk.length, 1, pk.bytes[1], 0, 22, 0);
+    refused_widths(pk.length, 1, 0, 134217728, 22, 0);
+    refused_widths(pk.length - 1, 0, 247, SCALE, 18, (int64_t)pk.length - 1);
+    refused_widths(18, 0, 247, SCALE, 18, 0);
+    refused_widths(29, 0, 247, SCALE, 18, 19);
+    refused_widths(pk.length, 1, 90, SCALE, 19, 0);
+    refused_widths(pk.length, 30, 248, SCALE, 19, 30);
+    refused_widths(pk.length, 20, 7, SCALE, 20, 19);
+    refused_widths(pk.length, 21, pk.bytes[30 + 5 + 3], SCALE, 21, 30);
+}
+
+/* ---- a font longer than 2^32 bytes: a special as long as can be, then a packet and the postamble byte */
+
+static const uint8_t far_front[] = {247, 89, 0, 0, 0, 0, 0, 0, 0, 0, 7, 0, 0, 0, 0, 0, 0, 0, 0, 243, 255, 255, 255, 255};
+static const uint8_t far_end[] = {0, 8, 65, 1, 2, 3, 4, 0, 0, 0, 0, 245};
+static const uint8_t far_record[] = {0, 0, 0, 7, 0, 10, 0, 0, 65, 0, 0, 4, 0, 1, 2, 3};
+
+static void far_font(void)
+{
+    size_t first = sizeof far_front + UINT32_MAX, length = first + sizeof far_end;
+    struct input font;
+    if (!lend_sparse(length, far_front, sizeof far_front, far_end, sizeof far_end, &font)) {
+        expect(0, "no address space", "widths", length);
+        return;
+    }
+    for (size_t less = 0; less <= sizeof far_end + 1; less++) {
+        struct output area;
+        struct numbers answer;
+        lend_output(sizeof far_record, &area);
+        lend_numbers(&answer);
+        uint32_t code = hurlyburn_width_table(font.bytes, length - less, SCALE, area.bytes, area.length, answer.number,
+                                              HURLYBURN_WIDTH_TABLE_NUMBERS);
+        size_t place = less == 1 ? length - 1 : less <= sizeof far_end ? first : 19;
+        if (less == 0) {
+            expect(code == 0 && answer.number[0] == 1, "a font longer than 2^32 is not answered", "widths", less);
+            expect(!memcmp(area.bytes, far_record, sizeof far_record) && only_front_written(&area, sizeof far_record), "another record",
+                   "widths", less);
+        } else {
+            expect(code == 18 && answer.number[0] == (int64_t)place, "not 18 at a place above 2^32", "widths", less);
+            expect(only_front_written(&area, 0), "a refused call writes into the area", "widths", less);
+        }
+        take_output_back(&area);
+    }
+    take_back(&font);
+}
+
 /* ---- inputs of length 0, lent as NULL */
+
+static const uint8_t no_packets[] = {247, 89, 0, 0, 0, 0, 0, 0, 0, 0, 7, 0, 0, 0, 0, 0, 0, 0, 0, 245};
 
 static void nothing_lent(void)
 {
@@ -225,22 +331,34 @@ static void nothing_lent(void)
     code = hurlyburn_place_page(file.bytes, file.length, widths.bytes, widths.length, RESOLUTION, PAGE, NULL, 0, answer.number,
                                 HURLYBURN_PLACE_NUMBERS);
     expect(code == 17 && answer.number[0] == 0, "an area of no bytes is not 17", "place", 0);
+    code = hurlyburn_width_table(NULL, 0, SCALE, NULL, 0, answer.number, HURLYBURN_WIDTH_TABLE_NUMBERS);
+    expect(code == 18 && answer.number[0] == 0, "the empty font is not 18 at 0", "widths", 0);
+    code = hurlyburn_width_table(pk.bytes, pk.length, SCALE, NULL, 0, answer.number, HURLYBURN_WIDTH_TABLE_NUMBERS);
+    expect(code == 17 && answer.number[0] == 0, "an area of no bytes is not 17", "widths", 0);
+    lend_numbers(&answer);
+    code = hurlyburn_width_table(no_packets, sizeof no_packets, SCALE, NULL, 0, answer.number, HURLYBURN_WIDTH_TABLE_NUMBERS);
+    expect(code == 0 && answer.number[0] == 0, "a font without packets has records", "widths", 0);
+    expect(hurlyburn_width_table(NULL, 0, 0, NULL, 0, NULL, 0) == HURLYBURN_ARRAY_TOO_SHORT, "an array of none is not 255", "widths", 0);
     expect(hurlyburn_check_file(file.bytes, file.length, NULL, 0) == HURLYBURN_ARRAY_TOO_SHORT, "an array of none is not 255", "check", 0);
 }
 
 int main(int count, char **words)
 {
-    if (count != 4 || !lend_file(words[1], &file) || !lend_file(words[2], &widths) || widths.length < 16) {
-        puts("use: bounds FILE TABLE FONT");
+    if (count != 5 || !lend_file(words[1], &file) || !lend_file(words[2], &widths) || widths.length < 16 || !lend_file(words[4], &pk) ||
+        pk.length < 42) {
+        puts("use: bounds FILE TABLE FONT PK");
         return 2;
     }
     font = (int32_t)strtoul(words[3], NULL, 10);
     for (size_t i = 0; i < CALLS; i++)
         for (size_t less = 0; less < 2; less++)
             every_length(&calls[i], less);
-    areas();
+    placed_areas();
+    tabled_areas();
     refused_place(0, PAGE, 12);
     refused_place(RESOLUTION, 0, 15);
+    every_refusal_of_widths();
+    far_font();
     nothing_lent();
     printf("%u passed, %u failed\n", passed, failed);
     return failed != 0;

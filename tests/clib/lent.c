@@ -33,6 +33,23 @@ int lend_file(const char *name, struct input *input)
     return 1;
 }
 
+int lend_sparse(size_t length, const uint8_t *front, size_t front_length, const uint8_t *end, size_t end_length, struct input *input)
+{
+    size_t pages = (length + PAGE - 1) / PAGE * PAGE;
+    uint8_t *memory = mmap(NULL, pages + PAGE, PROT_READ | PROT_WRITE, MAP_PRIVATE | MAP_ANONYMOUS | MAP_NORESERVE, -1, 0);
+    if (memory == MAP_FAILED)
+        return 0;
+    uint8_t *bytes = memory + pages - length;
+    memcpy(bytes, front, front_length);
+    memcpy(bytes + length - end_length, end, end_length);
+    *input = (struct input){bytes, length, memory, pages + PAGE};
+    if (mprotect(memory, pages, PROT_READ) || mprotect(memory + pages, PAGE, PROT_NONE)) {
+        take_back(input);
+        return 0;
+    }
+    return 1;
+}
+
 void take_back(struct input *input)
 {
     munmap(input->memory, input->memory_length);

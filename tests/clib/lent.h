@@ -19,6 +19,8 @@ struct input {
 
 /* A file, read whole; its length is 0 and its bytes NULL where it is empty. 0 if it cannot be read or is longer than LONGEST_FILE. */
 int lend_file(const char *name, struct input *input);
+/* So many bytes, all 0 but the first and the last, which are given. They take address space, and hardly any memory. 0 if there is none. */
+int lend_sparse(size_t length, const uint8_t *front, size_t front_length, const uint8_t *end, size_t end_length, struct input *input);
 void take_back(struct input *input);
 
 struct output {

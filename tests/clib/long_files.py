@@ -1,10 +1,12 @@
-"""Questions about files and tables that the desk cannot hold: up to the longest that is read, and one byte more.
+"""Questions about files, tables and fonts that the desk cannot hold: up to the longest that is read, and one byte more; PK fonts, which may have
+any length, beyond that.
 
 A case is a name and its questions; a question is a line and what the answer must start with, or None where only the two
 programs' agreement counts.
 """
 
 import dvi
+import pk
 import tables
 from dvi import MARK, NOTHING, PLAIN_UNITS, big
 
@@ -176,6 +178,69 @@ def long_tables(keep, rng):
         ]
 
 
+def long_fonts(keep):
+    """PK fonts longer than any DVI file that is read: by a special, by rasters, by many small commands, by no-ops behind the postamble; faults
+    in the middle and near the end, and numbers that reach a byte past it."""
+    one, two = pk.packet(pk.SHORT, 200, 700_000, 255), pk.packet(pk.LONG, 3, -1, -98_305)
+    sum_and_scale = (0x4BF16079, 655_360)
+    first, second = (tables.record(*sum_and_scale, code, escapement, width).hex().encode()
+                     for code, escapement, width in ((3, -2, bytes([255] * 4)), (200, 255, big(700_000, 4))))
+    both = b"%s\n%s\nend 2" % (first, second)
+
+    def ask(data, area=32):
+        return b"widths %s 655360 %d" % (keep(data), area)
+
+    def in_special(filling):
+        return pk.font(one, pk.special(b"\xf5" * filling, 4), two)
+
+    just = keep(filled(in_special, LONGEST + 1))
+    yield "a PK font a byte longer than a DVI file may be", [
+        (b"widths %s 655360 32" % just, both),
+        (b"widths %s 655360 31" % just, b"refused 17 at 0"),
+        (b"widths %s 0 32" % just, b"refused 22 at 0"),
+    ]
+    length = 17 << 20
+    data, last = filled(in_special, length), length - 1 - len(two)
+    yield "a PK font of 17 MiB", [
+        (ask(data), both),
+        (ask(data[:-1]), b"refused 18 at %d" % (length - 1)),
+        (ask(data[:-2]), b"refused 18 at %d" % last),
+        (ask(data[: last - 1]), b"refused 18 at %d" % (19 + len(one))),
+        (ask(data[:-1] + b"\xf7"), b"refused 18 at %d" % (length - 1)),
+        (ask(data[:-1] + b"\xf8"), b"refused 19 at %d" % (length - 1)),
+        (ask(data[:last] + one + pk.END), b"refused 21 at %d" % last),
+    ]
+    raster = pk.EXTENDED.longest - pk.EXTENDED.counted
+    many = [pk.packet(pk.EXTENDED, code, code, code, raster=b"\xf7" * raster) for code in range(89, -1, -1)]
+    rows = b"\n".join(tables.record(*sum_and_scale, code, code, big(code, 4)).hex().encode() for code in range(90))
+    data = pk.font(*many)
+    last = len(data) - 1 - len(many[-1])
+    yield "a PK font of the longest packets that are not long", [
+        (ask(data, 90 * tables.RECORD), rows + b"\nend 90"),
+        (ask(data, 90 * tables.RECORD - 1), b"refused 17 at 0"),
+        (ask(data[: last + 3] + b"\1" + data[last + 4 :], 90 * tables.RECORD), b"refused 21 at %d" % last),
+        (ask(data[:last] + b"\4\0\14" + data[last + 3 :], 90 * tables.RECORD), b"refused 20 at %d" % last),
+    ]
+    data = filled(lambda filling: pk.font(pk.packet(pk.LONG, 3, -1, -98_305, raster=bytes(filling)), one), LONGEST + 7)
+    yield "a PK font of one long raster", [
+        (ask(data), both),
+        (ask(data[:20] + big(dvi.unsigned(data[20:24]) + len(one) + 1, 4) + data[24:]), b"refused 18 at %d" % len(data)),
+        (ask(data[:20] + big(dvi.unsigned(data[20:24]) + len(one) + 2, 4) + data[24:]), b"refused 18 at 19"),
+        (ask(data[:20] + big((1 << 32) - 1, 4) + data[24:]), b"refused 18 at 19"),
+    ]
+    small = pk.NOTHING + pk.numeric(-1) + b"".join(pk.special(b"", size) for size in (1, 2, 3, 4))
+    data = pk.font(one, small * (LONGEST // len(small)), two, tail=1000)
+    yield "a PK font of many commands", [
+        (ask(data), both),
+        (ask(data[:-1] + pk.END), b"refused 19 at %d" % (len(data) - 1)),
+    ]
+    data = pk.font(one, two, tail=LONGEST)
+    yield "a PK font with many no-ops at its end", [
+        (ask(data), both),
+        (ask(data[:-1] + pk.END), b"refused 19 at %d" % (len(data) - 1)),
+    ]
+
+
 def cases(keep, rng):
     yield from three_pages_apart(keep)
     yield from shortest_commands(keep)
@@ -183,3 +248,4 @@ def cases(keep, rng):
     yield from many_pages(keep)
     yield from many_records(keep, rng)
     yield from long_tables(keep, rng)
+    yield from long_fonts(keep)

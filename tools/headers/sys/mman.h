@@ -10,5 +10,6 @@ int munmap(void *at, size_t length);
 #define PROT_WRITE 2
 #define MAP_PRIVATE 2
 #define MAP_ANONYMOUS 32
+#define MAP_NORESERVE 0x4000
 #define MAP_FAILED ((void *)-1)
 #endif
