@@ -126,9 +126,8 @@ uint32_t hurlyburn_look_up(const uint8_t *table, size_t table_length, uint32_t c
 
 /* The width table of a PK font at a scale, which is the font's scaled size in the DVI file's units: for each packet of the font a
    record, in the order of codes, is written into area, from its first byte on, HURLYBURN_WIDTH_RECORD_BYTES each; the bytes behind
-   them stay as they were. A font has 256 packets at most. A refusal leaves every byte of area. The table is one that
-   hurlyburn_check_table finds right; tables of several fonts, put together so that the first nine bytes of their records rise, are
-   another. answer: the number of records. Refusals 22, then 18 to 21, then 17.
+   them stay as they were. A font has 256 packets at most. A refusal leaves every byte of area. hurlyburn_check_table finds the table
+   right. answer: the number of records. Refusals 22, then 18 to 21, then 17.
 
    A record has the font's check sum and the scale, four bytes each; the code; a byte 0; two bytes for the escapement in pixels,
    which is signed; and the four bytes of the width. The greatest byte comes first. */

@@ -7,6 +7,7 @@ use asking::words::Unsigned32;
 use printing::line::Line;
 use printing::rows;
 use reader::TableMade;
+use widths::table;
 
 // widths PK SCALE AREA-BYTES
 pub fn widths(line: &[u8], file: &mut [u8], area: &mut [u8]) {
@@ -35,8 +36,8 @@ fn widths_in(line: &[u8], file: &mut [u8], area: &mut [u8]) {
 fn made(pk: &[u8], scale: u32, area: &mut [u8]) {
     match reader::width_table(pk, scale, area) {
         TableMade::Records(records) => {
-            let end = 16 * records;
-            rows::print(&area[..end], 16);
+            let end = table::RECORD_SIZE * records;
+            rows::print(&area[..end], table::RECORD_SIZE);
             Line::empty()
                 .text(b"end")
                 .count(records as u64)

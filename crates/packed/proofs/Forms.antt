@@ -169,14 +169,3 @@ sort-of opcode = go (ltb opcode 240) (ltb opcode 244) (eqb opcode 244) (eqb opco
     go false false false false a b c d =
         let differs : opcode ≡ 244 → ⊥ = eqb-false opcode 244 c in
         other (omega (arith, ltb-false opcode 244 b, differs)) (eqb-false opcode 247 d)
-
--- no command has more bytes that are always there than the preamble
-pub fixed-small : (opcode : ℕ) → fixedBytes opcode ≤ 18
-fixed-small opcode = go (sort-of opcode)
-  where
-    go : Sort opcode → fixedBytes opcode ≤ 18
-    go (packet h) = let s = form-sized opcode in omega (arith, fixed-packet opcode h, s .length-small, s .code-small)
-    go (special h k) = omega (arith, fixed-special opcode h k)
-    go (number e) = omega (arith, fixed-number opcode e)
-    go (preamble e) = omega (arith, fixed-preamble opcode e)
-    go (other h n) = omega (arith, fixed-none opcode h n)

@@ -15,7 +15,8 @@ use Rattle.widths.specs.Table.{widthRecordSize}
 use Rattle.packed.specs.declared.Scanned.{Scanned}
 use Rattle.packed.specs.Rules.{places, packets}
 use Rattle.packed.specs.Judged.{fontJudged, Note, noteOf, noted}
-use Rattle.packed.specs.Table.{Entry, tableBytes, fontTable, tableMade, recordsMade, tableArea}
+use Rattle.widths.specs.Entries.{Entry, tableBytes}
+use Rattle.packed.specs.Table.{fontTable, tableMade, recordsMade, tableArea}
 use Rattle.packed.specs.Steps.{said}
 use Rattle.packed.proofs.Standing.{judged-stands}
 use Rattle.packed.proofs.Written.{table-length}

@@ -10,10 +10,11 @@ use lib.Seq.{drop-drop, getD-drop, getD-set-same, getD-set-other}
 use borrow.Author.Tests.{ltb-true, ltb-false, lt-ltb, eqb-true, eqb-false}
 use Rattle.commands.specs.Commands.{Command, place}
 use Rattle.packed.specs.Commands.{isPacket, isPreamble, formOf, countedBytes, paramBytes}
-use Rattle.packed.specs.Packets.{codeIn, widthIn, escapementIn}
+use Rattle.packed.specs.Packets.{codeIn}
 use Rattle.packed.specs.Rules.{isPacketFor, met, fontFault, places}
 use Rattle.packed.specs.Judged.{taken}
 use Rattle.packed.specs.Table.{packetsFor}
+use Rattle.packed.specs.Noting.{IsPacket, NotedAt, none, one}
 use Rattle.packed.proofs.Forms.{fixed-packet}
 use Rattle.packed.proofs.Says.{clash}
 use Rattle.packed.proofs.Faults.{RightPacket, packet-right, counted-taken, code-taken, width-taken, escapement-taken}
@@ -78,23 +79,6 @@ module _ (pk : List ℕ) where
 
 -- ---- what the note says of a code
 
--- the packet at a place of a file is this command
-pub record IsPacket (pk : List ℕ) (code p : ℕ) (c : Command) : Type 0 where
-  pub later : 0 < p
-  pub inside : p < length pk
-  pub flag-is : c .opcode ≡ getD pk p 0
-  pub flag-small : getD pk p 0 < 240
-  pub room : p + 1 + (formOf (getD pk p 0) .length + formOf (getD pk p 0) .code) + formOf (getD pk p 0) .fields ≤ length pk
-  pub code-is : codeIn (c .opcode) (c .params) ≡ code
-  pub code-there : codeIn (c .opcode) (c .params) ≡ codeIn (getD pk p 0) (drop (p + 1) pk)
-  pub width-there : widthIn (c .opcode) (c .params) ≡ widthIn (getD pk p 0) (drop (p + 1) pk)
-  pub escapement-there : escapementIn (c .opcode) (c .params) ≡ escapementIn (getD pk p 0) (drop (p + 1) pk)
-
--- no packet has the code, or one
-pub data NotedAt (pk : List ℕ) (past : List Command) (code : ℕ) : Type 0 where
-  none : getD (places past) code 0 ≡ 0 → packetsFor code past ≡ [] → NotedAt pk past code
-  one : (c : Command) → packetsFor code past ≡ c ∷ [] → IsPacket pk code (getD (places past) code 0) c → NotedAt pk past code
-
 -- none has a code that was not met
 unmet : (code : ℕ) (past : List Command) → met code past ≡ false → packetsFor code past ≡ []
 unmet code [] e = refl
@@ -123,8 +107,6 @@ module _ (pk : List ℕ) (past : List Command) (opcode : ℕ) (rest : List ℕ) 
       record {
         later = packet-later past (taken opcode rest) right flag;
         inside = omega (arith, long);
-        flag-is = sym flag-at;
-        flag-small = omega (arith, flag-at);
         room = rw flag-at (omega (arith, long, fixed-packet opcode below));
         code-is = refl;
         code-there = rw (flag-at, rest-is) (code-taken opcode rest fits below room);

@@ -15,7 +15,7 @@ use Rattle.packed.specs.Rules.{ended, misplacedAfter, fontFault}
 use Rattle.packed.specs.Judged.{taken}
 use Rattle.packed.specs.Table.{checksumIn, fontChecksum}
 use Rattle.packed.proofs.Forms.{fixed-preamble, counted-preamble}
-use Rattle.packed.proofs.Says.{clash}
+use Rattle.packed.proofs.Says.{clash, not-true}
 use Rattle.packed.proofs.Faults.{taken-length}
 use Rattle.packed.proofs.Standing.{Standing, more}
 
@@ -36,10 +36,6 @@ both false b e = absurd (let z = clash e in omega arith)
 
 pub first-preamble : (c : Command) → misplacedAfter [] c ≡ false → c .opcode ≡ 247
 first-preamble c e = eqb-true (c .opcode) 247 (both (isPreamble (c .opcode)) _ e)
-
-not-true : (b : Bool) → not b ≡ false → b ≡ true
-not-true true e = refl
-not-true false e = absurd (let z = clash e in omega arith)
 
 pub later-other : (before : Command) (past : List Command) (c : Command) → misplacedAfter (before ∷ past) c ≡ false → c .opcode < 247
 later-other before past c e = go (ended (before ∷ past)) e

@@ -2,7 +2,7 @@
 use mathlib.Core.Path.{_≡_, refl, ap}
 use mathlib.Core.Bool.{Bool, true, false, cond, not}
 use mathlib.Core.List.{List, [], _∷_}
-use mathlib.Core.Logic.{_⊎_, inl, inr}
+use mathlib.Core.Logic.{inl, inr}
 use Prim.Native.Nat.{ℕ, zero, suc, _+_, _*_, _≤_, _<_}
 use native.Mathlib.Omega.{arith}
 use lib.Dec.{ltb}
@@ -17,7 +17,7 @@ use Rattle.widths.specs.Table.{widthRecordSize}
 use Rattle.packed.specs.Commands.{isPacket, paramBytes}
 use Rattle.packed.specs.Rules.{ended, misplacedAfter, tooShort, packetWrong, fontFault}
 use Rattle.packed.specs.Judged.{taken, fontJudgedFrom, fontJudged}
-use Rattle.packed.specs.Table.{Entry, fontTable, withRoom, tableMade, recordsMade}
+use Rattle.packed.specs.Table.{fontTable, withRoom, tableMade, recordsMade}
 use Rattle.packed.proofs.Faults.{taken-length}
 use Rattle.packed.proofs.Standing.{behind}
 

@@ -1,6 +1,6 @@
 -- What is found of a packet and of a command, case by case. Assumes nothing.
 use mathlib.Core.Path.{_≡_, refl, sym, ap, _∙_}
-use mathlib.Core.Bool.{Bool, true, false, cond, _||_}
+use mathlib.Core.Bool.{Bool, true, false, cond, _||_, not}
 use mathlib.Core.List.{List}
 use Prim.Native.Nat.{ℕ, _+_, _-_, _≤_, _<_}
 use native.Mathlib.Omega.{arith}
@@ -14,6 +14,10 @@ use Rattle.packed.specs.Steps.{PacketIs, misplacedAt, wrongFields, wrong
 
 pub clash : true ≡ false → _≡_ {A = ℕ} 0 1
 clash e = cc
+
+pub not-true : (b : Bool) → not b ≡ false → b ≡ true
+not-true true e = refl
+not-true false e = absurd (let z = clash e in omega arith)
 
 -- ---- a packet
 

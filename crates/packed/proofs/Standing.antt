@@ -1,6 +1,6 @@
 -- The commands that the judging takes off a file stand in it one after the other, and each keeps the rules where it stands. Assumes nothing.
 use mathlib.Core.Path.{_≡_, refl, sym, ap, _∙_}
-use mathlib.Core.Bool.{Bool, true, false, not}
+use mathlib.Core.Bool.{true, not}
 use mathlib.Core.List.{List, [], _∷_}
 use Prim.Native.Nat.{ℕ, zero, suc, _+_, _≤_}
 use native.Mathlib.Omega.{arith}
@@ -14,6 +14,7 @@ use Rattle.commands.specs.Commands.{Command, place}
 use Rattle.packed.specs.Commands.{paramBytes}
 use Rattle.packed.specs.Rules.{ended, fontFault}
 use Rattle.packed.specs.Judged.{taken, fontJudgedFrom, fontJudged}
+use Rattle.packed.proofs.Says.{not-true}
 use Rattle.packed.proofs.Faults.{taken-length}
 
 -- the commands of past, the newest first, stand in the file from its start on
@@ -35,10 +36,6 @@ behind pk past opcode rest here fits =
     let size = paramBytes opcode rest in
     let count : place (taken opcode rest ∷ past) ≡ place past + suc size = omega (arith, taken-length opcode rest fits) in
     ap (λ (n : ℕ). drop n pk) count ∙ sym (drop-drop (suc size) (place past) pk) ∙ ap (drop (suc size)) here
-
-not-true : (b : Bool) → not b ≡ false → b ≡ true
-not-true true e = refl
-not-true false e = absurd (let z : _≡_ {A = ℕ} 0 1 = cc in omega arith)
 
 pub never : (past : List Command) (bytes : List ℕ) (all : List Command) → fontJudgedFrom zero past bytes ≡ given all → ⊥
 unfolding fontJudgedFrom

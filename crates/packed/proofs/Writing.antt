@@ -12,11 +12,13 @@ use Rattle.commands.specs.Commands.{Command}
 use Rattle.widths.specs.Table.{widthRecordSize}
 use Rattle.packed.specs.Rules.{ended, places}
 use Rattle.packed.specs.Judged.{fontJudged}
-use Rattle.packed.specs.Table.{Entry, entryBytes, fontChecksum, entryOf, packetsFor, packetsFrom, fontTable}
+use Rattle.widths.specs.Entries.{Entry, entryBytes}
+use Rattle.packed.specs.Table.{fontChecksum, entryOf, packetsFor, packetsFrom, fontTable}
 use Rattle.packed.specs.Steps.{entryAt, Puttable, Writable, WrittenBy}
 use Rattle.packed.proofs.Says.{clash}
 use Rattle.packed.proofs.Standing.{Standing, judged-stands}
-use Rattle.packed.proofs.Noted.{NotedAt, none, one, noted-at}
+use Rattle.packed.specs.Noting.{NotedAt, none, one}
+use Rattle.packed.proofs.Noted.{noted-at}
 use Rattle.packed.proofs.Preambles.{Preambled, preambled}
 use Rattle.packed.proofs.Written.{areaWith, area-length, Below, below-start, fewer, below-next, below-all}
 

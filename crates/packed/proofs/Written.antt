@@ -13,9 +13,10 @@ use Rattle.commands.specs.Commands.{Command}
 use Rattle.widths.specs.Table.{widthRecordSize}
 use Rattle.packed.specs.declared.Packet.{Packet}
 use Rattle.packed.specs.Rules.{places}
-use Rattle.packed.specs.Table.{Entry, entryBytes, tableBytes, entryOf, packetsFor, packetsFrom}
+use Rattle.widths.specs.Entries.{Entry, entryBytes, tableBytes}
+use Rattle.packed.specs.Table.{entryOf, packetsFor, packetsFrom}
 use Rattle.packed.specs.Steps.{PacketIs, entryFrom, entryAt}
-use Rattle.packed.proofs.Noted.{NotedAt, none, one, IsPacket}
+use Rattle.packed.specs.Noting.{NotedAt, none, one, IsPacket}
 
 -- ---- a record
 

@@ -6,3 +6,4 @@ pub mod Judged
 pub mod Table
 pub mod Steps
 pub mod Starred
+pub mod Noting

@@ -35,14 +35,14 @@ met code (c ∷ past) = isPacketFor code c || met code past
 abbrev pub identification : List ℕ → ℕ
 identification params = unsignedAt params 0 1
 
--- the preamble stands first and nowhere else, a no-op alone behind the postamble byte, an opcode of no command nowhere (rule 11.5)
+-- 19 is due: another command first than the preamble with its identification, another than a no-op behind the postamble byte, elsewhere the preamble or an opcode of no command (rule 11.5)
 abbrev pub misplacedAfter : List Command → Command → Bool
 misplacedAfter [] c = not (isPreamble (c .opcode) && eqb (identification (c .params)) 89)
 misplacedAfter (before ∷ past) c = cond (ended (before ∷ past)) (not (isNoOp (c .opcode))) (leb 247 (c .opcode))
 
 -- ---- 20: the packet length
 
--- a packet has not the bytes of its fields (rule 11.6)
+-- 20 is due: a packet has not the bytes of its fields (rule 11.6)
 abbrev pub tooShort : Command → Bool
 tooShort c = ltb (countedBytes (c .opcode) (c .params)) (formOf (c .opcode) .fields)
 
@@ -52,7 +52,7 @@ tooShort c = ltb (countedBytes (c .opcode) (c .params)) (formOf (c .opcode) .fie
 abbrev pub lawfulEscapement : ℤ → Bool
 lawfulEscapement escapement = leZ (negsuc 32767) escapement && leZ escapement (pos 32767)
 
--- a code above 255 or met before, a width with another first byte than a width table's, an escapement that goes too far (rule 11.6)
+-- 21 is due: a code above 255 or met before, a width with another first byte than a width table's, an escapement that two bytes do not hold (rule 11.6)
 abbrev pub packetWrong : List Command → Command → Bool
 packetWrong past c =
     ltb 255 (codeIn (c .opcode) (c .params))

@@ -10,7 +10,8 @@ use Rattle.packed.specs.Commands.{formOf, fixedBytes, countedBytes}
 use Rattle.packed.specs.Packets.{codeIn, widthIn, escapementIn}
 use Rattle.packed.specs.Rules.{fontFault}
 use Rattle.packed.specs.Judged.{fontJudgedFrom, fontJudged}
-use Rattle.packed.specs.Table.{entryBytes, tableBytes, tableMade}
+use Rattle.widths.specs.Entries.{entryBytes, tableBytes}
+use Rattle.packed.specs.Table.{tableMade}
 
 -- a preamble without a comment: design size 10, check sum 1 2 3 4
 abbrev pub opening : List ℕ
@@ -49,7 +50,7 @@ pub record FontExample : Type 0 where
 abbrev pub example : List ℕ → Answer (List ℕ) → FontExample
 example pk printed = record { pk = pk; scale = 655360; room = 48; printed = printed }
 
--- Ξ alone; no packet; three packets with falling codes; Ξ twice; Ξ cut, without postamble, with another byte behind it, with another identification, one byte too short; a scale of 0; an area too short
+-- Ξ alone; no packet; three packets with falling codes; Ξ twice; 32,768 pixels; code 256; first width byte 1; an opcode of no command; Ξ cut, without postamble, with another byte behind it, with another identification, one byte too short; a scale of 0; an area too short
 abbrev pub fontExamples : List FontExample
 fontExamples =
     example (opening ++ xi ++ (245 ∷ 246 ∷ [])) (given (recordFor (4 ∷ 0 ∷ 0 ∷ 25 ∷ 0 ∷ 9 ∷ 199 ∷ 28 ∷ [])))
@@ -60,6 +61,10 @@ fontExamples =
     ++ recordFor (3 ∷ 0 ∷ 1 ∷ 2 ∷ 0 ∷ 0 ∷ 0 ∷ 7 ∷ [])
     ++ recordFor (4 ∷ 0 ∷ 0 ∷ 25 ∷ 0 ∷ 9 ∷ 199 ∷ 28 ∷ [])))
     ∷ example (opening ++ xi ++ xi ++ (245 ∷ [])) (refused wrongPacket 48)
+    ∷ example (opening ++ set wide 7 128 ++ (245 ∷ [])) (refused wrongPacket 19)
+    ∷ example (opening ++ set long 7 1 ++ (245 ∷ [])) (refused wrongPacket 19)
+    ∷ example (opening ++ set long 9 1 ++ (245 ∷ [])) (refused wrongPacket 19)
+    ∷ example (opening ++ (248 ∷ 245 ∷ [])) (refused misplacedInFont 19)
     ∷ example (opening ++ take 28 xi) (refused fontEnds 19)
     ∷ example (opening ++ xi) (refused fontEnds 48)
     ∷ example (opening ++ xi ++ (245 ∷ 240 ∷ 0 ∷ [])) (refused misplacedInFont 49)

@@ -22,14 +22,15 @@ use Rattle.packed.specs.Commands.{isPacket, isNoOp, isPreamble, formOf, 
 use Rattle.packed.specs.Packets.{codeIn, widthIn, escapementIn}
 use Rattle.packed.specs.Rules.{identification, lawfulEscapement, places}
 use Rattle.packed.specs.Judged.{fontJudged, Note}
-use Rattle.packed.specs.Table.{Entry, tableBytes, fontTable}
+use Rattle.widths.specs.Entries.{Entry, tableBytes}
+use Rattle.packed.specs.Table.{fontTable}
 
 -- where a command ends whose parameters start at a place, or that they are not all there
 abbrev pub ExtentIs : List ℕ → ℕ → ℕ → Extent → Type 0
 ExtentIs pk from opcode (Ends next) = (next ≡ from + paramBytes opcode (drop from pk)) × (next ≤ length pk)
 ExtentIs pk from opcode Cut = length (drop from pk) < paramBytes opcode (drop from pk)
 
--- a packet's fields fit into the bytes of a width record
+-- a packet's fields fit into four bytes each
 pub record InBytes (p : Packet) : Type 0 where
   pub code-below : p .code < 2 ^ 32
   pub width-below : p .width < 2 ^ 32
@@ -108,7 +109,7 @@ entryAt checksum scale pk at =
 pub record Puttable (pk : List ℕ) (at written room : ℕ) : Type 0 where
   pub inside : at < length pk
   pub fields-there : at + 1 + (formOf (getD pk at 0) .length + formOf (getD pk at 0) .code) + formOf (getD pk at 0) .fields ≤ length pk
-  pub space : written + 16 ≤ room
+  pub space : written + widthRecordSize ≤ room
 
 -- the table of a file that was judged can be written into an area of so many bytes
 pub record Writable (pk : List ℕ) (scale : ℕ) (noted : List ℕ) (room : ℕ) : Type 0 where

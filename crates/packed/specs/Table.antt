@@ -4,36 +4,17 @@ use mathlib.Core.Bool.{cond, not}
 use mathlib.Core.List.{List, [], _∷_, _++_, map}
 use lib.Dec.{ltb}
 use lib.ListN.{length, drop}
-use lib.IntN.{ℤ}
 use Rattle.refusals.specs.Numbers.{areaTooShort, wrongScale}
 use Rattle.refusals.specs.Answer.{Answer, refused, given, refuseIf, andThen}
-use Rattle.numbers.specs.Bytes.{unsignedAt, bytesOf, signedBytesOf}
+use Rattle.numbers.specs.Bytes.{unsignedAt}
 use Rattle.numbers.specs.Sizes.{lawfulSize}
 use Rattle.widths.specs.Table.{widthRecordSize}
+use Rattle.widths.specs.Entries.{Entry, tableBytes}
 use Rattle.commands.specs.Commands.{Command}
 use Rattle.packed.specs.Commands.{isPreamble}
 use Rattle.packed.specs.Packets.{codeIn, widthIn, escapementIn}
 use Rattle.packed.specs.Rules.{isPacketFor}
 use Rattle.packed.specs.Judged.{fontJudged}
-
--- what a width record is made of; the width is a fix word as one number (rule 11.11)
-pub record Entry : Type 0 where
-  pub checksum : ℕ
-  pub scale : ℕ
-  pub code : ℕ
-  pub escapement : ℤ
-  pub width : ℕ
-
--- its sixteen bytes, field after field, with the zero byte behind the code (rules 6.1, 11.11)
-unfoldable pub entryBytes : Entry → List ℕ
-entryBytes e =
-    bytesOf 4 (e .checksum)
-    ++ (bytesOf 4 (e .scale) ++ (bytesOf 1 (e .code) ++ (bytesOf 1 0 ++ (signedBytesOf 2 (e .escapement) ++ bytesOf 4 (e .width)))))
-
--- the bytes of entries, one after the other (rule 11.11)
-abbrev pub tableBytes : List Entry → List ℕ
-tableBytes [] = []
-tableBytes (e ∷ entries) = entryBytes e ++ tableBytes entries
 
 -- the check sum in the preamble's parameters, behind the comment and the design size (rule 11.2)
 abbrev pub checksumIn : List ℕ → ℕ

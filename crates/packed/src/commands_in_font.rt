@@ -10,6 +10,9 @@ ghost use Rattle.packed.specs.Steps.{ExtentIs};
 // Flags are below this.
 pub const FIRST_SPECIAL: u64 = 240;
 
+// A special's opcode is so much above the number of its length's bytes.
+const LAST_FLAG: usize = 239;
+
 const NUMBER: u64 = 244;
 
 pub const POSTAMBLE: u64 = 245;
@@ -63,7 +66,7 @@ pub fn fixed_bytes(opcode: u64) -> usize
         return form.length + form.code;
     }
     if opcode < NUMBER {
-        return opcode as usize - 239;
+        return opcode as usize - LAST_FLAG;
     }
     if opcode == NUMBER {
         return 4;
@@ -84,7 +87,7 @@ fn counted_bytes(pk: &[u8], from: usize, opcode: u64) -> u64
         return form.added + numbers::unsigned_at(pk, from, form.length);
     }
     if opcode < NUMBER {
-        return numbers::unsigned_at(pk, from, opcode as usize - 239);
+        return numbers::unsigned_at(pk, from, opcode as usize - LAST_FLAG);
     }
     if opcode == PREAMBLE {
         return numbers::unsigned_at(pk, from + 1, 1);

@@ -20,7 +20,7 @@ ghost use Rattle.packed.specs.Steps.{misplacedAt, InBytes, wrongFields, 
 const IDENTIFICATION: u64 = 89;
 
 // How many codes there are; of a command that is no packet, the code.
-const CODES: usize = 256;
+pub const CODES: usize = 256;
 
 // 19: whether a command may not stand at its place.
 fn is_misplaced(pk: &[u8], at: usize, opcode: u64, ended: bool) -> bool

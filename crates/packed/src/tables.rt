@@ -4,6 +4,7 @@ use crate::Packet;
 use crate::judging;
 use crate::packets;
 use refusals::Refusal;
+use widths::table;
 ghost use mathlib.Core.Path.{_≡_};
 ghost use mathlib.Core.Bool.{cond};
 ghost use mathlib.Core.List.{_++_};
@@ -11,11 +12,10 @@ ghost use Prim.Native.Nat.{_+_, _≤_, _<_};
 ghost use lib.Dec.{ltb};
 ghost use lib.ListN.{length, take, drop};
 ghost use Rattle.numbers.specs.Bytes.{unsignedAt};
-ghost use Rattle.packed.specs.Table.{entryBytes, checksumIn, tableMade, recordsMade, tableArea};
+ghost use Rattle.widths.specs.Table.{widthRecordSize};
+ghost use Rattle.widths.specs.Entries.{entryBytes};
+ghost use Rattle.packed.specs.Table.{checksumIn, tableMade, recordsMade, tableArea};
 ghost use Rattle.packed.specs.Steps.{entryFrom, entryAt, InBytes, Puttable, Writable, WrittenBy, madeSays};
-
-// How many bytes a width record has.
-const RECORD_SIZE: usize = 16;
 
 // The bytes of a width record.
 fn entry_bytes(checksum: u64, scale: u64, packet: Packet) -> [u8; 16]
@@ -64,8 +64,8 @@ fn put_record(
     written: usize,
 ) -> usize
     requires { ⌜ (0 < at → Puttable (now pk) at written (length (now out))) ⌝ }
-    ensures { λ r. ⌜ r ≡ cond (ltb 0 at) (written + 16) written ⌝ }
-    ensures { λ _. ⌜ now (out .exit) ≡ cond (ltb 0 at) (take written (now (out .entry)) ++ entryBytes (entryAt checksum scale (now (pk .entry)) at) ++ drop (written + 16) (now (out .entry))) (now (out .entry)) ⌝ }
+    ensures { λ r. ⌜ r ≡ cond (ltb 0 at) (written + widthRecordSize) written ⌝ }
+    ensures { λ _. ⌜ now (out .exit) ≡ cond (ltb 0 at) (take written (now (out .entry)) ++ entryBytes (entryAt checksum scale (now (pk .entry)) at) ++ drop (written + widthRecordSize) (now (out .entry))) (now (out .entry)) ⌝ }
 {
     if at == 0 {
         return written;
@@ -73,7 +73,7 @@ fn put_record(
     let packet = packets::packet_at(pk, at + 1, numbers::wide(pk[at]));
     let bytes = entry_bytes(checksum, scale, packet);
     areas::paste(out, written, &bytes);
-    written + RECORD_SIZE
+    written + table::RECORD_SIZE
 }
 
 // The records of the packets that are noted, in the order of their codes.
@@ -84,7 +84,7 @@ fn write_records(pk: &[u8], scale: u64, places: &[usize; 256], out: &mut [u8])
     let checksum = checksum_of(pk);
     let mut written: usize = 0;
     let mut code: usize = 0;
-    while code < 256 {
+    while code < judging::CODES {
         let at = places[code];
         written = put_record(pk, at, checksum, scale, out, written);
         code += 1;
@@ -111,7 +111,7 @@ pub fn width_table(pk: &[u8], scale: u64, out: &mut [u8]) -> Made
         });
     }
     let packets = scanned.packets;
-    if out.len() / RECORD_SIZE < packets {
+    if out.len() / table::RECORD_SIZE < packets {
         return Made::Refused(Refusal {
             number: refusals::AREA_TOO_SHORT,
             place: 0,

@@ -35,7 +35,7 @@ module _ (c : Command) (rest : List ℕ) (whole : WholeInFont c) where
   rest-back : drop (paramBytes (c .opcode) (c .params ++ rest)) (c .params ++ rest) ≡ rest
   rest-back = rw size (drop-at (c .params) rest (length (c .params)) refl)
 
-one-step : (left : ℕ) (past : List Command) (c : Command) (rest : List ℕ) → WholeInFont c → fontFault past c ≡ 0
+pub one-step : (left : ℕ) (past : List Command) (c : Command) (rest : List ℕ) → WholeInFont c → fontFault past c ≡ 0
     → fontJudgedFrom (suc left) past (c .opcode ∷ (c .params ++ rest)) ≡ fontJudgedFrom left (c ∷ past) rest
 unfolding fontJudgedFrom
 one-step left past c rest whole right =

@@ -11,14 +11,16 @@ use Rattle.refusals.specs.Answer.{given}
 use Rattle.commands.specs.Commands.{Command}
 use Rattle.packed.specs.Commands.{isPacket}
 use Rattle.packed.specs.Packets.{codeIn}
-use Rattle.packed.specs.Rules.{isPacketFor, packets}
+use Rattle.packed.specs.Rules.{isPacketFor}
 use Rattle.packed.specs.Judged.{taken, fontJudged}
-use Rattle.packed.specs.Table.{Entry, fontChecksum, entryOf, packetsFor, packetsFrom, fontTable}
+use Rattle.widths.specs.Entries.{Entry}
+use Rattle.packed.specs.Table.{fontChecksum, entryOf, packetsFor, packetsFrom, fontTable}
 use Rattle.packed.proofs.Faults.{packet-right}
 use Rattle.packed.proofs.Standing.{Standing, judged-stands}
 use Rattle.packed.proofs.Standing as standing
-use Rattle.packed.proofs.Noted.{NotedAt, noted-at}
-use Rattle.packed.proofs.Noted as noted
+use Rattle.packed.specs.Noting.{NotedAt}
+use Rattle.packed.specs.Noting as noted
+use Rattle.packed.proofs.Noted.{noted-at}
 use Rattle.packed.proofs.MadeLaws.{records-are}
 use Rattle.promises.specs.Fonts.{Among, first, later, Rising, none, more, OneForOne}
 
@@ -131,7 +133,7 @@ rising-from pk past stand checksum scale (suc left) code all = go (noted-at pk p
 
 -- ---- the theorem
 
-pub one-for-one : (pk : List ℕ) (scale : ℕ) (past : List Command) → fontJudged pk ≡ given past → OneForOne scale past (packets past) (fontTable scale past)
+pub one-for-one : (pk : List ℕ) (scale : ℕ) (past : List Command) → fontJudged pk ≡ given past → OneForOne scale past (fontTable scale past)
 one-for-one pk scale past judged =
     let stand = judged-stands pk past judged .stand in
     let make = entryOf (fontChecksum past) scale in

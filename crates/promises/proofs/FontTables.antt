@@ -22,7 +22,7 @@ use Rattle.packed.specs.Rules.{lawfulEscapement}
 use Rattle.widths.specs.declared.FixWord.{FixWord}
 use Rattle.widths.proofs.Keys.{characterKey, nine}
 use Rattle.widths.specs.Table.{widthRecordSize, recordAt, recordOf, rises, lawfulFields, wholeRecord, rightRecord, checkedFrom, checkedTable}
-use Rattle.packed.specs.Table.{Entry, entryBytes, tableBytes}
+use Rattle.widths.specs.Entries.{Entry, entryBytes, tableBytes}
 use Rattle.packed.proofs.Written.{table-length, table-append}
 use Rattle.promises.specs.Fonts.{Rising, more, Fits, Reads}
 

@@ -14,12 +14,14 @@ use Rattle.packed.specs.Commands.{formOf, fixedBytes, countedBytes}
 use Rattle.packed.specs.Packets.{codeIn, widthIn, escapementIn}
 use Rattle.packed.specs.Rules.{fontFault}
 use Rattle.packed.specs.Judged.{fontJudgedFrom, fontJudged}
-use Rattle.packed.specs.Table.{entryBytes, tableMade, recordsMade, tableArea}
+use Rattle.widths.specs.Entries.{entryBytes}
+use Rattle.packed.specs.Table.{tableMade, recordsMade, tableArea}
 use Rattle.packed.specs.Starred.{opening, xi, recordFor}
 use Rattle.reader.specs.declared.TableMade.{TableMade}
 use Rattle.reader.specs.declared.TableMade.the-variants as TableMade
 use Rattle.reader.specs.Answers.{NotMade}
 use Rattle.reader.proofs.width_table.Reads as width-table
+use Rattle.promises.specs.Fonts.{IsXi}
 use Rattle.promises.proofs.OneToOne.{made-one-to-one}
 
 -- the font with the one packet of appendix C, and its table
@@ -40,12 +42,6 @@ xi-area = refl
 empty-refused : recordsMade (tableMade [] 655360 16) ≡ refused fontEnds 0
 unfolding fontJudgedFrom fontJudged
 empty-refused = refl
-
--- the call is for that font, with an area of sixteen zeros
-pub record IsXi (pk : List ℕ) (scale : ℕ) (area : List ℕ) : Type 0 where
-  pub pk-is : pk ≡ opening ++ xi ++ (245 ∷ 246 ∷ [])
-  pub scale-is : scale ≡ 655360
-  pub area-is : area ≡ replicate 16 0
 
 module _ (κs : Lfts 2) (pk : _) (scale : ℕ) (area : _) (is : IsXi (now pk) scale (now area)) (r : TableMade) (x : _) (post : width-table.Post κs (pk, (scale, (area, tt))) r x) where
   same : tableMade (now pk) scale (length (now area)) ≡ tableMade xiFont 655360 16

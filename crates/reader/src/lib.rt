@@ -257,9 +257,9 @@ pub fn width_table(pk: &[u8], scale: u32, out: &mut [u8]) -> TableMade
 {
     match tables::width_table(pk, scale as u64, out) {
         Made::Records(records) => TableMade::Records(records),
-        Made::Refused(why) => TableMade::Refused {
-            number: why.number,
-            place: why.place,
+        Made::Refused(reason) => TableMade::Refused {
+            number: reason.number,
+            place: reason.place,
         },
     }
 }

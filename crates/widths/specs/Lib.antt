@@ -4,3 +4,4 @@ pub mod LookUp
 pub mod Steps
 pub mod Starred
 pub mod AsBytes
+pub mod Entries

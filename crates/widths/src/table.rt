@@ -14,7 +14,7 @@ ghost use Rattle.widths.specs.LookUp.{metricOf, walk};
 ghost use Rattle.widths.specs.Steps.{keyNumber, KeyAt, reaches, LeastKey, lawfulRest, tableSays, foundAt, Among, FirstNotBelow};
 
 // The layout of a width record: its size, and where the fields after check sum and scale start.
-const RECORD_SIZE: usize = 16;
+pub const RECORD_SIZE: usize = 16;
 
 const CODE_AT: usize = 8;
 

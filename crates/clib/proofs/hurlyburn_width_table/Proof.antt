@@ -7,7 +7,8 @@ use borrow.Author.Needs.{needs}
 use denote.Ref.{now}
 use lib.ListN.{length}
 use Rattle.refusals.specs.Answer.{Answer}
-use Rattle.packed.specs.Table.{Entry, tableMade, recordsMade, tableArea}
+use Rattle.widths.specs.Entries.{Entry}
+use Rattle.packed.specs.Table.{tableMade, recordsMade, tableArea}
 use Rattle.reader.specs.declared.TableMade as reader
 use Rattle.reader.specs.Answers.{madeAnswer}
 use Rattle.clib.specs.Answers.{ifRoom, tableNumbers}

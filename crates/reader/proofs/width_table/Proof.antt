@@ -6,7 +6,8 @@ use lib.ListN.{length}
 use denote.Ref.{now}
 use Rattle.refusals.specs.Answer.{Answer}
 use Rattle.packed.specs.declared.Made.{Made}
-use Rattle.packed.specs.Table.{Entry, tableMade, recordsMade}
+use Rattle.widths.specs.Entries.{Entry}
+use Rattle.packed.specs.Table.{tableMade, recordsMade}
 use Rattle.packed.specs.Steps.{madeSays}
 use Rattle.packed.proofs.MadeLaws.{refused-kept}
 use Rattle.reader.proofs.width_table.Statement.{statement}
@@ -18,8 +19,8 @@ width-table-requires c κs = search needs
 enum-known-records : tie.Need-enum-known-records
 enum-known-records c = search needs
 
-enum-known-why : tie.Need-enum-known-why
-enum-known-why c = search needs
+enum-known-reason : tie.Need-enum-known-reason
+enum-known-reason c = search needs
 
 -- what the room answered
 module _ (p : tie.After-width-table) where
@@ -46,7 +47,7 @@ same-length-2 c = search needs
 returns-2 : tie.Need-returns-2
 returns-2 c =
     let p = c .before .before .before .before .before in
-    let r = c .before .why .given in
+    let r = c .before .reason .given in
     let said = answer-is p _ (r .1) in
     (said, (p .width-table .ensures .1, λ refuses. p .width-table .ensures .1 ∙ refused-kept (meant p) (now (start p .args .out)) (r .0 .0 .number) (r .0 .0 .place) (sym said)))
 
@@ -56,7 +57,7 @@ width-table-spec =
     (tie.spec
     width-table-requires
     enum-known-records
-    enum-known-why
+    enum-known-reason
     same-length
     returns
     same-length-2

@@ -6,7 +6,7 @@ use native.Mathlib.Omega.{arith}
 use Rattle.numbers.specs.Bytes.{bytesOf}
 use Rattle.numbers.specs.Signs.{toTwos}
 use Rattle.numbers.proofs.Signed.{read}
-use Rattle.packed.specs.Table.{Entry, entryBytes}
+use Rattle.widths.specs.Entries.{Entry, entryBytes}
 use Rattle.packed.specs.Steps.{entryFrom}
 use borrow.Author.Needs.{needs}
 use Rattle.packed.proofs.tables.entry_bytes.Statement.{statement}

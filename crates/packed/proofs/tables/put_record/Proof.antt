@@ -2,7 +2,7 @@
 use Rattle.packed.proofs.Written.{entry-length, read-entry}
 use Rattle.packed.specs.Steps.{entryAt}
 use Rattle.packed.specs.Commands.{formOf}
-use Rattle.packed.specs.Table.{entryBytes}
+use Rattle.widths.specs.Entries.{entryBytes}
 use borrow.Author.Tests.{lt-ltb, le-ltb}
 use denote.Ref.{now}
 use lib.ListN.{length, take, drop}
