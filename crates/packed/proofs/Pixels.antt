@@ -1,4 +1,4 @@
--- Rounding an escapement: by sign and magnitude, how far it goes, and that it is the nearest. Assumes nothing.
+-- Rounding an escapement: by sign and magnitude, and how far it goes. Assumes nothing.
 use mathlib.Core.Path.{_≡_, refl, ap}
 use mathlib.Core.Bool.{true, false}
 use Prim.Native.Nat.{ℕ, suc, _+_, _/_, _^_, _≤_}

@@ -50,7 +50,7 @@ pub record FontExample : Type 0 where
 abbrev pub example : List ℕ → Answer (List ℕ) → FontExample
 example pk printed = record { pk = pk; scale = 655360; room = 48; printed = printed }
 
--- Ξ alone; no packet; three packets with falling codes; Ξ twice; 32,768 pixels; code 256; first width byte 1; an opcode of no command; Ξ cut, without postamble, with another byte behind it, with another identification, one byte too short; a scale of 0; an area too short
+-- Ξ alone; no packet; three packets with falling codes; Ξ twice; 32,770 pixels; code 258; first width byte 1; an opcode of no command; Ξ cut, without postamble, with a special behind it; another identification; a packet of one byte too few; a scale of 0; an area too short
 abbrev pub fontExamples : List FontExample
 fontExamples =
     example (opening ++ xi ++ (245 ∷ 246 ∷ [])) (given (recordFor (4 ∷ 0 ∷ 0 ∷ 25 ∷ 0 ∷ 9 ∷ 199 ∷ 28 ∷ [])))

@@ -9,6 +9,7 @@ use lib.Dec.{ltb}
 use lib.ListN.{length, take, drop, length-append, take-append-drop, length-drop}
 use borrow.Author.Tests.{lt-ltb, le-ltb, ltb-true, ltb-false}
 use Rattle.refusals.specs.Answer.{Answer, refused, given, refuseIf}
+use Rattle.refusals.proofs.Answer.{given-not-refused}
 use Rattle.commands.specs.Commands.{Command, written, place}
 use Rattle.packed.specs.Commands.{paramBytes}
 use Rattle.packed.specs.Rules.{ended, fontFault}
@@ -47,9 +48,6 @@ Begins past bytes number at =
 same-refusal : (number place n p : ℕ) → _≡_ {A = Answer (List Command)} (refused number place) (refused n p) → (number ≡ n) × (place ≡ p)
 same-refusal number place n p e = (cc, cc)
 
-no-refusal : (past : List Command) (n p : ℕ) → _≡_ {A = Answer (List Command)} (given past) (refused n p) → ⊥
-no-refusal past n p e = let z : _≡_ {A = ℕ} 0 1 = cc in omega arith
-
 here : (past : List Command) (rest : List ℕ) (due number at : ℕ) → DueInFont past rest due → _≡_ {A = Answer (List Command)} (refused due (place past)) (refused number at) → Begins past rest number at
 here past rest due number at is e =
     let (same, there) = same-refusal due (place past) number at e in
@@ -61,7 +59,7 @@ refused-from zero past bytes number at h e = absurd (omega arith)
 refused-from (suc left) past [] number at h e = go (ended past) refl e
   where
     go : (b : Bool) → ended past ≡ b → refuseIf (not b) 18 (place past) (given past) ≡ refused number at → Begins past [] number at
-    go true f e = absurd (no-refusal past number at e)
+    go true f e = absurd (given-not-refused past number at e)
     go false f e = here past [] 18 number at (no-postamble f) e
 refused-from (suc left) past (opcode ∷ rest) number at h e =
     go (ltb (length rest) (paramBytes opcode rest)) (ltb 0 (fontFault past (taken opcode rest))) refl refl e (refused-from left (taken opcode rest ∷ past) (drop (paramBytes opcode rest) rest) number at)

@@ -29,12 +29,12 @@ abbrev pub upon : List Command → List Command → List Command
 upon past [] = past
 upon past (c ∷ cs) = upon (c ∷ past) cs
 
--- one of a list (rule 11.1)
+-- one of a list (rule 11.12)
 pub data Among {A : Type 0} (x : A) : List A → Type 0 where
   first : {xs : List A} → Among x (x ∷ xs)
   later : {y : A} {xs : List A} → Among x xs → Among x (y ∷ xs)
 
--- codes rise from entry to entry, from this one on at the least, and are bytes (rule 11.12)
+-- codes rise from entry to entry and are bytes; the first is not below this number (rule 11.12)
 pub data Rising : ℕ → List Entry → Type 0 where
   none : {least : ℕ} → Rising least []
   more : {least : ℕ} (e : Entry) {entries : List Entry} → least ≤ e .code → e .code < 256 → Rising (suc (e .code)) entries → Rising least (e ∷ entries)
@@ -113,7 +113,7 @@ pub record FontRefused (pk : List ℕ) (number at : ℕ) : Type 0 where
   pub due : DueInFont (upon [] list) rest number
   pub there : at ≡ place (upon [] list)
 
--- the call is for the font of appendix C's packet, with an area of sixteen zeros
+-- the call is for the font of appendix C's packet, at scale 655,360, with an area of sixteen zeros
 pub record IsXi (pk : List ℕ) (scale : ℕ) (area : List ℕ) : Type 0 where
   pub pk-is : pk ≡ opening ++ xi ++ (245 ∷ 246 ∷ [])
   pub scale-is : scale ≡ 655360
