@@ -8,17 +8,18 @@ use lib.Dec.{ltb, eqb}
 use lib.ListN.{length, take, drop, getD, set, replicate, length-drop, length-set, length-replicate, getD-replicate, List·getD-eq-default}
 use lib.Seq.{drop-drop, getD-drop, getD-set-same, getD-set-other}
 use borrow.Author.Tests.{ltb-true, ltb-false, lt-ltb, eqb-true, eqb-false}
+use Rattle.refusals.specs.Answer.{given}
 use Rattle.commands.specs.Commands.{Command, place}
 use Rattle.packed.specs.Commands.{isPacket, isPreamble, formOf, countedBytes, paramBytes}
 use Rattle.packed.specs.Packets.{codeIn}
 use Rattle.packed.specs.Rules.{isPacketFor, met, fontFault, places}
-use Rattle.packed.specs.Judged.{taken}
+use Rattle.packed.specs.Judged.{taken, fontJudged}
 use Rattle.packed.specs.Table.{packetsFor}
 use Rattle.packed.specs.Noting.{IsPacket, NotedAt, none, one}
 use Rattle.packed.proofs.Forms.{fixed-packet}
 use Rattle.packed.proofs.Says.{clash}
 use Rattle.packed.proofs.Faults.{RightPacket, packet-right, counted-taken, code-taken, width-taken, escapement-taken}
-use Rattle.packed.proofs.Standing.{Standing, start, more}
+use Rattle.packed.proofs.Standing.{Standing, start, more, judged-stands}
 
 -- ---- where a packet stands
 
@@ -107,6 +108,8 @@ module _ (pk : List ℕ) (past : List Command) (opcode : ℕ) (rest : List ℕ) 
       record {
         later = packet-later past (taken opcode rest) right flag;
         inside = omega (arith, long);
+        flag = rw flag-at flag;
+        stands = rw (flag-at, rest-is) refl;
         room = rw flag-at (omega (arith, long, fixed-packet opcode below));
         code-is = refl;
         code-there = rw (flag-at, rest-is) (code-taken opcode rest fits below room);
@@ -153,3 +156,7 @@ module _ (pk : List ℕ) (past : List Command) (opcode : ℕ) (rest : List ℕ) 
 pub noted-at : (pk : List ℕ) (past : List Command) → Standing pk past → (code : ℕ) → NotedAt pk past code
 noted-at pk [] start code = none (blank code) refl
 noted-at pk (c ∷ past) (more opcode rest stand here fits right) code = noted-more pk past opcode rest here fits code right (noted-at pk past stand code) (isPacket opcode) refl
+
+-- the note of a file that was judged
+pub judged-noted : (pk : List ℕ) (past : List Command) → fontJudged pk ≡ given past → (code : ℕ) → NotedAt pk past code
+judged-noted pk past judged code = noted-at pk past (judged-stands pk past judged .stand) code
