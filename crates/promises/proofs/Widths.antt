@@ -1,22 +1,15 @@
--- TeX's chain of three divisions is one division; below 2^23 it divides scale times fix word by 2^20, downwards. Assumes nothing.
+-- Below 2^23 a width is the scale times the fix word over 2^20, cut downwards. Assumes nothing.
 use mathlib.Core.Path.{_≡_, ap, _∙_}
 use mathlib.Core.Bool.{cond}
-use Prim.Native.Nat.{ℕ, _+_, _*_, _/_, _<_}
-use native.Mathlib.Nat.{div-div-eq-div-mul}
-use native.Mathlib.Omega.{arith}
+use Prim.Native.Nat.{ℕ, _*_, _/_, _<_}
 use lib.Dec.{eqb}
 use lib.IntN.{pos, _-ℤ_}
 use borrow.Author.Tests.{lt-leb}
 use Rattle.widths.specs.declared.FixWord.{FixWord}
 use Rattle.widths.specs.declared.Halved.{Halved}
-use Rattle.widths.specs.Scaling.{halving, halved, share, signedShare, scaledBy}
-use Rattle.promises.specs.Fractions.{fraction}
-
--- the three divisions of rule 6.6 come to one, by 65536 × (256/α)
-pub chain-is-one-division : (k : Halved) (w : FixWord) → share k w ≡ fraction w * k .z / (65536 * (256 / k .alpha))
-chain-is-one-division k w =
-    let two : (w .b3 * k .z / 256 + w .b2 * k .z) / 256 + w .b1 * k .z ≡ fraction w * k .z / 65536 = omega arith in
-    ap (λ (n : ℕ). n / (256 / k .alpha)) two ∙ div-div-eq-div-mul (fraction w * k .z) 65536 (256 / k .alpha)
+use Rattle.widths.specs.Scaling.{halving, halved, signedShare, scaledBy}
+use Rattle.widths.specs.AsBytes.{fraction}
+use Rattle.widths.proofs.OneDivision.{chain-is-one-division}
 
 -- below 8,388,608 nothing is halved
 not-halved : (scale : ℕ) → scale < 8388608 → halved scale ≡ record { z = scale; alpha = 16 }

@@ -1,7 +1,6 @@
 pub mod Starred
 pub mod Calls
 pub mod Standing
-pub mod Fractions
 pub mod OfTheList
 pub mod StatedDepth
 pub mod Bars

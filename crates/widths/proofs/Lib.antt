@@ -1,4 +1,5 @@
 pub mod Halving
+pub mod OneDivision
 pub mod Keys
 pub mod TableLaws
 pub mod Search

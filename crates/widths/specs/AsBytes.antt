@@ -1,5 +1,5 @@
 -- Bytes and their order. What the laws on keys and on widths are stated with. Assumes nothing.
-use Prim.Native.Nat.{ℕ, _*_, _<_}
+use Prim.Native.Nat.{ℕ, _+_, _*_, _<_}
 use mathlib.Core.Bool.{Bool, false, cond}
 use mathlib.Core.List.{List, [], _∷_}
 use lib.Dec.{ltb, eqb}
@@ -26,3 +26,7 @@ pub record LastBytes (w : FixWord) : Type 0 where
   pub b1-below : w .b1 < 256
   pub b2-below : w .b2 < 256
   pub b3-below : w .b3 < 256
+
+-- its last three bytes as one number (rules 1.2, 6.1)
+abbrev pub fraction : FixWord → ℕ
+fraction w = w .b1 * 65536 + w .b2 * 256 + w .b3
