@@ -7,11 +7,15 @@ use Rattle.refusals.specs.Numbers.{wrongWidthTable}
 use Rattle.refusals.specs.Answer.{Answer, given, refuseIf}
 use Rattle.numbers.specs.Sizes.{lawfulSize}
 use Rattle.widths.specs.declared.FixWord.{FixWord}
-use Rattle.widths.specs.declared.Halved.{Halved}
 
 -- a fix word by its four bytes (rule 6.1)
 abbrev pub fixWord : ℕ → ℕ → ℕ → ℕ → FixWord
 fixWord b0 b1 b2 b3 = record { b0 = b0; b1 = b1; b2 = b2; b3 = b3 }
+
+-- z and α after the halving (rule 6.6)
+pub record Halved : Type 0 where
+  pub z : ℕ
+  pub alpha : ℕ
 
 -- z halved and α doubled until z is below 2^23, at most so many times (rule 6.6)
 unfoldable pub halving : ℕ → ℕ → ℕ → Halved

@@ -1,29 +1,33 @@
 -- What the code's own steps give and keep; no promise cites this. Assumes nothing.
-use Prim.Native.Nat.{ℕ, _+_, _*_, _%_, _^_, _≤_, _<_}
+use Prim.Native.Nat.{ℕ, _+_, _*_, _/_, _%_, _^_, _≤_, _<_}
 use mathlib.Core.Path.{_≡_}
-use mathlib.Core.Bool.{Bool, true, not, _&&_}
+use mathlib.Core.Bool.{Bool, true, cond, not, _&&_}
 use mathlib.Core.List.{List}
 use lib.Dec.{ltb, eqb}
 use lib.ListN.{getD}
+use lib.IntN.{ℤ, pos, _-ℤ_}
 use Rattle.refusals.specs.Numbers.{wrongWidthTable}
 use Rattle.refusals.specs.Answer.{Answer, refused, given}
 use Rattle.numbers.specs.Bytes.{unsignedAt}
-use Rattle.widths.specs.declared.Halved.{Halved}
+use Rattle.widths.specs.declared.FixWord.{FixWord}
 use Rattle.widths.specs.declared.table.Key.{Key}
 use Rattle.widths.specs.declared.table.Table.{Table}
 use Rattle.widths.specs.declared.table.Table.the-variants.{Right, Wrong}
 use Rattle.widths.specs.declared.table.Place.{Place}
 use Rattle.widths.specs.declared.table.Place.the-variants.{At, Nowhere}
 use Rattle.numbers.specs.Sizes.{lawfulSize}
-use Rattle.widths.specs.Scaling.{lawfulFirst}
+use Rattle.widths.specs.Scaling.{halved, lawfulFirst}
+use Rattle.widths.specs.AsBytes.{fraction}
 use Rattle.widths.specs.Table.{WidthRecord, recordOf}
 use Rattle.widths.specs.LookUp.{LookUp, found, absent, metricOf}
 
--- z and α after the halving
-pub record Narrow (k : Halved) : Type 0 where
-  pub z-small : k .z < 8388608
-  pub alpha-some : 1 ≤ k .alpha
-  pub alpha-small : k .alpha ≤ 256
+-- what the first byte of a fix word counts at a scale
+unfoldable pub weightOf : ℕ → ℕ
+weightOf scale = halved scale .alpha * halved scale .z
+
+-- a width by what the first byte counts: the other three are a number of 2^24ths of it
+abbrev pub weighedBy : ℕ → FixWord → ℤ
+weighedBy weight w = let positive = fraction w * weight / 16777216 in cond (eqb (w .b0) 255) (pos positive -ℤ pos weight) (pos positive)
 
 -- a key as the number of its nine bytes
 abbrev pub keyNumber : Key → ℕ

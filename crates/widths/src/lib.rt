@@ -10,12 +10,6 @@ pub struct FixWord {
     pub b3: u8,
 }
 
-// A scale's z and α after the halving
-pub struct Halved {
-    pub z: u64,
-    pub alpha: u64,
-}
-
 // What the table says of a character: its escapement in pixels and its width
 pub struct Metric {
     pub escapement: i64,
