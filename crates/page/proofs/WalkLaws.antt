@@ -16,6 +16,7 @@ use Rattle.commands.specs.Commands.{Command, kindOfCommand, whole, front}
 use Rattle.list.specs.Past.{isA, depthAfter}
 use Rattle.list.specs.Rules.{wrongAtDepth}
 use Rattle.volume.specs.History.{history}
+use Rattle.widths.specs.Steps.{weightOf}
 use Rattle.list.proofs.Arms.{is-kind}
 use Rattle.volume.proofs.Going.{after-command}
 use Rattle.state.specs.declared.Level.{Level}
@@ -66,9 +67,13 @@ popped-bounded s [] all bounded kept = (bounded, kept)
 popped-bounded s (l ∷ levels) all bounded kept = (all .0, all .1)
 
 -- and no other font
-pub popped-known : (s : State) (levels : List Level) → Known (s .font) → Known (poppedTo s levels .font)
-popped-known s [] known = known
-popped-known s (l ∷ levels) known = known
+pub popped-font : (s : State) (levels : List Level) → poppedTo s levels .font ≡ s .font
+popped-font s [] = refl
+popped-font s (l ∷ levels) = refl
+
+-- what the first byte of a fix word counts is kept for the page's font
+abbrev pub Weighs : Page → ℕ → Type 0
+Weighs page weight = weight ≡ weightOf (page .font .scale)
 
 -- ---- what is still to come
 

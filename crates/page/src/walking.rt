@@ -9,6 +9,7 @@ use state::Page;
 use state::moving::Direction;
 use state::moving::Stride;
 use state::registers;
+use widths::scaling;
 ghost use mathlib.Core.Path.{_≡_};
 ghost use lib.ListN.{length};
 ghost use Rattle.volume.specs.History.{history};
@@ -23,7 +24,8 @@ fn exchanged(hints: &mut [usize; 256], before: u64, after: u64, hint: usize) -> 
     hints[(after % 256) as usize]
 }
 
-// Walks over the page whose commands start at a place, counts what they add, and writes each record that the area has room for.
+// Walks over the page whose commands start at a place, counts what they add, and writes each record that the area has room for. A font's scale is halved
+// where the font is selected, once for all its characters.
 pub fn walk(
     file: &[u8],
     widths: &[u8],
@@ -45,12 +47,24 @@ pub fn walk(
     };
     let mut at = start;
     let mut hint: usize = 0;
+    let mut weight: u64 = 0;
     let mut hints = [0usize; 256];
     let table = commands::length_table();
     loop {
         let now = page.now;
         let depth = page.depth;
-        let step = steps::step_at(&table, file, widths, fonts, terms, at, now, page.font, hint);
+        let step = steps::step_at(
+            &table,
+            file,
+            widths,
+            fonts,
+            terms,
+            at,
+            now,
+            page.font,
+            weight,
+            hint,
+        );
         let asked = step.asked;
         let adds = asked.adds;
         let turn = asked.turn;
@@ -90,6 +104,7 @@ pub fn walk(
             }
             Turn::Select(font) => {
                 hint = exchanged(&mut hints, page.font.number, font.number, hint);
+                weight = scaling::weight_of(font.scale);
                 page = page.select(font);
             }
             Turn::End => return Walked::Through(counts),

@@ -15,13 +15,14 @@ use Rattle.numbers.specs.Signs.{toTwos}
 use Rattle.numbers.proofs.Signed.{to-below}
 use Rattle.widths.specs.Scaling.{scaledBy}
 use Rattle.widths.specs.LookUp.{found, codeByte, walk}
-use Rattle.widths.specs.Steps.{foundAt, Among}
+use Rattle.widths.specs.Steps.{weighedBy, foundAt, Among}
+use Rattle.widths.proofs.OneDivision.{one-division, weight-small}
 use Rattle.widths.proofs.TableLaws.{record-inside}
 use Rattle.state.specs.declared.moving.Direction.the-variants as Direction
 use Rattle.page.specs.declared.Turn.{Turn}
 use Rattle.page.specs.declared.Turn.the-variants as Turn
 use Rattle.page.specs.Steps.{unlessLeft}
-use Rattle.page.proofs.Found.{Hit, walk-found, found-scale, found-first, found-width, found-escapement}
+use Rattle.page.proofs.Found.{Hit, walk-found, found-width, found-escapement}
 use Rattle.page.proofs.CharacterLaws.{absent-asks, Present, put-asks, set-asks}
 use Rattle.page.proofs.Words.{word}
 use Rattle.page.proofs.steps.character.Statement.{statement}
@@ -88,10 +89,10 @@ found-is c =
     sym (looked-is (k .before .before)) ∙ ap (foundAt (now (start c .args .widths))) (k .index .given .1) ∙ ap found (sym (c .metric-of .ensures))
 
 hit : (c : tie.After-metric-of) → let a = start c .args in
-    Hit (now (a .widths)) (a .terms .rows) (a .font .checksum) (a .font .scale) (codeByte (a .code)) (c .metric-of .result)
+    Hit (now (a .widths)) (c .metric-of .result)
 hit c =
     let a = start c .args in
-    walk-found (now (a .widths)) (a .terms .rows) (a .font .checksum) (a .font .scale) (codeByte (a .code)) (c .metric-of .result) (found-is c)
+    walk-found (now (a .widths)) (a .font .checksum) (a .font .scale) (codeByte (a .code)) (c .metric-of .result) (a .terms .rows) (found-is c)
 
 bytes : (c : tie.After-metric-of) (i : ℕ) → getD (now (start c .args .widths)) i 0 < 256
 bytes c i = c .before .before .before .before .before .before .before .shared-slice-known .given i .fits
@@ -113,15 +114,18 @@ returns c =
     let m = c .before .before .before in
     put-asks (present m) (not-true (start m .args .sets) (c .if1 .taken))
 
-scale-width-requires : tie.Need-scale-width-requires
-scale-width-requires c κs =
-    let m = c .before .before .before in
-    let judged = start m .pre .0 .0 in
-    (found-scale (hit m) judged, found-first (hit m) judged)
+weighed-requires : tie.Need-weighed-requires
+weighed-requires c κs =
+    let s = start (c .before .before .before) in
+    omega (arith, s .pre .1 .2, weight-small (s .args .font .scale) (s .pre .0 .1 .scale-small))
 
-width-is : (c : tie.After-scale-width) → let m = c .before .before .before .before in
-    toZ w64 (ofZ w64 (c .scale-width .result)) ≡ scaledBy (start m .args .font .scale) (m .metric-of .result .width)
-width-is c = toZ-ofZ (sfits-of (c .scale-width .ok)) ∙ c .scale-width .ensures
+width-is : (c : tie.After-weighed) → let m = c .before .before .before .before in
+    toZ w64 (ofZ w64 (c .weighed .result)) ≡ scaledBy (start m .args .font .scale) (m .metric-of .result .width)
+width-is c =
+    let m = c .before .before .before .before in
+    let s = start m in
+    toZ-ofZ (sfits-of (c .weighed .ok)) ∙ c .weighed .ensures ∙ ap (λ (weight : ℕ). weighedBy weight (m .metric-of .result .width)) (s .pre .1 .2)
+    ∙ one-division (s .args .font .scale) (s .pre .0 .1 .scale-small) (m .metric-of .result .width)
 
 unless-left-requires : tie.Need-unless-left-requires
 unless-left-requires c κs =
@@ -158,7 +162,7 @@ character-spec =
     add-hint
     sub-hint
     returns
-    scale-width-requires
+    weighed-requires
     unless-left-requires
     returns-2
     returns-3)

@@ -43,7 +43,7 @@ part-params-end c = omega (arith, read c .inside)
 asked-by-requires : tie.Need-asked-by-requires
 asked-by-requires c κs =
     let s = c .before .before .before .before .before .before .before in
-    ((read (c .before) .good, s .pre .0), (s .pre .1 .0, s .pre .1 .1, s .pre .1 .2, s .pre .1 .3))
+    ((read (c .before) .good, s .pre .0), (s .pre .1 .0, s .pre .1 .1, s .pre .1 .2, s .pre .1 .3, s .pre .1 .5))
 
 -- where a command stands, it is read
 returns : tie.Need-returns

@@ -9,8 +9,11 @@ use lib.IntN.{ℤ}
 use denote.Ref.{now}
 use mir.Syntax.{w64}
 use mir.Val.{toZ, ofZ}
+use Rattle.widths.specs.Steps.{weightOf}
+use Rattle.widths.proofs.OneDivision.{weightless}
 use Rattle.volume.specs.History.{history}
 use Rattle.state.specs.declared.Level.{Level}
+use Rattle.state.specs.declared.Font.{Font}
 use Rattle.state.specs.declared.Page.{Page}
 use Rattle.state.specs.declared.moving.Direction.{Direction}
 use Rattle.state.specs.declared.moving.Direction.the-variants as Direction
@@ -25,19 +28,19 @@ use Rattle.page.specs.declared.Turn.the-variants as Turn
 use Rattle.page.specs.declared.Step.{Step}
 use Rattle.page.specs.Placing.{continues, withNumbers}
 use Rattle.page.specs.Blocks.{inside}
-use Rattle.page.specs.Steps.{addedOf, did, termsSetting, StepAsks, Stays, Safe, turnFrame}
+use Rattle.page.specs.Steps.{addedOf, did, termsSetting, Known, StepAsks, Stays, Safe, turnFrame}
 use Rattle.page.proofs.Frames.{isEnding, depthBy}
 use Rattle.page.proofs.PageRuns.{runs-inside}
-use Rattle.page.proofs.WalkLaws.{Sound, state-sound, popped-bounded, popped-known, Walking, starting, advances, few, in-ranges, onwards, leveled, push-room, pop-room, ended, left}
+use Rattle.page.proofs.WalkLaws.{Sound, state-sound, popped-bounded, popped-font, Weighs, Walking, starting, advances, few, in-ranges, onwards, leveled, push-room, pop-room, ended, left}
 use Rattle.page.proofs.Words.{word, small-word}
 use Rattle.page.proofs.walking.walk.Statement.{statement}
 use Rattle.page.proofs.walking.walk.Tie as tie
 
 abbrev Inv-loop : tie.InvT-loop
-Inv-loop file widths fonts terms start out₀ ruler page₀ counts₀ at₀ hint₀ hints₀ table out page counts at hint hints = Walking file fonts widths terms start out₀ out page counts at
+Inv-loop file widths fonts terms start out₀ ruler page₀ counts₀ at₀ hint₀ weight₀ hints₀ table out page counts at hint weight hints = Walking file fonts widths terms start out₀ out page counts at × Weighs page weight
 
 abbrev μ-loop : tie.MeasureT-loop
-μ-loop file widths fonts terms start out₀ ruler page₀ counts₀ at₀ hint₀ hints₀ table out page counts at hint hints = length file - at
+μ-loop file widths fonts terms start out₀ ruler page₀ counts₀ at₀ hint₀ weight₀ hints₀ table out page counts at hint weight hints = length file - at
 
 fresh-requires : tie.Need-fresh-requires Inv-loop μ-loop
 fresh-requires c κs = tt
@@ -49,13 +52,14 @@ loop-holds : tie.Need-loop-holds Inv-loop μ-loop
 loop-holds c =
     let s = c .before .before .before .before .before .before in
     let fresh = c .before .fresh in
-    starting (s .pre) (now (s .args .out)) (fresh .result) (fresh .ensures .0) (fresh .ensures .1) (fresh .ensures .2)
+    let unselected = ap (λ (s : State). weightOf (s .font .scale)) (fresh .ensures .0) in
+    (starting (s .pre) (now (s .args .out)) (fresh .result) (fresh .ensures .0) (fresh .ensures .1) (fresh .ensures .2), sym (unselected ∙ weightless))
 
 step-at-requires : tie.Need-step-at-requires Inv-loop μ-loop
 step-at-requires c κs =
     let head = c .before .before .before in
-    let w = head .loop .inv in
-    (w .ready .told, (w .ready .right, w .ready .unit, w .sound .known, w .sound .bounded, head .before .length-table .ensures))
+    let w = head .loop .inv .0 in
+    (w .ready .told, (w .ready .right, w .ready .unit, w .sound .known, w .sound .bounded, head .before .length-table .ensures, head .loop .inv .1))
 
 -- what holds as a command has been read
 module _ (c : tie.After-step-at Inv-loop μ-loop) where
@@ -69,7 +73,7 @@ module _ (c : tie.After-step-at Inv-loop μ-loop) where
   step = c .step-at .result
 
   abbrev here : Walking (now (entry .args .file)) (now (entry .args .fonts)) (now (entry .args .widths)) (entry .args .terms) (entry .args .start) (now (entry .args .out)) (head .loop .out) (head .loop .page) (head .loop .counts) (head .loop .at)
-  here = head .loop .inv
+  here = head .loop .inv .0
 
   asks : StepAsks (now (entry .args .file)) (head .loop .at) (termsSetting (entry .args .terms) (now (entry .args .widths)) (history (now (entry .args .file)))) (head .loop .page .now) (head .loop .page .font) step
   asks = c .step-at .ensures
@@ -98,9 +102,9 @@ module _ (n : tie.After-note Inv-loop μ-loop) where
   abbrev read : tie.After-step-at Inv-loop μ-loop
   read = n .before .before .before
 
-  -- the next turn starts from this page
-  abbrev Next : Page → Type 0
-  Next page = Walking (now (entry read .args .file)) (now (entry read .args .fonts)) (now (entry read .args .widths)) (entry read .args .terms) (entry read .args .start) (now (entry read .args .out)) (n .note .last .0) page (n .note .result) (step read .next)
+  -- the next turn starts from this page, and with what is kept for its font
+  abbrev Next : Page → ℕ → Type 0
+  Next page weight = Walking (now (entry read .args .file)) (now (entry read .args .fonts)) (now (entry read .args .widths)) (entry read .args .terms) (entry read .args .start) (now (entry read .args .out)) (n .note .last .0) page (n .note .result) (step read .next) × Weighs page weight
 
   abbrev before : Page
   before = head read .loop .page
@@ -111,22 +115,33 @@ module _ (n : tie.After-note Inv-loop μ-loop) where
   abbrev scale : ℕ
   scale = before .font .scale
 
+  abbrev weight : ℕ
+  weight = head read .loop .weight
+
+  weighs : Weighs before weight
+  weighs = head read .loop .inv .1
+
   bounded : Bounded (before .now)
   bounded = here read .sound .bounded
 
   -- to another level only
   to-level : (turn : Turn) → step read .asked .turn ≡ turn → turnFrame turn ≡ inside → (l : Level)
       → did ruler (pageState before) turn (step read .asked .adds) ≡ continues (withNumbers (pageState before) l) (addedOf (step read .asked .adds))
-      → (page : Page) → page ≡ withLevel before l → Bounded l → Next page
-  to-level turn turn-is is-inside l led page page-is bounded =
-      leveled (here read) (step read) (asks read) turn turn-is is-inside l led page page-is bounded (n .note .last .0) (n .note .ensures .1) (n .note .result) (n .note .ensures .0)
+      → (page : Page) → page ≡ withLevel before l → Bounded l → Next page weight
+  to-level turn turn-is is-inside l led page page-is bounded = (
+    leveled (here read) (step read) (asks read) turn turn-is is-inside l led page page-is bounded (n .note .last .0) (n .note .ensures .1) (n .note .result) (n .note .ensures .0),
+    weighs ∙ ap (λ (p : Page). weightOf (p .font .scale)) (sym page-is),
+  )
 
   -- to another state
   to-state : (turn : Turn) → step read .asked .turn ≡ turn → isEnding (turnFrame turn) ≡ false → (s : State)
       → did ruler (pageState before) turn (step read .asked .adds) ≡ continues s (addedOf (step read .asked .adds))
-      → (page : Page) → pageState page ≡ s → page .depth ≡ depthBy (turnFrame turn) (before .depth) → Sound page → Next page
-  to-state turn turn-is on s led page state-is depth-is sound =
-      onwards (here read) (step read) (asks read) turn turn-is on s led page state-is depth-is sound (n .note .last .0) (n .note .ensures .1) (n .note .result) (n .note .ensures .0)
+      → (page : Page) → pageState page ≡ s → page .depth ≡ depthBy (turnFrame turn) (before .depth) → Sound page
+      → (kept : ℕ) → kept ≡ weightOf (s .font .scale) → Next page kept
+  to-state turn turn-is on s led page state-is depth-is sound kept kept-is = (
+    onwards (here read) (step read) (asks read) turn turn-is on s led page state-is depth-is sound (n .note .last .0) (n .note .ensures .1) (n .note .result) (n .note .ensures .0),
+    kept-is ∙ ap (λ (x : State). weightOf (x .font .scale)) (sym state-is),
+  )
 
   -- a distance that is handed on
   handed : (direction : Direction) (z : ℤ) → Stays direction (before .now) z → Stays direction (before .now) (toZ w64 (ofZ w64 z))
@@ -135,7 +150,7 @@ module _ (n : tie.After-note Inv-loop μ-loop) where
   -- by a distance, in either direction and stride
   module _ (direction : Direction) (stride : Stride) (z : ℤ) (turn : Turn) (turn-is : step read .asked .turn ≡ turn) (is-inside : turnFrame turn ≡ inside) (ok : Stays direction (before .now) z)
       (led : did ruler (pageState before) turn (step read .asked .adds) ≡ continues (withNumbers (pageState before) (movedBy direction stride ruler scale z (before .now))) (addedOf (step read .asked .adds))) where
-    to-moved : (page : Page) → page ≡ withLevel before (movedBy direction stride ruler scale (toZ w64 (ofZ w64 z)) (before .now)) → Next page
+    to-moved : (page : Page) → page ≡ withLevel before (movedBy direction stride ruler scale (toZ w64 (ofZ w64 z)) (before .now)) → Next page weight
     to-moved page page-is =
         to-level turn turn-is is-inside (movedBy direction stride ruler scale z (before .now)) led page
         (page-is ∙ ap (λ (y : ℤ). withLevel before (movedBy direction stride ruler scale y (before .now))) (word z (ok .0)))
@@ -150,7 +165,7 @@ loop-less c = less (read (c .before .before .before .before))
 loop-again : tie.Need-loop-again Inv-loop μ-loop
 loop-again c =
     let n = c .before .before .before .before in
-    to-state n Turn.Stay (c .enum-told .given .1) refl (pageState (before n)) refl (before n) refl refl (here (read n) .sound)
+    to-state n Turn.Stay (c .enum-told .given .1) refl (pageState (before n)) refl (before n) refl refl (here (read n) .sound) (weight n) (weighs n)
 
 enum-known-turn : tie.Need-enum-known-turn Inv-loop μ-loop
 enum-known-turn c = search needs
@@ -304,6 +319,7 @@ loop-again-7 c =
     (state-sound (c .push .result) (pushed (pageState (before n))) state-is (sound .bounded) (sound .bounded, sound .kept) (sound .known)
     (omega (arith, c .push .ensures .1, room n turn-is))
     (ap length (c .push .ensures .2) ∙ length-set (before n .stack) (before n .depth) (before n .now) ∙ sound .full))
+    (weight n) (weighs n)
 
 enum-told-5 : tie.Need-enum-told-5 Inv-loop μ-loop
 enum-told-5 c = search needs
@@ -334,9 +350,11 @@ loop-again-8 c =
     let sound = here (read n) .sound in
     let s = pageState (before n) in
     let back = popped-bounded s (s .saved) (sound .kept) (sound .bounded) (sound .kept) in
+    let same-font : s .font ≡ popped s .font = sym (popped-font s (s .saved)) in
     to-state n Turn.Pop turn-is refl (popped s) refl (c .pop .result) (c .pop .ensures .0) (c .pop .ensures .1)
-    (state-sound (c .pop .result) (popped s) (c .pop .ensures .0) (back .0) (back .1) (popped-known s (s .saved) (sound .known))
+    (state-sound (c .pop .result) (popped s) (c .pop .ensures .0) (back .0) (back .1) (subst Known same-font (sound .known))
     (omega (arith, c .pop .ensures .1, sound .shallow)) (ap length (c .pop .ensures .2) ∙ sound .full))
+    (weight n) (weighs n ∙ ap (λ (font : Font). weightOf (font .scale)) same-font)
 
 enum-known-turn-5 : tie.Need-enum-known-turn-5 Inv-loop μ-loop
 enum-known-turn-5 c = search needs
@@ -344,21 +362,28 @@ enum-known-turn-5 c = search needs
 exchanged-requires : tie.Need-exchanged-requires Inv-loop μ-loop
 exchanged-requires c κs = tt
 
+weight-of-requires : tie.Need-weight-of-requires Inv-loop μ-loop
+weight-of-requires c κs =
+    let n = c .before .before .before .before .before .before .before in
+    let v = c .before .before .before .turn5 .given in
+    safe (read n) (Turn.Select (v .0 .0)) (v .1) .scale-small
+
 select-requires : tie.Need-select-requires Inv-loop μ-loop
 select-requires c κs = tt
 
 loop-less-9 : tie.Need-loop-less-9 Inv-loop μ-loop
-loop-less-9 c = less (read (c .before .before .before .before .before .before .before .before))
+loop-less-9 c = less (read (c .before .before .before .before .before .before .before .before .before))
 
 loop-again-9 : tie.Need-loop-again-9 Inv-loop μ-loop
 loop-again-9 c =
-    let n = c .before .before .before .before .before .before .before .before in
-    let v = c .before .before .before .before .turn5 .given in
+    let n = c .before .before .before .before .before .before .before .before .before in
+    let v = c .before .before .before .before .before .turn5 .given in
     let sound = here (read n) .sound in
     let is = c .select .ensures in
     to-state n (Turn.Select (v .0 .0)) (v .1) refl (record { level = before n .now; saved = savedOf (before n .depth) (before n .stack); font = v .0 .0 }) refl
     (c .select .result) (ap pageState is) (ap (λ (page : Page). page .depth) is)
     (subst Sound (sym is) (record { bounded = sound .bounded; kept = sound .kept; known = safe (read n) (Turn.Select (v .0 .0)) (v .1); shallow = sound .shallow; full = sound .full }))
+    (c .before .weight-of .result) (c .before .weight-of .ensures)
 
 enum-told-6 : tie.Need-enum-told-6 Inv-loop μ-loop
 enum-told-6 c = search needs
@@ -431,6 +456,7 @@ walk-spec =
     loop-again-8
     enum-known-turn-5
     exchanged-requires
+    weight-of-requires
     select-requires
     loop-less-9
     loop-again-9
