@@ -8,7 +8,7 @@ use lib.Dec.{eqb}
 use lib.IntN.{pos, natAbs, _-ℤ_}
 use Rattle.numbers.proofs.Signed.{abs-gap, abs-cond}
 use Rattle.widths.specs.declared.FixWord.{FixWord}
-use Rattle.widths.specs.Scaling.{Halved, halving, halved, share, signedShare, scaledBy}
+use Rattle.widths.specs.Scaling.{Halved, halving, halved, share, scaledBy}
 use Rattle.widths.specs.AsBytes.{LastBytes, fraction}
 use Rattle.widths.specs.Steps.{weightOf, weighedBy}
 use Rattle.widths.proofs.Halving.{Settled, settled, alpha-some, product-small}

@@ -6,7 +6,7 @@ use mathlib.Core.List.{List}
 use Prim.Native.Nat.{ℕ, zero, suc, _+_, _*_, _/_, _≤_, _<_}
 use native.Mathlib.Nat.{lt-trans, eq-or-lt-of-le}
 use native.Mathlib.Omega.{arith}
-use lib.Dec.{ltb, leb, eqb}
+use lib.Dec.{ltb, leb}
 use lib.ListN.{length, getD}
 use borrow.Author.Tests.{ltb-true, ltb-false, leb-true, leb-false, lt-ltb, le-ltb, lt-leb, le-leb, not-false}
 use Rattle.numbers.specs.Bytes.{unsignedAt}
@@ -18,7 +18,6 @@ use Rattle.widths.specs.Steps.{keyNumber, KeyAt, lawfulRest}
 use Rattle.widths.specs.AsBytes.{LastBytes}
 use Rattle.widths.proofs.Keys.{less-or-not, key-is, low-key}
 use Rattle.numbers.specs.Sizes.{lawfulSize}
-use Rattle.widths.specs.Scaling.{lawfulFirst}
 use Rattle.widths.specs.Table.{widthRecordSize, recordAt, recordOf, rises, lawfulFields, wholeRecord, rightRecord, checkedFrom, checkedTable}
 
 -- ---- the loop
@@ -133,12 +132,11 @@ module _ (table : List ℕ) where
 
 -- ---- a right table
 
-right-parts : (table : List ℕ) (index : ℕ) → rightRecord table index ≡ true → (wholeRecord table index ≡ true) × (rises table index ≡ true) × (lawfulFields (recordOf table index) ≡ true)
+right-parts : (table : List ℕ) (index : ℕ) → rightRecord table index ≡ true → (wholeRecord table index ≡ true) × (rises table index ≡ true)
 right-parts table index e =
-    let r = lawfulFields (recordOf table index) in
-    let outer = and-eq-true-iff (wholeRecord table index) (rises table index && r) .0 e in
-    let inner = and-eq-true-iff (rises table index) r .0 (outer .1) in
-    (outer .0, inner .0, inner .1)
+    let fields = lawfulFields (recordOf table index) in
+    let outer = and-eq-true-iff (wholeRecord table index) (rises table index && fields) .0 e in
+    (outer .0, and-eq-true-iff (rises table index) fields .0 (outer .1) .0)
 
 -- what is known of a table that was judged right from an index on
 record RightFrom (table : List ℕ) (from records : ℕ) : Type 0 where
@@ -182,13 +180,6 @@ module _ (table : List ℕ) (records : ℕ) where
 
     pub record-right : (index : ℕ) → index < records → rightRecord table index ≡ true
     record-right index h = right-all .right index (omega arith) h
-
-    -- its scale and its width's first byte are lawful
-    pub record-lawful : (index : ℕ) → index < records → (lawfulSize (recordOf table index .scale) ≡ true) × (lawfulFirst (recordOf table index .width .b0) ≡ true)
-    record-lawful index h =
-        let r = recordOf table index in
-        let lawful = and-eq-true-iff (lawfulSize (r .scale)) (eqb (r .zero-byte) 0 && lawfulFirst (r .width .b0)) .0 (right-parts table index (record-right index h) .2) in
-        (lawful .0, and-eq-true-iff (eqb (r .zero-byte) 0) (lawfulFirst (r .width .b0)) .0 (lawful .1) .1)
 
     rises-one : (index : ℕ) → suc index < records → recordOf table index .key < recordOf table (suc index) .key
     rises-one index h = ltb-true (recordOf table index .key) (recordOf table (suc index) .key) (right-parts table (suc index) (record-right (suc index) h) .1)
