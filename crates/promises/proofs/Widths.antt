@@ -6,8 +6,7 @@ use lib.Dec.{eqb}
 use lib.IntN.{pos, _-ℤ_}
 use borrow.Author.Tests.{lt-leb}
 use Rattle.widths.specs.declared.FixWord.{FixWord}
-use Rattle.widths.specs.declared.Halved.{Halved}
-use Rattle.widths.specs.Scaling.{halving, halved, signedShare, scaledBy}
+use Rattle.widths.specs.Scaling.{Halved, halving, halved, signedShare, scaledBy}
 use Rattle.widths.specs.AsBytes.{fraction}
 use Rattle.widths.proofs.OneDivision.{chain-is-one-division}
 
