@@ -2,14 +2,14 @@
 use mathlib.Core.Path.{_≡_, refl, sym, ap, subst, _∙_}
 use mathlib.Core.Bool.{Bool, true, false}
 use Prim.Native.Nat.{ℕ, zero, suc, _*_, _/_, _^_, _≤_, _<_}
-use native.Mathlib.Nat.{pow-suc, mul-assoc, mul-comm, zero-mul, le-mul-of-pos-right, mul-le-mul, mul-le-mul-left}
+use native.Mathlib.Nat.{pow-suc, mul-assoc, mul-comm, zero-mul, le-mul-of-pos-right, mul-le-mul-left}
 use native.Mathlib.Omega.{arith}
 use lib.Dec.{leb}
 use lib.Pow.{pow-pos}
 use borrow.Author.Tests.{le-leb, lt-leb, leb-true, leb-false}
 use Rattle.widths.specs.Scaling.{Halved, halving, halved}
 
-abbrev pub at : ℕ → ℕ → Halved
+abbrev at : ℕ → ℕ → Halved
 at z alpha = record { z = z; alpha = alpha }
 
 -- so many times are left at most
@@ -22,7 +22,6 @@ pub record Left (scale times z alpha : ℕ) : Type 0 where
 -- what is known at the end: α is a power of two that divides 256
 pub record Settled (scale : ℕ) (k : Halved) : Type 0 where
   pub times : ℕ
-  pub z-small : k .z < 8388608
   pub full : k .alpha * 2 ^ times ≡ 256
   pub kept : k .alpha * k .z ≤ 16 * scale
 
@@ -53,20 +52,20 @@ module _ (scale z alpha : ℕ) where
   done zero l h = l .rest
   done (suc times) l h = simp (lt-leb 8388608 z h) at (l .rest)
 
-  pub finish : (times : ℕ) → Left scale times z alpha → z < 8388608 → Settled scale (at z alpha)
-  finish times l h = record { times = times; z-small = h; full = l .full; kept = l .kept }
+  finish : (times : ℕ) → Left scale times z alpha → Settled scale (at z alpha)
+  finish times l = record { times = times; full = l .full; kept = l .kept }
 
 module _ (scale : ℕ) where
   settled-by : (times z alpha : ℕ) (more : Bool) → leb 8388608 z ≡ more → Left scale (suc times) z alpha → (Left scale times (z / 2) (alpha * 2) → Settled scale (halved scale)) → Settled scale (halved scale)
   settled-by times z alpha true e l next = next (turn-by scale z alpha times l (leb-true 8388608 z e))
   settled-by times z alpha false e l next =
       let h : z < 8388608 = leb-false 8388608 z e in
-      subst (Settled scale) (done scale z alpha (suc times) l h) (finish scale z alpha (suc times) l h)
+      subst (Settled scale) (done scale z alpha (suc times) l h) (finish scale z alpha (suc times) l)
 
   settled-from : (times z alpha : ℕ) → Left scale times z alpha → Settled scale (halved scale)
   settled-from zero z alpha l =
       let h : z < 8388608 = omega (arith, l .below) in
-      subst (Settled scale) (done scale z alpha zero l h) (finish scale z alpha zero l h)
+      subst (Settled scale) (done scale z alpha zero l h) (finish scale z alpha zero l)
   settled-from (suc times) z alpha l = settled-by times z alpha (leb 8388608 z) refl l (settled-from times (z / 2) (alpha * 2))
 
   pub settled : scale ≤ 134217727 → Settled scale (halved scale)
@@ -83,9 +82,3 @@ module _ (times alpha : ℕ) (full : alpha * 2 ^ times ≡ 256) where
 
   pub alpha-small : alpha ≤ 256
   alpha-small = omega (arith, le-mul-of-pos-right alpha (pow-pos times))
-
-  -- and its product with z has 31 bits
-  pub product-small : (z : ℕ) → z < 8388608 → alpha * z < 2 ^ 31
-  product-small z h =
-      let most : alpha * z ≤ 256 * 8388607 = (let below : z ≤ 8388607 = omega arith in mul-le-mul alpha-small below) in
-      omega arith

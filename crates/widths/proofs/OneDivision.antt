@@ -11,7 +11,7 @@ use Rattle.widths.specs.declared.FixWord.{FixWord}
 use Rattle.widths.specs.Scaling.{Halved, halving, halved, share, scaledBy}
 use Rattle.widths.specs.AsBytes.{LastBytes, fraction}
 use Rattle.widths.specs.Steps.{weightOf, weighedBy}
-use Rattle.widths.proofs.Halving.{Settled, settled, alpha-some, product-small}
+use Rattle.widths.proofs.Halving.{Settled, settled, alpha-some}
 
 -- ---- one division
 
@@ -42,9 +42,10 @@ module _ (scale : ℕ) (lawful : scale ≤ 134217727) where
       let k = halved scale in
       ap (λ (n : ℕ). cond (eqb (w .b0) 255) (pos n -ℤ pos (k .alpha * k .z)) (pos n)) (sym (share-by-weight w (settled scale lawful)))
 
+  -- what the first byte counts is at most 16 times the scale, and so has 31 bits
   pub weight-small : weightOf scale < 2 ^ 31
   unfolding weightOf
-  weight-small = let s = settled scale lawful in product-small (s .times) (halved scale .alpha) (s .full) (halved scale .z) (s .z-small)
+  weight-small = omega (arith, settled scale lawful .kept)
 
 -- without a font the scale is 0, and nothing counts
 pub weightless : weightOf 0 ≡ 0

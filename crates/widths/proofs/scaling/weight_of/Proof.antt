@@ -4,7 +4,7 @@ use Prim.Native.Nat.{ℕ, _*_}
 use native.Mathlib.Omega.{arith}
 use Rattle.widths.specs.Scaling.{Halved}
 use Rattle.widths.specs.Steps.{weightOf}
-use Rattle.widths.proofs.Halving.{Left, start, turn, done, alpha-small, product-small}
+use Rattle.widths.proofs.Halving.{Left, start, turn, done, alpha-small}
 use Rattle.widths.proofs.scaling.weight_of.Statement.{statement}
 use Rattle.widths.proofs.scaling.weight_of.Tie as tie
 
@@ -32,8 +32,7 @@ loop-again c =
 
 mul-result : tie.Need-mul-result Inv-loop μ-loop
 mul-result c =
-    let l = c .before .loop in
-    omega (arith, product-small (l .inv .0) (l .alpha) (l .inv .1 .full) (l .z) (c .loop-test .left))
+    omega (arith, c .before .loop .inv .1 .kept, c .before .before .pre)
 
 returns : tie.Need-returns Inv-loop μ-loop
 unfolding weightOf
