@@ -301,6 +301,24 @@ static struct refusal scan(const uint8_t *file, size_t length, uint32_t wanted_p
     }
 }
 
+/* ---- widths ---- */
+
+/* TeX's alpha times z: sixteen times the scale, of which only the first 23 bits are kept. Each halving of z drops the last bit, and
+   the doubling of alpha puts a 0 in its place. */
+static inline uint64_t sixteenfold_of(uint32_t scale)
+{
+    const unsigned halvings = 9 - (unsigned)__builtin_clz(scale | 1u << 22); /* 0 for a scale of 23 bits or fewer */
+    return (uint64_t)(scale & ~0u << halvings) << 4;
+}
+
+/* The width of a fix word. TeX divides a byte at a time, to stay within 32 bits; all its divisions are downwards, so one of the
+   whole product, which has 55 bits at most, gives the same. */
+static inline int64_t scaled(uint64_t sixteenfold, uint8_t first, uint32_t last_three)
+{
+    const int64_t share = (int64_t)(last_three * sixteenfold >> 24);
+    return first == 255 ? share - (int64_t)sixteenfold : share;
+}
+
 /* ---- the width table ---- */
 
 /* 14: the number of records, or the place of the first wrong one. */
@@ -400,10 +418,10 @@ struct metric {
 };
 enum { UNKNOWN, PRESENT, ABSENT };
 
-/* A font that is selected on the page: its records in the table, its scale taken apart, and the metrics found so far. */
+/* A font that is selected on the page: its records in the table, its scale, and the metrics found so far. */
 struct font {
-    int64_t scale, z, alpha;
-    unsigned beta_bits;
+    int64_t scale;
+    uint64_t sixteenfold;
     uint64_t key;
     size_t first, past;
     uint8_t number;
@@ -415,14 +433,7 @@ static void set_up_font(struct font *font, uint8_t number, const uint8_t *defini
     font->number = number;
     font->key = unsigned8(definition);
     font->scale = unsigned4(definition + 4);
-    font->z = font->scale;
-    font->alpha = 16;
-    font->beta_bits = 4;
-    while (font->z >= 8388608) {
-        font->z >>= 1;
-        font->alpha <<= 1;
-        font->beta_bits--;
-    }
+    font->sixteenfold = sixteenfold_of((uint32_t)font->scale);
     font->first = first_from(table, 0, records, font->key, 0);
     size_t most = records - font->first < 256 ? records : font->first + 256;
     font->past = first_from(table, font->first, most, font->key + 1, 0);
@@ -438,12 +449,7 @@ static __attribute__((noinline)) void find_metric(struct font *font, uint8_t cod
         metric->known = ABSENT;
         return;
     }
-    int64_t width = (record[15] * font->z) >> 8;
-    width = (width + record[14] * font->z) >> 8;
-    width = (width + record[13] * font->z) >> font->beta_bits;
-    if (record[12] == 255)
-        width -= font->alpha * font->z;
-    metric->width = (int32_t)width;
+    metric->width = (int32_t)scaled(font->sixteenfold, record[12], unsigned3(record + 13));
     metric->escapement = (int16_t)unsigned2(record + 10);
     metric->known = PRESENT;
 }
