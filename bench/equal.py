@@ -3,14 +3,15 @@
 
     equal.py READERS.so SEED QUESTIONS VARIANTS [MANIFEST...]
 
-Asked are the questions of tests/compare with so many damaged files (none of these questions if 0 is said), every job of the manifests, and so many
-damaged variants of their small ones.
+Asked are widths at the edges of what a scale and a fix word may be, the questions of tests/compare with so many damaged files (none of these questions
+if 0 is said), every job of the manifests, and so many damaged variants of their small ones.
 Compared are the returned code, the whole answer array (with numbers behind the answer) and the whole area with guard bytes before and after it.
 """
 
 import collections
 import copy
 import ctypes
+import itertools
 import random
 import sys
 
@@ -22,6 +23,11 @@ ANSWER = 8  # two numbers more than the longest answer
 SMALL = 70_000  # bytes; what is longer is asked as it is only
 RESOLUTIONS = (0, 1, 50, 99, 100, 199, 200, 300, 600, 1200, 10_000, 10_001, 4_294_967_295)
 SCALES = (0, 1, 134_217_727, 134_217_728, 4_294_967_295)
+HALVED_ONCE_MORE = [beside for bits in range(23, 27) for beside in ((1 << bits) - 1, 1 << bits, (1 << bits) + 1)]
+FIRST_BYTES = (0, 255, 1, 254)
+LAST_BYTES = (0, 1, 127, 128, 255)
+RANDOM_WORDS = 25  # for each scale and first byte
+RANDOM_WIDTHS = 5000
 LONGEST_FILE = 16_777_216
 
 
@@ -52,6 +58,8 @@ class Comparing:
 
 def told(job, proved, plain):
     lines = [f"different: {job.entry}, {job.group}: {job.name}"]
+    if job.entry == "scale":
+        lines.append(f"  scale {job.scale}, fix word {list(job.word)}")
     for name, (code, answer, _) in (("proved", proved), ("plain C", plain)):
         lines.append(f"  {name}: code {code}, answer {answer}")
     at = next((at for at, (one, other) in enumerate(zip(proved[2], plain[2])) if one != other), None)
@@ -89,6 +97,21 @@ def compare_too_long(comparing):
     for length in (LONGEST_FILE, LONGEST_FILE + 1):
         for start in (b"", b"\xff"):
             comparing.compare(Job("check", "long", f"{length} bytes", file=start.ljust(length, b"\x8a")))
+
+
+def compare_scaling(comparing, rng):
+    """Scales at the edges of their range and where they are halved once more, with fix words of edge bytes and random ones, and random lawful widths;
+    each with answer arrays long enough and too short."""
+    scales = [*SCALES, 134_217_726, *HALVED_ONCE_MORE]
+    widths = []
+    for scale, first in itertools.product(scales, FIRST_BYTES):
+        widths += [(scale, first, *last) for last in itertools.product(LAST_BYTES, repeat=3)]
+        widths += [(scale, first, *rng.randbytes(3)) for _ in range(RANDOM_WORDS)]
+    widths += [(rng.randrange(1, 1 << rng.randrange(1, 28)), rng.choice((0, 255)), *rng.randbytes(3)) for _ in range(RANDOM_WIDTHS)]
+    for numbers in widths:
+        job = Job("scale", "scaling", "a width", numbers=numbers)
+        for answer_length in (ANSWER, ANSWER_LENGTHS["scale"], 0):
+            comparing.compare(job, answer_length)
 
 
 def damaged(rng, data):
@@ -141,6 +164,7 @@ def variant(rng, job, number):
 
 
 def compare_all(comparing, seed, asked, variants, manifests):
+    compare_scaling(comparing, random.Random(f"{seed} scaling"))
     if asked:
         compare_too_long(comparing)
         questions.ask_all(comparing.compare, seed, asked)
@@ -149,7 +173,8 @@ def compare_all(comparing, seed, asked, variants, manifests):
         compare_with_areas(comparing, job)
     compare_short_arrays(comparing, jobs)
     rng = random.Random(seed)
-    small = [job for job in jobs if len(job.file) <= SMALL and len(job.table) <= SMALL]
+    with_bytes = [job for job in jobs if job.entry != "scale"]  # a width has none to damage
+    small = [job for job in with_bytes if len(job.file) <= SMALL and len(job.table) <= SMALL]
     for number in range(variants if small else 0):
         comparing.compare(variant(rng, rng.choice(small), number))
 

@@ -1,5 +1,6 @@
 #!/usr/bin/env python3
-"""The bench's work: DVI files, width tables, PK fonts and the manifest that names each job. Standard library only; the same bytes each time.
+"""The bench's work: DVI files, width tables, PK fonts, widths to scale, and the manifest that names each job. Standard library only; the same bytes
+each time.
 
     make.py PUBLISHED FONTS OUT     the folders of published files and of PK fonts; where the work goes
 
@@ -23,10 +24,12 @@ MOST_FONTS = 64
 CODES = 256
 RESOLUTION = 300
 SCALE = 655_360
+POINT = 65_536  # in TeX's units
 REAL_FONTS = ("cmr10.72", "cmr10.300", "cmr17.600", "cminch.300", "ecrm1000.300", "odd.300")
 SEED = 1
 QUICK = {"-1024K", "-1", "-64", "-4096", "-100", "-10000"}  # ends of names
 DIFFERENT_BYTES, DIFFERENT_RECORDS, DIFFERENT_PACKETS = 1 << 20, 10_000, 2048  # in all files of a work together, at least
+DIFFERENT_WIDTHS = 800  # in a work
 
 
 big = dvi.big
@@ -433,6 +436,17 @@ def table_jobs(work, sizes):
         work.lines.append(f"look look-up look-up-{records} {records} table-{records} {last_font} 655360 {records // 3 % 128}")
 
 
+def scale_jobs(work, rng):
+    """Widths by themselves, half of them negative: at scales as fonts have them, 5 to below 128 points, which TeX does not halve, and at those that it
+    halves, once to four times. Signs and halvings are in random order, so that branches on them are hard to foresee."""
+    unhalved = [rng.randrange(5 * POINT, 128 * POINT) for _ in range(DIFFERENT_WIDTHS)]
+    halved = [rng.randrange(1 << bits, 2 << bits) for bits in rng.choices(range(23, 27), k=DIFFERENT_WIDTHS)]
+    for group, scales in (("scale", unhalved), ("scale-halved", halved)):
+        firsts = rng.sample([0, 255] * (DIFFERENT_WIDTHS // 2), DIFFERENT_WIDTHS)
+        lists = (scales, firsts, *(rng.randbytes(DIFFERENT_WIDTHS) for _ in range(3)))
+        work.lines.append(f"scale {group} {group} 1 " + " ".join(",".join(map(str, one)) for one in lists))
+
+
 def published_jobs(work, rng, published):
     """Published files as they are: the check, and the first, middle and last page with a width table for their fonts."""
     for name, data in published.items():
@@ -475,7 +489,7 @@ def real_font_jobs(work, fonts):
 def is_quick(line):
     """Whether a work is in the short form: one size or two of each group."""
     _, group, name, *_ = line.split()
-    return group in ("published-pages", "pk-fonts") or name.removeprefix(group) in QUICK
+    return group in ("published-pages", "scale", "scale-halved", "pk-fonts") or name.removeprefix(group) in QUICK
 
 
 def main():
@@ -491,6 +505,7 @@ def main():
     definition_jobs(work, list(steps(1, MOST_FONTS, 4)))
     place_jobs(work, rng, list(steps(100, 100_000, 10)))
     published_page_jobs(work, published, 6)
+    scale_jobs(work, random.Random(SEED))  # numbers of their own, so that the works after them keep their bytes
     table_jobs(work, list(steps(16, 65_536, 4)))
     font_jobs(work, rng, list(steps(1 << 16, LONGEST_FILE, 4)))
     real_font_jobs(work, {name: fonts[name] for name in REAL_FONTS})

@@ -48,7 +48,7 @@ def main():
         questions = (Question * len(work))(*(readers.question(job, ctypes.addressof(area)) for job in work))
         proved, plain = least(readers, questions, float(seconds))
         first = work[0]
-        print(first.entry, first.group, first.name, first.size, f"{proved * 1e9:.1f} {plain * 1e9:.1f}", flush=True)
+        print(first.entry, first.group, first.name, first.size, f"{proved * 1e9:.2f} {plain * 1e9:.2f}", flush=True)
 
 
 if __name__ == "__main__":

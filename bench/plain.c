@@ -919,6 +919,16 @@ uint32_t plain_place_page(const uint8_t *file, size_t file_length, const uint8_t
     return 0;
 }
 
+uint32_t plain_scale_width(uint32_t scale, uint8_t b0, uint8_t b1, uint8_t b2, uint8_t b3, int64_t *answer, size_t answer_length)
+{
+    if (answer_length < 1)
+        return TOO_SHORT_ANSWER;
+    if (!lawful_size(scale) || (uint8_t)(b0 + 1) > 1)
+        return refused(refuse(14, 0), answer);
+    answer[0] = scaled(sixteenfold_of(scale), b0, (uint32_t)b1 << 16 | (uint32_t)b2 << 8 | b3);
+    return 0;
+}
+
 uint32_t plain_check_table(const uint8_t *table, size_t table_length, int64_t *answer, size_t answer_length)
 {
     if (answer_length < 1)

@@ -1,4 +1,4 @@
-"""The questions of tests/compare as jobs: made-up files, each group for one notion, bars, PK fonts, published files, and damaged ones."""
+"""The questions of tests/compare as jobs: made-up files, each group for one notion, bars, widths, PK fonts, published files, and damaged ones."""
 
 import contextlib
 import random
@@ -12,6 +12,7 @@ import made_up  # noqa: E402
 import packed  # noqa: E402
 import pktype  # noqa: E402
 import published  # noqa: E402
+import single_lines  # noqa: E402
 
 from readers import ENTRIES, job_of  # noqa: E402
 
@@ -63,6 +64,8 @@ def ask_all(take, seed, damaged_files):
     published.groups(gather, random.Random(f"{seed} published"), paths)
     made_up.groups(gather, random.Random(f"{seed} made-up"), False)
     made_up.bar_groups(gather, random.Random(f"{seed} bars"), False)
+    with gather("lines: scaling") as group:
+        single_lines.scaling(group, random.Random(f"{seed} scaling"), 400)
     small = [path.read_bytes() for path in paths if path.stat().st_size <= 2000]
     damaged.groups(gather, random.Random(f"{seed} damaged"), small, damaged_files, False)
     packed.groups(gather, lambda name: random.Random(f"{seed} {name}"), False, lambda name: name != "packed: lines")

@@ -4,8 +4,9 @@ import ctypes
 from pathlib import Path
 
 PROVED, PLAIN = 0, 1
-ENTRIES = ("check", "place", "table", "look", "widths")
-ANSWER_LENGTHS = {"check": 4, "place": 3, "table": 1, "look": 6, "widths": 1}
+ENTRIES = ("check", "place", "scale", "table", "look", "widths")
+ANSWER_LENGTHS = {"check": 4, "place": 3, "scale": 1, "table": 1, "look": 6, "widths": 1}
+NUMBERS = {"check": 0, "place": 2, "scale": 5, "table": 0, "look": 3, "widths": 1}  # behind the files
 RECORDS = {"place": 20, "widths": 16}  # bytes, of the entries that write into an area
 CODES = 256
 
@@ -26,6 +27,7 @@ class Question(ctypes.Structure):
         ("checksum", ctypes.c_uint32),
         ("scale", ctypes.c_uint32),
         ("code", ctypes.c_int32),
+        ("word", ctypes.c_uint8 * 4),
     ]
 
 
@@ -36,8 +38,12 @@ class Job:
         self.entry, self.group, self.name, self.size = entry, group, name, size
         self.file, self.table = file, table
         self.resolution = self.page = self.checksum = self.scale = self.code = 0
+        self.word = bytes(4)
         if entry == "place":
             self.resolution, self.page = numbers
+        elif entry == "scale":
+            self.scale, *word = numbers
+            self.word = bytes(word)
         elif entry == "look":
             self.checksum, self.scale, self.code = numbers
         elif entry == "widths":
@@ -55,13 +61,13 @@ def job_of(words, files, group, name, size=0):
     file = files(words.pop(0)) if entry in ("check", "place", "widths") else b""
     table = files(words.pop(0)) if entry in ("place", "table", "look") else b""
     numbers = [int(word) for word in words]
-    area_length = numbers.pop() if len(numbers) > {"place": 2, "widths": 1}.get(entry, 3) else None
+    area_length = numbers.pop() if len(numbers) > NUMBERS[entry] else None
     return Job(entry, group, name, size, file, table, numbers, area_length)
 
 
 def works_of(manifest):
     """A line a work: ENTRY GROUP NAME SIZE, then the entry's files, in the manifest's folder, and numbers. A work is one job, or several
-    alike: the first file may be a list with commas between."""
+    alike: a file or a number may be a list with commas between, one for each job; what is no list is the same for all."""
     folder, known = Path(manifest).parent, {}
 
     def files(name):
@@ -70,8 +76,11 @@ def works_of(manifest):
         return known[name]
 
     for line in Path(manifest).read_text().splitlines():
-        entry, group, name, size, first, *rest = line.split()
-        yield [job_of([entry, one, *rest], files, group, name, int(size)) for one in first.split(",")]
+        entry, group, name, size, *words = line.split()
+        lists = [word.split(",") for word in words]
+        alike = max(map(len, lists))
+        full = [given * alike if len(given) == 1 else given for given in lists]
+        yield [job_of([entry, *given], files, group, name, int(size)) for given in zip(*full, strict=True)]
 
 
 class Readers:
@@ -86,7 +95,7 @@ class Readers:
     def question(job, area):
         return Question(
             ENTRIES.index(job.entry), job.file, len(job.file), job.table, len(job.table), area, job.area_length,
-            job.resolution, job.page, job.checksum, job.scale, job.code,
+            job.resolution, job.page, job.checksum, job.scale, job.code, tuple(job.word),
         )  # fmt: skip
 
     def ask(self, reader, question, answer, answer_length):

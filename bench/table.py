@@ -4,7 +4,7 @@
 import math
 import sys
 
-UNITS = {"check": "byte", "place": "record", "table": "record", "look": "record", "widths": "byte"}
+UNITS = {"check": "byte", "place": "record", "scale": "width", "table": "record", "look": "record", "widths": "byte"}
 OTHER_UNITS = {"moves": "move", "published-pages": "byte", "pk-packets": "packet"}
 
 

@@ -4,7 +4,7 @@
 #include "hurlyburn.h"
 #include "plain.h"
 
-enum entry { CHECK, PLACE, TABLE, LOOK, WIDTHS };
+enum entry { CHECK, PLACE, SCALE, TABLE, LOOK, WIDTHS };
 enum reader { PROVED, PLAIN };
 
 /* The fields of Question in bench/readers.py. */
@@ -18,6 +18,7 @@ struct question {
     size_t area_length;
     uint32_t resolution, page, checksum, scale;
     int32_t code;
+    uint8_t word[4];
 };
 
 /* Of the C library, as every 64-bit Linux has them; the kit brings no header for it. */
@@ -37,6 +38,9 @@ static inline uint32_t asked(enum reader reader, const struct question *q, int64
         return (reader == PROVED ? hurlyburn_place_page : plain_place_page)(
             q->file, q->file_length, q->table, q->table_length, q->resolution, q->page, q->area, q->area_length, answer,
             answer_length);
+    case SCALE:
+        return (reader == PROVED ? hurlyburn_scale_width : plain_scale_width)(q->scale, q->word[0], q->word[1], q->word[2],
+                                                                              q->word[3], answer, answer_length);
     case TABLE:
         return (reader == PROVED ? hurlyburn_check_table : plain_check_table)(q->table, q->table_length, answer, answer_length);
     case LOOK:
