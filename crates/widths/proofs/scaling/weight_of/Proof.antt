@@ -28,7 +28,7 @@ loop-less c = omega arith
 loop-again : tie.Need-loop-again Inv-loop μ-loop
 loop-again c =
     let l = c .before .loop in
-    turn (c .before .before .args .scale) (l .z) (l .alpha) (l .inv .0) (l .inv .1) (c .loop-test .taken)
+    turn (c .before .before .args .scale) (l .z) (l .alpha) (l .inv .0) (l .inv .1) (omega (arith, c .loop-test .taken))
 
 mul-result : tie.Need-mul-result Inv-loop μ-loop
 mul-result c =
@@ -38,7 +38,7 @@ returns : tie.Need-returns Inv-loop μ-loop
 unfolding weightOf
 returns c =
     let l = c .before .loop in
-    ap (λ (k : Halved). k .alpha * k .z) (done (c .before .before .args .scale) (l .z) (l .alpha) (l .inv .0) (l .inv .1) (c .loop-test .left))
+    ap (λ (k : Halved). k .alpha * k .z) (done (c .before .before .args .scale) (l .z) (l .alpha) (l .inv .0) (l .inv .1) (omega (arith, c .loop-test .left)))
 
 pub weight-of-spec : {M : Type 1} → statement M
 weight-of-spec = tie.close (tie.spec Inv-loop μ-loop loop-holds mul-alpha loop-less loop-again mul-result returns)
