@@ -31,8 +31,7 @@ loop-again c =
     turn (c .before .before .args .scale) (l .z) (l .alpha) (l .inv .0) (l .inv .1) (omega (arith, c .loop-test .taken))
 
 mul-result : tie.Need-mul-result Inv-loop μ-loop
-mul-result c =
-    omega (arith, c .before .loop .inv .1 .kept, c .before .before .pre)
+mul-result c = omega (arith, c .before .loop .inv .1 .kept, c .before .before .pre)
 
 returns : tie.Need-returns Inv-loop μ-loop
 unfolding weightOf
