@@ -7,8 +7,8 @@ from dvi import (
     DOWN1, FNT1, FURTHEST, GREATEST_SCALE, MARK, NOTHING, PLAIN_UNITS, POPPED, PUSHED, PUT1, PUT_RULE, RIGHT1, SET1,
     TEX_UNITS, W0, X0, XXX1, Y0, Z0, Font, big, character, down, page, right, rule, select, sized, special, volume,
 )
-from placing import placed
-from tables import MOST_RECORDS, record, table_for, wrong_tables
+from placing import placed, scaled
+from tables import MOST_RECORDS, made_up_escapement, record, table_for, wrong_tables
 
 RESOLUTIONS = (72, 100, 300, 600)
 WHOLE_AREA = 60_000
@@ -525,6 +525,135 @@ def pages_with_bars(group, rng, count):
                 ask_placed(group, file, table, one)
 
 
+def scales_around_halvings():
+    """Around each bound from which a scale is halved once more: one less, the bound, and above it those that lose a single bit, to any one of the
+    halvings, or a bit to each. Far above the bounds two that are odd before and behind their halvings, and the greatest."""
+    found = {12_345_679, 99_999_999, GREATEST_SCALE - 1, GREATEST_SCALE}
+    for times in (1, 2, 3, 4):
+        bound = 1 << 22 + times
+        found |= {bound - 1, bound, bound + (1 << times) - 1, *(bound + (1 << lost) for lost in range(times))}
+    return tuple(sorted(found))
+
+
+SCALES_AROUND_HALVINGS = scales_around_halvings()
+SCALED_FONTS = [Font(number, 77, scale) for number, scale in enumerate((1, 655_360, *SCALES_AROUND_HALVINGS))]
+ABSENT_FONTS = [Font(200, 78, 655_360), Font(255, 77, (1 << 25) + 3)]  # no record has the check sum of the one, the scale of the other
+SCALED_RESOLUTIONS = (50, 100, 300, 10_000)  # D is 0, 1, 2 and 2
+# Fix words in which all bytes count or one alone does, one em and those beside it: seven ems at most, so that h stays in range at any scale.
+ADVANCES = (1, 128, 255, 1 << 8, 128 << 8, 255 << 8, 1 << 16, 112 << 16, (1 << 20) - 1, 1 << 20, (1 << 20) + 1, 0x05_55_55, 0x12_34_57, 0x6F_FF_FF)
+
+
+def words_table(rng, fonts, unit, codes=2 * len(ADVANCES)):
+    """Records for these fonts: an even code goes on by one of these words, the next goes back by as much."""
+    rows = []
+    for font in sorted(fonts, key=lambda font: (font.check_sum, font.scale)):
+        for code in range(codes):
+            word = ADVANCES[code // 2 % len(ADVANCES)]
+            width = big(-word if code % 2 else word, 4)
+            rows.append(record(font.check_sum, font.scale, code, made_up_escapement(rng, width, font.scale, unit), width))
+    return b"".join(rows)
+
+
+def there_and_back(font, turn):
+    """A character set, the one that leads back put and set, the first one put; then a move that is near at this font's scale and far at half of it."""
+    code = 2 * (turn % len(ADVANCES))
+    return [bytes([code]), character(code + 1, 1, PUT1), bytes([code + 1]), character(code, 1, PUT1), PUSHED, right(font.scale // 6), MARK, POPPED]
+
+
+def some_others(font):
+    """Fonts whose scales are close to this one's, and far from it."""
+    return [SCALED_FONTS[(font.number + step) % len(SCALED_FONTS)] for step in (1, 2, 9, 15)]
+
+
+def selected_in_turn(rng, font):
+    """Each font behind this one, and this one behind each."""
+    for turn, other in enumerate(SCALED_FONTS):
+        for current in (font, other):
+            yield from [dvi.any_select(rng, current.number), *there_and_back(current, turn + font.number)]
+
+
+def inside_push_and_pop(rng, font):
+    """Fonts selected between *push* and *pop* stay selected behind the *pop*, with characters between the two and without, on every level."""
+    for turn, other in enumerate(some_others(font)):
+        third = some_others(other)[turn]
+        first, second, last = (dvi.any_select(rng, one.number) for one in (font, other, third))
+        here, there, elsewhere = (there_and_back(one, turn + font.number) for one in (font, other, third))
+        yield from [PUSHED, first, *here, PUSHED, second, *there, POPPED, *there, PUSHED, first, POPPED, *here, POPPED, *here]
+        yield from [PUSHED, second, PUSHED, first, PUSHED, last, POPPED, *elsewhere, POPPED, *elsewhere, first, *here, POPPED, *here]
+
+
+def again_and_absent(rng, font):
+    """The same font twice in a row; fonts that the table has nothing of, before this font and before another."""
+    for turn, other in enumerate(some_others(font)):
+        here, there = there_and_back(font, turn + font.number), there_and_back(other, turn + font.number)
+        absent, missing = ABSENT_FONTS[turn % 2], there_and_back(ABSENT_FONTS[turn % 2], turn)
+        again, lost, second = (dvi.any_select(rng, one.number) for one in (font, absent, other))
+        yield from [again, *here, dvi.any_select(rng, font.number), *here, lost, *missing, again, *here, lost, second, *there]
+
+
+def scaled_volume(units, pages):
+    fonts = SCALED_FONTS + ABSENT_FONTS
+    return volume(units, [*(font.definition() for font in fonts), *(c for p in pages for c in page(p))], fonts)
+
+
+def pages_of_scales(group, rng, commands, resolution):
+    """These commands for each font, a page each; every second page begins one to the right, where halves of a pixel become whole ones."""
+    for units in (units_for(1, 2, resolution), TEX_UNITS):
+        table = words_table(rng, SCALED_FONTS, unit_of(units, resolution))
+        file = scaled_volume(units, [[right(font.number % 2), *commands(rng, font), MARK] for font in SCALED_FONTS])
+        for font in SCALED_FONTS:
+            ask_placed(group, file, table, resolution, font.number + 1)
+
+
+def on_the_next_page(group, rng):
+    """Pages that begin with another font than the page before ended with, or with the same one, or have none."""
+    for resolution in (50, 300):
+        units, pages = units_for(1, 2, resolution), []
+        for font in SCALED_FONTS:
+            for other in some_others(font)[1:3]:
+                here, there = ([dvi.any_select(rng, one.number), *there_and_back(one, font.number)] for one in (font, other))
+                pages += [here, there, there + here, here + there, [right(1)] * 3 + [MARK]]
+        file, table = scaled_volume(units, pages), words_table(rng, SCALED_FONTS, unit_of(units, resolution))
+        for number in range(1, len(pages) + 1):
+            ask_placed(group, file, table, resolution, number)
+
+
+def scales_at_the_ends(group, rng):
+    """Characters whose widths lead to the ends of h's range and one step past, each behind one of another font."""
+    words = (bytes([0, 255, 255, 255]), bytes([255, 0, 0, 0]), bytes([0, 128, 0, 1]), bytes([255, 128, 0, 1]))
+    rows = [record(77, font.scale, code, 0, word) for font in SCALED_FONTS for code, word in enumerate(words)]
+    for units, resolution in ((units_for(1, 2, 50), 50), (TINY_UNITS, 300)):
+        pages = []
+        for font in SCALED_FONTS:
+            for code, word in enumerate(words):
+                other, end = rng.choice(some_others(font)), -FURTHEST if word[0] else FURTHEST
+                start = end - scaled(word, font.scale)
+                for past in (0, 1 if end > 0 else -1):
+                    pages.append([select(other.number), character(code, 1, PUT1), select(font.number), right(start + past, 4),
+                                  character(code, 1, PUT1), bytes([code]), MARK])
+        file = scaled_volume(units, pages)
+        for number in range(1, len(pages) + 1):
+            ask_placed(group, file, b"".join(rows), resolution, number)
+
+
+def pages_with_scales(group, rng, count):
+    """Files of random pages with many selections among their commands."""
+    for _ in range(count):
+        resolution = rng.choice(SCALED_RESOLUTIONS)
+        units, fonts = rng.choice([units_for(1, 2, resolution), TEX_UNITS]), rng.sample(SCALED_FONTS, 4)
+        pages = []
+        for length in (10, 10, 60, 60, 200):
+            commands = []
+            for command in random_page(rng, fonts, length):
+                commands.append(command)
+                while rng.random() < 0.2:
+                    commands += [dvi.any_select(rng, rng.choice(fonts).number), bytes([rng.randrange(128)])]
+            pages.append([*commands, MARK])
+        file, table = scaled_volume(units, pages), words_table(rng, fonts, unit_of(units, resolution), 256)
+        for number in range(1, len(pages) + 1):
+            ask_placed(group, file, table, resolution, number)
+
+
 def groups(gather, rng, long):
     """All of them, one group a notion; the random ones many times in the long form."""
     for make in (every_opcode, near_and_far, edge_of_range, many_fonts, deepest, stated_depths, codes, order_of_refusals,
@@ -549,3 +678,18 @@ def bar_groups(gather, rng, long):
     for turn in range(100 if long else 5):
         with gather(f"bars: random pages {turn + 1}") as group:
             pages_with_bars(group, rng, 60)
+
+
+def scale_groups(gather, numbers, long, wanted=lambda name: True):
+    """Those of fonts' scales that are wanted, whose answers are all worked out from the rules. `numbers` gives each group its random numbers, by
+    its name."""
+    makers = {"scales: on the next page": (on_the_next_page,), "scales: at the ends": (scales_at_the_ends,)}
+    for commands in (selected_in_turn, inside_push_and_pop, again_and_absent):
+        for resolution in SCALED_RESOLUTIONS:
+            makers[f"scales: {commands.__name__.replace('_', ' ')} at {resolution} dots per inch"] = pages_of_scales, commands, resolution
+    for turn in range(100 if long else 2):
+        makers[f"scales: random pages {turn + 1}"] = pages_with_scales, 12
+    for name, (make, *more) in makers.items():
+        if wanted(name):
+            with gather(name) as group:
+                make(group, numbers(name), *more)

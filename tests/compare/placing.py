@@ -19,6 +19,21 @@ class OutOfRange(Exception):
     """Refusal 16."""
 
 
+def halved(scale, bound=1 << 23):
+    """The scale, halved until it is below the bound, and 16, doubled as often."""
+    z, alpha = scale, 16
+    while z >= bound:
+        z, alpha = z // 2, 2 * alpha
+    return z, alpha
+
+
+def scaled(word, scale):
+    """A fix word at this scale, as TeX multiplies."""
+    z, alpha = halved(scale)
+    b0, b1, b2, b3 = word
+    return ((b3 * z // 256 + b2 * z) // 256 + b1 * z) // (256 // alpha) - (alpha * z if b0 == 255 else 0)
+
+
 class Placing:
     """A page's numbers on their way through its commands: `at` has h, v, w, x, y, z and the pixels hh and vv by their names."""
 
@@ -27,6 +42,16 @@ class Placing:
         self.over, self.under = Fraction(num * mag * resolution, den * 254_000_000).as_integer_ratio()  # K
         self.drift = 2 if resolution >= 200 else 1 if resolution >= 100 else 0
         self.at, self.saved, self.scale = dict.fromkeys(("h", "v", "w", "x", "y", "z", "hh", "vv"), 0), [], 0
+
+    scaled = staticmethod(scaled)  # one of the rules that a wrong one can take the place of
+
+    def select(self, scale):
+        """A font of this scale is current from here on; *push* and *pop* leave it alone."""
+        self.scale = scale
+
+    def width(self, word):
+        """How far a character of the current font with this fix word moves h."""
+        return self.scaled(word, self.scale)
 
     def nearest(self, n):
         """K times n, rounded; a half goes away from 0."""
@@ -57,15 +82,6 @@ class Placing:
     def bar(self, n):
         """The move of a rule that is set."""
         self.carry("h", n, self.at["hh"] + self.upwards(n))
-
-
-def scaled(word, scale):
-    """A fix word at this scale, as TeX multiplies."""
-    z, alpha = scale, 16
-    while z >= 1 << 23:
-        z, alpha = z // 2, 2 * alpha
-    b0, b1, b2, b3 = word
-    return ((b3 * z // 256 + b2 * z) // 256 + b1 * z) // (256 // alpha) - (alpha * z if b0 == 255 else 0)
 
 
 @functools.lru_cache(8)
@@ -112,7 +128,7 @@ def placed(file, table, resolution, number, rules=Placing):
                 else:
                     rows.append(["c", number, font.number, at["hh"], at["vv"], code, found[0]])
                     if opcode < dvi.SET_RULE:
-                        state.carry("h", scaled(found[1], font.scale), at["hh"] + found[0])
+                        state.carry("h", state.width(found[1]), at["hh"] + found[0])
             elif opcode == dvi.PUSH:
                 state.saved.append(dict(at))
             elif opcode == dvi.POP:
@@ -125,7 +141,7 @@ def placed(file, table, resolution, number, rules=Placing):
                 state.move(way, distance)
             elif dvi.FNT_NUM_0 <= opcode < dvi.XXX1:
                 font = fonts[dvi.unsigned(command[1:]) if len(command) > 1 else opcode - dvi.FNT_NUM_0]
-                state.scale = font.scale
+                state.select(font.scale)
             elif dvi.XXX1 <= opcode < dvi.FNT_DEF1:
                 specials += 1
         except OutOfRange:

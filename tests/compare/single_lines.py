@@ -1,7 +1,8 @@
 """Lines that need no DVI file worth the name, numbers at their edges, and lines that are `no input`."""
 
 from dvi import FURTHEST, GREATEST_SCALE, PLAIN_UNITS, TEX_UNITS, Font, page, right, select, volume
-from made_up import edge_units, naming
+from made_up import SCALES_AROUND_HALVINGS, edge_units, naming
+from placing import scaled
 from tables import record
 
 DISTANCES = (0, 1, -1, 2, -2, 3, -3, 5, 499, 500, 501, FURTHEST, -FURTHEST, -FURTHEST - 1, FURTHEST - 1, 1_073_741_823, -1_073_741_824)
@@ -25,16 +26,33 @@ def rounding(group, rng, count):
                 group.ask(b"round %d %d %d %d 1" % (*units, resolution))
 
 
+def ask_scaled(group, scale, word):
+    """Asks for a width at this scale, with the answer that the rules give."""
+    line = b"scale %d %d %d %d %d" % (scale, *word)
+    lawful = 1 <= scale <= GREATEST_SCALE and word[0] in (0, 255)
+    group.ask(line)
+    group.expect(line, [["width", scaled(word, scale)] if lawful else ["refused", 14, "at", 0]])
+
+
+def edge_words():
+    """Fix words with the first byte right and wrong: the least and the greatest, one em and the next below it, each other byte alone."""
+    words = [(first, *[rest] * 3) for first in (0, 255, 1, 254, 127, 128) for rest in (0, 255)]
+    words += [(0, 16, 0, 0), (0, 15, 255, 255), (255, 240, 0, 0), (255, 239, 255, 255)]
+    for first in (0, 255):
+        for byte in (1, 128, 255):
+            words += [(first, byte, 0, 0), (first, 0, byte, 0), (first, 0, 0, byte)]
+    return words
+
+
 def scaling(group, rng, count):
-    scales = [0, 1, 2, 3, 255, 256, 65_536, 655_360, 8_388_607, 8_388_608, 8_388_609, 16_777_215, 16_777_216, 16_777_217, 33_554_431,
-              33_554_432, 67_108_863, 67_108_864, GREATEST_SCALE - 1, GREATEST_SCALE, GREATEST_SCALE + 1, 1 << 31, (1 << 32) - 1]
+    scales = [0, 1, 2, 3, 255, 256, 65_536, 655_360, *SCALES_AROUND_HALVINGS, GREATEST_SCALE + 1, 1 << 31, (1 << 32) - 1]
     for scale in scales:
-        for first in (0, 255, 1, 254, 127, 128):
-            group.ask(b"scale %d %d 0 0 0" % (scale, first), b"scale %d %d 255 255 255" % (scale, first))
+        for word in edge_words():
+            ask_scaled(group, scale, word)
     for _ in range(count):
         scale = rng.choice([rng.choice(scales), rng.randrange(1, GREATEST_SCALE), 1 << rng.randrange(28)])
         rest = [rng.choice([0, 1, 255, rng.randrange(256)]) for _ in range(3)]
-        group.ask(b"scale %d %d %d %d %d" % (scale, rng.choice([0, 0, 0, 255, 255, 255, rng.randrange(256)]), *rest))
+        ask_scaled(group, scale, (rng.choice([0, 0, 0, 255, 255, 255, rng.randrange(256)]), *rest))
 
 
 def reading(group, rng):
