@@ -1,4 +1,4 @@
-"""The questions of tests/compare as jobs: made-up files, each group for one notion, bars, widths, PK fonts, published files, and damaged ones."""
+"""The questions of tests/compare as jobs: made-up files, each group for one notion, bars, fonts' scales, widths, PK fonts, published files, and damaged ones."""
 
 import contextlib
 import random
@@ -64,6 +64,7 @@ def ask_all(take, seed, damaged_files):
     published.groups(gather, random.Random(f"{seed} published"), paths)
     made_up.groups(gather, random.Random(f"{seed} made-up"), False)
     made_up.bar_groups(gather, random.Random(f"{seed} bars"), False)
+    made_up.scale_groups(gather, lambda name: random.Random(f"{seed} {name}"), False)
     with gather("lines: scaling") as group:
         single_lines.scaling(group, random.Random(f"{seed} scaling"), 400)
     small = [path.read_bytes() for path in paths if path.stat().st_size <= 2000]
