@@ -1,4 +1,4 @@
--- What a found record tells: it is one of the table's, and its numbers are small. Assumes nothing.
+-- What was found tells: it was read from the table, and its numbers are small. Assumes nothing.
 use mathlib.Core.Path.{_≡_, sym, subst}
 use mathlib.Core.Bool.{Bool, true, false, cond}
 use mathlib.Core.List.{List}
@@ -15,7 +15,7 @@ use Rattle.widths.specs.LookUp.{found, metricOf, isFor, walkFrom, walk}
 use Rattle.widths.proofs.OneDivision.{width-small}
 use Rattle.widths.proofs.TableLaws.{width-bytes}
 
--- a metric is that of a record of the table
+-- a metric was read from the table, at some index
 pub record Hit (table : List ℕ) (m : Metric) : Type 0 where
   pub index : ℕ
   pub metric-is : m ≡ metricOf (recordOf table index)
@@ -31,7 +31,7 @@ module _ (table : List ℕ) (checksum scale byte : ℕ) (m : Metric) where
   hit-from zero index is = let z : _≡_ {A = ℕ} 0 1 = cc in absurd (omega arith)
   hit-from (suc left) index is = hit-by left index (isFor (recordOf table index) checksum scale byte) is (hit-from left (suc index))
 
-  -- what a walk finds is one of its rows
+  -- what a walk finds was
   pub walk-found : (rows : ℕ) → walk rows table checksum scale byte ≡ found m → Hit table m
   walk-found rows is = hit-from rows 0 is
 

@@ -16,7 +16,6 @@ use Rattle.commands.specs.Commands.{Command, kindOfCommand, whole, front}
 use Rattle.list.specs.Past.{isA, depthAfter}
 use Rattle.list.specs.Rules.{wrongAtDepth}
 use Rattle.volume.specs.History.{history}
-use Rattle.widths.specs.Steps.{weightOf}
 use Rattle.list.proofs.Arms.{is-kind}
 use Rattle.volume.proofs.Going.{after-command}
 use Rattle.state.specs.declared.Level.{Level}
@@ -70,10 +69,6 @@ popped-bounded s (l ∷ levels) all bounded kept = (all .0, all .1)
 pub popped-font : (s : State) (levels : List Level) → poppedTo s levels .font ≡ s .font
 popped-font s [] = refl
 popped-font s (l ∷ levels) = refl
-
--- what the first byte of a fix word counts is kept for the page's font
-abbrev pub Weighs : Page → ℕ → Type 0
-Weighs page weight = weight ≡ weightOf (page .font .scale)
 
 -- ---- what is still to come
 

@@ -11,6 +11,7 @@ use Rattle.refusals.specs.Answer.{Answer, refused, given, refusal}
 use Rattle.units.specs.Steps.{Accepted}
 use Rattle.units.specs.Rounding.{roundedUp}
 use Rattle.widths.specs.Table.{checkedTable}
+use Rattle.widths.specs.Steps.{sixteenfoldOf}
 use Rattle.commands.specs.declared.Kind.{Kind}
 use Rattle.commands.specs.declared.Kind.the-variants as Kind
 use Rattle.commands.specs.Kinds.{is}
@@ -134,6 +135,10 @@ Few most (Walked.Left place) = Unit {0}
 pub record Known (font : Font) : Type 0 where
   pub checksum-small : font .checksum < 2 ^ 32
   pub scale-small : font .scale ≤ 134217727
+
+-- the sixteenfold that is kept for a font is that of its scale
+abbrev pub KeptFor : Font → ℕ → Type 0
+KeptFor font sixteenfold = sixteenfold ≡ sixteenfoldOf (font .scale)
 
 -- a state of these
 abbrev pub stateWith : Level → List Level → Font → State

@@ -25,13 +25,12 @@ ghost use lib.IntN.{natAbs};
 ghost use Rattle.refusals.specs.Answer.{given};
 ghost use Rattle.units.specs.Steps.{Accepted};
 ghost use Rattle.widths.specs.Table.{checkedTable};
-ghost use Rattle.widths.specs.Steps.{weightOf};
 ghost use Rattle.commands.specs.Lengths.{lengths};
 ghost use Rattle.commands.specs.Commands.{Whole};
 ghost use Rattle.volume.specs.History.{history};
 ghost use Rattle.state.specs.Steps.{Bounded};
 ghost use Rattle.page.specs.Placing.{distanceOr};
-ghost use Rattle.page.specs.Steps.{addedOf, AddsInWords, Known, Told, termsSetting, CharacterAsks, ruleBy, unlessLeft, plainTurn, registerTurn, turnOf, command, MoveFits, RuleAsks, CommandAsks, StepAsks};
+ghost use Rattle.page.specs.Steps.{addedOf, AddsInWords, Known, KeptFor, Told, termsSetting, CharacterAsks, ruleBy, unlessLeft, plainTurn, registerTurn, turnOf, command, MoveFits, RuleAsks, CommandAsks, StepAsks};
 
 // Where the search for a character starts: records of one font whose codes follow each other are as far apart as their codes.
 fn guess(hint: usize, byte: u64) -> usize
@@ -47,19 +46,19 @@ fn guess(hint: usize, byte: u64) -> usize
     sum - 256
 }
 
-// What a character asks, set or put. `weight` is what the first byte of a fix word counts at the font's scale.
+// What a character asks, set or put. `sixteenfold` is that of the font's scale.
 fn character(
     widths: &[u8],
     terms: Terms,
     level: Level,
     font: Font,
-    weight: u64,
+    sixteenfold: u64,
     sets: bool,
     code: i64,
     hint: usize,
 ) -> Asked
     requires { ⌜ (checkedTable (now widths) ≡ given (terms .rows)) × Known font ⌝ }
-    requires { ⌜ Bounded level × (natAbs code ≤ 2 ^ 31) × (weight ≡ weightOf (font .scale)) ⌝ }
+    requires { ⌜ Bounded level × (natAbs code ≤ 2 ^ 31) × KeptFor font sixteenfold ⌝ }
     ensures { λ r. ⌜ CharacterAsks terms (now (widths .entry)) level font sets code r ⌝ }
 {
     let byte = numbers::to_twos(256, code);
@@ -90,7 +89,7 @@ fn character(
                     hint: hint,
                 };
             }
-            let width = scaling::weighed(weight, metric.width);
+            let width = scaling::scaled(sixteenfold, metric.width);
             let past = Turn::PastCharacter(width, escapement);
             Asked {
                 turn: unless_left(Direction::Sideways, level, width, past),
@@ -218,11 +217,11 @@ fn asked_by(
     params: &[u8],
     level: Level,
     font: Font,
-    weight: u64,
+    sixteenfold: u64,
     hint: usize,
 ) -> Asked
     requires { ⌜ Whole (command opcode (now params)) × Told (now file) (now fonts) (history (now file)) ⌝ }
-    requires { ⌜ (checkedTable (now widths) ≡ given (terms .rows)) × Accepted (terms .ruler .k) × Known font × Bounded level × (weight ≡ weightOf (font .scale)) ⌝ }
+    requires { ⌜ (checkedTable (now widths) ≡ given (terms .rows)) × Accepted (terms .ruler .k) × Known font × Bounded level × KeptFor font sixteenfold ⌝ }
     ensures { λ r. ⌜ CommandAsks (termsSetting terms (now (widths .entry)) (history (now (file .entry)))) level font (command opcode (now (params .entry))) r ⌝ }
 {
     let kind = commands::kind_of(opcode);
@@ -230,7 +229,7 @@ fn asked_by(
         Kind::SetCharacter | Kind::PutCharacter => {
             let code = parameters::character_code(opcode, params);
             let sets = opcode < 132;
-            character(widths, terms, level, font, weight, sets, code, hint)
+            character(widths, terms, level, font, sixteenfold, sets, code, hint)
         }
         Kind::SetRule => rule(terms, level, true, params, hint),
         Kind::PutRule => rule(terms, level, false, params, hint),
@@ -265,11 +264,11 @@ pub fn step_at(
     at: usize,
     level: Level,
     font: Font,
-    weight: u64,
+    sixteenfold: u64,
     hint: usize,
 ) -> Step
     requires { ⌜ Told (now file) (now fonts) (history (now file)) ⌝ }
-    requires { ⌜ (checkedTable (now widths) ≡ given (terms .rows)) × Accepted (terms .ruler .k) × Known font × Bounded level × (now table ≡ lengths) × (weight ≡ weightOf (font .scale)) ⌝ }
+    requires { ⌜ (checkedTable (now widths) ≡ given (terms .rows)) × Accepted (terms .ruler .k) × Known font × Bounded level × (now table ≡ lengths) × KeptFor font sixteenfold ⌝ }
     ensures { λ r. ⌜ StepAsks (now (file .entry)) at (termsSetting terms (now (widths .entry)) (history (now (file .entry)))) level font r ⌝ }
 {
     match commands::read_by(table, file, at) {
@@ -296,7 +295,7 @@ pub fn step_at(
                     params,
                     level,
                     font,
-                    weight,
+                    sixteenfold,
                     hint,
                 ),
                 next: next,

@@ -25,7 +25,7 @@ fn exchanged(hints: &mut [usize; 256], before: u64, after: u64, hint: usize) -> 
 }
 
 // Walks over the page whose commands start at a place, counts what they add, and writes each record that the area has room for. A font's scale is halved
-// where the font is selected, once for all its characters.
+// where the font is selected, not at each of its characters.
 pub fn walk(
     file: &[u8],
     widths: &[u8],
@@ -47,7 +47,7 @@ pub fn walk(
     };
     let mut at = start;
     let mut hint: usize = 0;
-    let mut weight: u64 = 0;
+    let mut sixteenfold: u64 = 0;
     let mut hints = [0usize; 256];
     let table = commands::length_table();
     loop {
@@ -62,7 +62,7 @@ pub fn walk(
             at,
             now,
             page.font,
-            weight,
+            sixteenfold,
             hint,
         );
         let asked = step.asked;
@@ -104,7 +104,7 @@ pub fn walk(
             }
             Turn::Select(font) => {
                 hint = exchanged(&mut hints, page.font.number, font.number, hint);
-                weight = scaling::weight_of(font.scale);
+                sixteenfold = scaling::sixteenfold_of(font.scale);
                 page = page.select(font);
             }
             Turn::End => return Walked::Through(counts),

@@ -15,7 +15,7 @@ not-halved : (scale : ℕ) → scale < 8388608 → halved scale ≡ record { z =
 unfolding halving
 not-halved scale small = rw (lt-leb 8388608 scale small)
 
--- so there a width is the scale times the fix word over 2^20, cut downwards; from 2^23 on that would not be so (rule 6.6)
+-- so there a width is the scale times the fix word over 2^20, cut downwards; above 2^23 that is not always so (rule 6.6)
 pub widths-are-tex : (scale : ℕ) (w : FixWord) → scale < 8388608
     → scaledBy scale w ≡ cond (eqb (w .b0) 255) (pos (fraction w * scale / 1048576) -ℤ pos (16 * scale)) (pos (fraction w * scale / 1048576))
 widths-are-tex scale w small =

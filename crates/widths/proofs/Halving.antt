@@ -1,12 +1,12 @@
 -- The loop that halves z and doubles α, against `halving`: a turn takes one from the times left. Assumes nothing.
 use mathlib.Core.Path.{_≡_, refl, sym, ap, subst, _∙_}
-use mathlib.Core.Bool.{Bool, true, false}
+use mathlib.Core.Bool.{Bool, true, false, cond}
 use Prim.Native.Nat.{ℕ, zero, suc, _*_, _/_, _^_, _≤_, _<_}
 use native.Mathlib.Nat.{pow-suc, mul-assoc, mul-comm, zero-mul, le-mul-of-pos-right, mul-le-mul-left}
 use native.Mathlib.Omega.{arith}
 use lib.Dec.{leb}
 use lib.Pow.{pow-pos}
-use borrow.Author.Tests.{le-leb, lt-leb, leb-true, leb-false}
+use borrow.Author.Tests.{le-leb, lt-leb}
 use Rattle.widths.specs.Scaling.{Halved, halving, halved}
 
 abbrev at : ℕ → ℕ → Halved
@@ -28,6 +28,9 @@ pub record Settled (scale : ℕ) (k : Halved) : Type 0 where
 pub start : (scale : ℕ) → scale ≤ 134217727 → Left scale 4 scale 16
 start scale h = record { below = omega arith; full = refl; kept = omega arith; rest = refl }
 
+doubled : (alpha times : ℕ) → alpha * 2 ^ suc times ≡ 256 → alpha * 2 * 2 ^ times ≡ 256
+doubled alpha times full = mul-assoc alpha 2 (2 ^ times) ∙ ap (λ (x : ℕ). alpha * x) (mul-comm 2 (2 ^ times) ∙ sym (pow-suc 2 times)) ∙ full
+
 double-half : (alpha z : ℕ) → alpha * 2 * (z / 2) ≤ alpha * z
 double-half alpha z = subst (λ (n : ℕ). n ≤ alpha * z) (sym (mul-assoc alpha 2 (z / 2))) (mul-le-mul-left alpha (omega arith))
 
@@ -37,7 +40,7 @@ module _ (scale z alpha : ℕ) where
   turn-by times l h =
       record {
         below = omega (arith, l .below, pow-suc 2 times);
-        full = mul-assoc alpha 2 (2 ^ times) ∙ ap (λ (x : ℕ). alpha * x) (mul-comm 2 (2 ^ times) ∙ sym (pow-suc 2 times)) ∙ l .full;
+        full = doubled alpha times (l .full);
         kept = omega (arith, l .kept, double-half alpha z);
         rest = simp (le-leb 8388608 z h) at (l .rest);
       }
@@ -52,24 +55,22 @@ module _ (scale z alpha : ℕ) where
   done zero l h = l .rest
   done (suc times) l h = simp (lt-leb 8388608 z h) at (l .rest)
 
-  finish : (times : ℕ) → Left scale times z alpha → Settled scale (at z alpha)
-  finish times l = record { times = times; full = l .full; kept = l .kept }
-
+-- at every scale α divides 256, and α × z is at most 16 times the scale, since halving ends after four times
 module _ (scale : ℕ) where
-  settled-by : (times z alpha : ℕ) (more : Bool) → leb 8388608 z ≡ more → Left scale (suc times) z alpha → (Left scale times (z / 2) (alpha * 2) → Settled scale (halved scale)) → Settled scale (halved scale)
-  settled-by times z alpha true e l next = next (turn-by scale z alpha times l (leb-true 8388608 z e))
-  settled-by times z alpha false e l next =
-      let h : z < 8388608 = leb-false 8388608 z e in
-      subst (Settled scale) (done scale z alpha (suc times) l h) (finish scale z alpha (suc times) l)
+  settled-by : (times z alpha : ℕ) (more : Bool) → alpha * 2 ^ suc times ≡ 256 → alpha * z ≤ 16 * scale → Settled scale (halving times (z / 2) (alpha * 2))
+      → Settled scale (cond more (halving times (z / 2) (alpha * 2)) (at z alpha))
+  settled-by times z alpha true full kept next = next
+  settled-by times z alpha false full kept next = record { times = suc times; full = full; kept = kept }
 
-  settled-from : (times z alpha : ℕ) → Left scale times z alpha → Settled scale (halved scale)
-  settled-from zero z alpha l =
-      let h : z < 8388608 = omega (arith, l .below) in
-      subst (Settled scale) (done scale z alpha zero l h) (finish scale z alpha zero l)
-  settled-from (suc times) z alpha l = settled-by times z alpha (leb 8388608 z) refl l (settled-from times (z / 2) (alpha * 2))
+  settled-from : (times z alpha : ℕ) → alpha * 2 ^ times ≡ 256 → alpha * z ≤ 16 * scale → Settled scale (halving times z alpha)
+  unfolding halving
+  settled-from zero z alpha full kept = record { times = zero; full = full; kept = kept }
+  settled-from (suc times) z alpha full kept =
+      settled-by times z alpha (leb 8388608 z) full kept
+      (settled-from times (z / 2) (alpha * 2) (doubled alpha times full) (omega (arith, kept, double-half alpha z)))
 
-  pub settled : scale ≤ 134217727 → Settled scale (halved scale)
-  settled h = settled-from 4 scale 16 (start scale h)
+  pub settled : Settled scale (halved scale)
+  settled = settled-from 4 scale 16 refl (omega arith)
 
 -- α is not 0 and at most 256
 module _ (times alpha : ℕ) (full : alpha * 2 ^ times ≡ 256) where

@@ -178,7 +178,7 @@ module _ (table : List ℕ) (records : ℕ) where
     pub record-inside : (index : ℕ) → index < records → index * widthRecordSize + widthRecordSize ≤ length table
     record-inside index h = omega (arith, table-size)
 
-    pub record-right : (index : ℕ) → index < records → rightRecord table index ≡ true
+    record-right : (index : ℕ) → index < records → rightRecord table index ≡ true
     record-right index h = right-all .right index (omega arith) h
 
     rises-one : (index : ℕ) → suc index < records → recordOf table index .key < recordOf table (suc index) .key

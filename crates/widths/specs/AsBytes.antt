@@ -27,6 +27,6 @@ pub record LastBytes (w : FixWord) : Type 0 where
   pub b2-below : w .b2 < 256
   pub b3-below : w .b3 < 256
 
--- its last three bytes as one number (rules 1.2, 6.1)
+-- the last three bytes of a fix word as one number (rules 1.2, 6.1)
 abbrev pub fraction : FixWord → ℕ
 fraction w = w .b1 * 65536 + w .b2 * 256 + w .b3

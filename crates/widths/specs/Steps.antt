@@ -21,13 +21,13 @@ use Rattle.widths.specs.AsBytes.{fraction}
 use Rattle.widths.specs.Table.{WidthRecord, recordOf}
 use Rattle.widths.specs.LookUp.{LookUp, found, absent, metricOf}
 
--- what the first byte of a fix word counts at a scale
-unfoldable pub weightOf : ℕ → ℕ
-weightOf scale = halved scale .alpha * halved scale .z
+-- sixteen times a scale, less the bits that halving loses
+unfoldable pub sixteenfoldOf : ℕ → ℕ
+sixteenfoldOf scale = halved scale .alpha * halved scale .z
 
--- a width by what the first byte counts: the other three are a number of 2^24ths of it
-abbrev pub weighedBy : ℕ → FixWord → ℤ
-weighedBy weight w = let positive = fraction w * weight / 16777216 in cond (eqb (w .b0) 255) (pos positive -ℤ pos weight) (pos positive)
+-- a width from the sixteenfold of its scale: the last three bytes are 2^24ths of it, a first byte of 255 takes it away
+abbrev pub widthFrom : ℕ → FixWord → ℤ
+widthFrom sixteenfold w = let positive = fraction w * sixteenfold / 16777216 in cond (eqb (w .b0) 255) (pos positive -ℤ pos sixteenfold) (pos positive)
 
 -- a key as the number of its nine bytes
 abbrev pub keyNumber : Key → ℕ

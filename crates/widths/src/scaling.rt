@@ -5,12 +5,12 @@ ghost use mathlib.Core.Bool.{true};
 ghost use Prim.Native.Nat.{_≤_, _<_, _^_};
 ghost use Rattle.numbers.specs.Sizes.{lawfulSize};
 ghost use Rattle.widths.specs.Scaling.{scaledBy, lawfulFirst};
-ghost use Rattle.widths.specs.Steps.{weightOf, weighedBy};
+ghost use Rattle.widths.specs.Steps.{sixteenfoldOf, widthFrom};
 
-// What the first byte of a fix word counts: α × z. While z is 8,388,608 or more, z is halved downwards and α doubled.
-pub fn weight_of(scale: u64) -> u64
+// Sixteen times the scale, less the bits that halving loses: α × z. While z is 8,388,608 or more, z is halved downwards and α doubled.
+pub fn sixteenfold_of(scale: u64) -> u64
     requires { ⌜ scale ≤ 134217727 ⌝ }
-    ensures { λ r. ⌜ r ≡ weightOf scale ⌝ }
+    ensures { λ r. ⌜ r ≡ sixteenfoldOf scale ⌝ }
 {
     let mut z = scale;
     let mut alpha: u64 = 16;
@@ -21,17 +21,18 @@ pub fn weight_of(scale: u64) -> u64
     alpha * z
 }
 
-// The width of a fix word by what its first byte counts: one product and one division. The divisor is the same at every scale, so the division is a shift.
-pub fn weighed(weight: u64, w: FixWord) -> i64
-    requires { ⌜ weight < 2 ^ 31 ⌝ }
-    ensures { λ r. ⌜ r ≡ weighedBy weight w ⌝ }
+// The width of a fix word, from the sixteenfold of its scale: one product and one division. The last three bytes are 2^24ths of the sixteenfold; a first byte
+// of 255 takes it away once. The divisor is a power of two and the same at every scale, so the compiler makes the division a shift.
+pub fn scaled(sixteenfold: u64, w: FixWord) -> i64
+    requires { ⌜ sixteenfold < 2 ^ 31 ⌝ }
+    ensures { λ r. ⌜ r ≡ widthFrom sixteenfold w ⌝ }
 {
     let fraction = numbers::wide(w.b1) * 65536 + numbers::wide(w.b2) * 256 + numbers::wide(w.b3);
-    let product = fraction * weight;
+    let product = fraction * sixteenfold;
     let positive = product / 16777216;
     let first = w.b0;
     if first == 255 {
-        numbers::difference(positive, weight)
+        numbers::difference(positive, sixteenfold)
     } else {
         positive as i64
     }
@@ -49,8 +50,8 @@ pub fn lawful_first(b0: u8) -> bool
 
 // The width of a fix word at a scale.
 pub fn scale_width(scale: u64, w: FixWord) -> i64
-    requires { ⌜ (lawfulSize scale ≡ true) × (lawfulFirst (w .b0) ≡ true) ⌝ }
+    requires { ⌜ lawfulSize scale ≡ true ⌝ }
     ensures { λ r. ⌜ r ≡ scaledBy scale w ⌝ }
 {
-    weighed(weight_of(scale), w)
+    scaled(sixteenfold_of(scale), w)
 }

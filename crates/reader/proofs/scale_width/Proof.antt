@@ -35,7 +35,7 @@ returns-2 : tie.Need-returns-2
 returns-2 c = simp (scale-passes (c .before .before), first-fails c)
 
 scale-width-requires : tie.Need-scale-width-requires
-scale-width-requires c κs = (scale-passes (c .before .before), first-passes c)
+scale-width-requires c κs = scale-passes (c .before .before)
 
 returns-3 : tie.Need-returns-3
 returns-3 c =

@@ -1,4 +1,4 @@
--- `page::steps::character` meets its contract: the search answers as the walk, and a found record is lawful and small. Assumes nothing.
+-- `page::steps::character` meets its contract: the search answers as the walk, and what a found record holds is small. Assumes nothing.
 use mathlib.Core.Path.{_≡_, sym, ap, ap₂, _∙_, subst}
 use mathlib.Core.Bool.{true}
 use Prim.Native.Nat.{ℕ, _≤_, _<_, _^_}
@@ -15,8 +15,8 @@ use Rattle.numbers.specs.Signs.{toTwos}
 use Rattle.numbers.proofs.Signed.{to-below}
 use Rattle.widths.specs.Scaling.{scaledBy}
 use Rattle.widths.specs.LookUp.{found, codeByte, walk}
-use Rattle.widths.specs.Steps.{weighedBy, foundAt, Among}
-use Rattle.widths.proofs.OneDivision.{one-division, weight-small}
+use Rattle.widths.specs.Steps.{widthFrom, foundAt, Among}
+use Rattle.widths.proofs.OneDivision.{one-division, sixteenfold-small}
 use Rattle.widths.proofs.TableLaws.{record-inside}
 use Rattle.state.specs.declared.moving.Direction.the-variants as Direction
 use Rattle.page.specs.declared.Turn.{Turn}
@@ -88,8 +88,7 @@ found-is c =
     let k = c .before .before in
     sym (looked-is (k .before .before)) ∙ ap (foundAt (now (start c .args .widths))) (k .index .given .1) ∙ ap found (sym (c .metric-of .ensures))
 
-hit : (c : tie.After-metric-of) → let a = start c .args in
-    Hit (now (a .widths)) (c .metric-of .result)
+hit : (c : tie.After-metric-of) → Hit (now (start c .args .widths)) (c .metric-of .result)
 hit c =
     let a = start c .args in
     walk-found (now (a .widths)) (a .font .checksum) (a .font .scale) (codeByte (a .code)) (c .metric-of .result) (a .terms .rows) (found-is c)
@@ -114,18 +113,18 @@ returns c =
     let m = c .before .before .before in
     put-asks (present m) (not-true (start m .args .sets) (c .if1 .taken))
 
-weighed-requires : tie.Need-weighed-requires
-weighed-requires c κs =
+scaled-requires : tie.Need-scaled-requires
+scaled-requires c κs =
     let s = start (c .before .before .before) in
-    omega (arith, s .pre .1 .2, weight-small (s .args .font .scale) (s .pre .0 .1 .scale-small))
+    omega (arith, s .pre .1 .2, sixteenfold-small (s .args .font .scale) (s .pre .0 .1 .scale-small))
 
-width-is : (c : tie.After-weighed) → let m = c .before .before .before .before in
-    toZ w64 (ofZ w64 (c .weighed .result)) ≡ scaledBy (start m .args .font .scale) (m .metric-of .result .width)
+width-is : (c : tie.After-scaled) → let m = c .before .before .before .before in
+    toZ w64 (ofZ w64 (c .scaled .result)) ≡ scaledBy (start m .args .font .scale) (m .metric-of .result .width)
 width-is c =
     let m = c .before .before .before .before in
     let s = start m in
-    toZ-ofZ (sfits-of (c .weighed .ok)) ∙ c .weighed .ensures ∙ ap (λ (weight : ℕ). weighedBy weight (m .metric-of .result .width)) (s .pre .1 .2)
-    ∙ one-division (s .args .font .scale) (s .pre .0 .1 .scale-small) (m .metric-of .result .width)
+    toZ-ofZ (sfits-of (c .scaled .ok)) ∙ c .scaled .ensures ∙ ap (λ (sixteenfold : ℕ). widthFrom sixteenfold (m .metric-of .result .width)) (s .pre .1 .2)
+    ∙ one-division (s .args .font .scale) (m .metric-of .result .width)
 
 unless-left-requires : tie.Need-unless-left-requires
 unless-left-requires c κs =
@@ -162,7 +161,7 @@ character-spec =
     add-hint
     sub-hint
     returns
-    weighed-requires
+    scaled-requires
     unless-left-requires
     returns-2
     returns-3)

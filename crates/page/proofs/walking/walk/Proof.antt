@@ -9,8 +9,8 @@ use lib.IntN.{ℤ}
 use denote.Ref.{now}
 use mir.Syntax.{w64}
 use mir.Val.{toZ, ofZ}
-use Rattle.widths.specs.Steps.{weightOf}
-use Rattle.widths.proofs.OneDivision.{weightless}
+use Rattle.widths.specs.Steps.{sixteenfoldOf}
+use Rattle.widths.proofs.OneDivision.{sixteenfold-none}
 use Rattle.volume.specs.History.{history}
 use Rattle.state.specs.declared.Level.{Level}
 use Rattle.state.specs.declared.Font.{Font}
@@ -28,19 +28,19 @@ use Rattle.page.specs.declared.Turn.the-variants as Turn
 use Rattle.page.specs.declared.Step.{Step}
 use Rattle.page.specs.Placing.{continues, withNumbers}
 use Rattle.page.specs.Blocks.{inside}
-use Rattle.page.specs.Steps.{addedOf, did, termsSetting, Known, StepAsks, Stays, Safe, turnFrame}
+use Rattle.page.specs.Steps.{addedOf, did, termsSetting, Known, KeptFor, StepAsks, Stays, Safe, turnFrame}
 use Rattle.page.proofs.Frames.{isEnding, depthBy}
 use Rattle.page.proofs.PageRuns.{runs-inside}
-use Rattle.page.proofs.WalkLaws.{Sound, state-sound, popped-bounded, popped-font, Weighs, Walking, starting, advances, few, in-ranges, onwards, leveled, push-room, pop-room, ended, left}
+use Rattle.page.proofs.WalkLaws.{Sound, state-sound, popped-bounded, popped-font, Walking, starting, advances, few, in-ranges, onwards, leveled, push-room, pop-room, ended, left}
 use Rattle.page.proofs.Words.{word, small-word}
 use Rattle.page.proofs.walking.walk.Statement.{statement}
 use Rattle.page.proofs.walking.walk.Tie as tie
 
 abbrev Inv-loop : tie.InvT-loop
-Inv-loop file widths fonts terms start out₀ ruler page₀ counts₀ at₀ hint₀ weight₀ hints₀ table out page counts at hint weight hints = Walking file fonts widths terms start out₀ out page counts at × Weighs page weight
+Inv-loop file widths fonts terms start out₀ ruler page₀ counts₀ at₀ hint₀ sixteenfold₀ hints₀ table out page counts at hint sixteenfold hints = Walking file fonts widths terms start out₀ out page counts at × KeptFor (page .font) sixteenfold
 
 abbrev μ-loop : tie.MeasureT-loop
-μ-loop file widths fonts terms start out₀ ruler page₀ counts₀ at₀ hint₀ weight₀ hints₀ table out page counts at hint weight hints = length file - at
+μ-loop file widths fonts terms start out₀ ruler page₀ counts₀ at₀ hint₀ sixteenfold₀ hints₀ table out page counts at hint sixteenfold hints = length file - at
 
 fresh-requires : tie.Need-fresh-requires Inv-loop μ-loop
 fresh-requires c κs = tt
@@ -52,8 +52,8 @@ loop-holds : tie.Need-loop-holds Inv-loop μ-loop
 loop-holds c =
     let s = c .before .before .before .before .before .before in
     let fresh = c .before .fresh in
-    let unselected = ap (λ (s : State). weightOf (s .font .scale)) (fresh .ensures .0) in
-    (starting (s .pre) (now (s .args .out)) (fresh .result) (fresh .ensures .0) (fresh .ensures .1) (fresh .ensures .2), sym (unselected ∙ weightless))
+    let unselected = ap (λ (x : State). sixteenfoldOf (x .font .scale)) (fresh .ensures .0) in
+    (starting (s .pre) (now (s .args .out)) (fresh .result) (fresh .ensures .0) (fresh .ensures .1) (fresh .ensures .2), sym (unselected ∙ sixteenfold-none))
 
 step-at-requires : tie.Need-step-at-requires Inv-loop μ-loop
 step-at-requires c κs =
@@ -104,7 +104,7 @@ module _ (n : tie.After-note Inv-loop μ-loop) where
 
   -- the next turn starts from this page, and with what is kept for its font
   abbrev Next : Page → ℕ → Type 0
-  Next page weight = Walking (now (entry read .args .file)) (now (entry read .args .fonts)) (now (entry read .args .widths)) (entry read .args .terms) (entry read .args .start) (now (entry read .args .out)) (n .note .last .0) page (n .note .result) (step read .next) × Weighs page weight
+  Next page sixteenfold = Walking (now (entry read .args .file)) (now (entry read .args .fonts)) (now (entry read .args .widths)) (entry read .args .terms) (entry read .args .start) (now (entry read .args .out)) (n .note .last .0) page (n .note .result) (step read .next) × KeptFor (page .font) sixteenfold
 
   abbrev before : Page
   before = head read .loop .page
@@ -115,11 +115,11 @@ module _ (n : tie.After-note Inv-loop μ-loop) where
   abbrev scale : ℕ
   scale = before .font .scale
 
-  abbrev weight : ℕ
-  weight = head read .loop .weight
+  abbrev sixteenfold : ℕ
+  sixteenfold = head read .loop .sixteenfold
 
-  weighs : Weighs before weight
-  weighs = head read .loop .inv .1
+  kept-for : KeptFor (before .font) sixteenfold
+  kept-for = head read .loop .inv .1
 
   bounded : Bounded (before .now)
   bounded = here read .sound .bounded
@@ -127,20 +127,20 @@ module _ (n : tie.After-note Inv-loop μ-loop) where
   -- to another level only
   to-level : (turn : Turn) → step read .asked .turn ≡ turn → turnFrame turn ≡ inside → (l : Level)
       → did ruler (pageState before) turn (step read .asked .adds) ≡ continues (withNumbers (pageState before) l) (addedOf (step read .asked .adds))
-      → (page : Page) → page ≡ withLevel before l → Bounded l → Next page weight
+      → (page : Page) → page ≡ withLevel before l → Bounded l → Next page sixteenfold
   to-level turn turn-is is-inside l led page page-is bounded = (
     leveled (here read) (step read) (asks read) turn turn-is is-inside l led page page-is bounded (n .note .last .0) (n .note .ensures .1) (n .note .result) (n .note .ensures .0),
-    weighs ∙ ap (λ (p : Page). weightOf (p .font .scale)) (sym page-is),
+    kept-for ∙ ap (λ (p : Page). sixteenfoldOf (p .font .scale)) (sym page-is),
   )
 
   -- to another state
   to-state : (turn : Turn) → step read .asked .turn ≡ turn → isEnding (turnFrame turn) ≡ false → (s : State)
       → did ruler (pageState before) turn (step read .asked .adds) ≡ continues s (addedOf (step read .asked .adds))
       → (page : Page) → pageState page ≡ s → page .depth ≡ depthBy (turnFrame turn) (before .depth) → Sound page
-      → (kept : ℕ) → kept ≡ weightOf (s .font .scale) → Next page kept
-  to-state turn turn-is on s led page state-is depth-is sound kept kept-is = (
+      → (next : ℕ) → KeptFor (s .font) next → Next page next
+  to-state turn turn-is on s led page state-is depth-is sound next next-is = (
     onwards (here read) (step read) (asks read) turn turn-is on s led page state-is depth-is sound (n .note .last .0) (n .note .ensures .1) (n .note .result) (n .note .ensures .0),
-    kept-is ∙ ap (λ (x : State). weightOf (x .font .scale)) (sym state-is),
+    next-is ∙ ap (λ (x : State). sixteenfoldOf (x .font .scale)) (sym state-is),
   )
 
   -- a distance that is handed on
@@ -150,7 +150,7 @@ module _ (n : tie.After-note Inv-loop μ-loop) where
   -- by a distance, in either direction and stride
   module _ (direction : Direction) (stride : Stride) (z : ℤ) (turn : Turn) (turn-is : step read .asked .turn ≡ turn) (is-inside : turnFrame turn ≡ inside) (ok : Stays direction (before .now) z)
       (led : did ruler (pageState before) turn (step read .asked .adds) ≡ continues (withNumbers (pageState before) (movedBy direction stride ruler scale z (before .now))) (addedOf (step read .asked .adds))) where
-    to-moved : (page : Page) → page ≡ withLevel before (movedBy direction stride ruler scale (toZ w64 (ofZ w64 z)) (before .now)) → Next page weight
+    to-moved : (page : Page) → page ≡ withLevel before (movedBy direction stride ruler scale (toZ w64 (ofZ w64 z)) (before .now)) → Next page sixteenfold
     to-moved page page-is =
         to-level turn turn-is is-inside (movedBy direction stride ruler scale z (before .now)) led page
         (page-is ∙ ap (λ (y : ℤ). withLevel before (movedBy direction stride ruler scale y (before .now))) (word z (ok .0)))
@@ -165,7 +165,7 @@ loop-less c = less (read (c .before .before .before .before))
 loop-again : tie.Need-loop-again Inv-loop μ-loop
 loop-again c =
     let n = c .before .before .before .before in
-    to-state n Turn.Stay (c .enum-told .given .1) refl (pageState (before n)) refl (before n) refl refl (here (read n) .sound) (weight n) (weighs n)
+    to-state n Turn.Stay (c .enum-told .given .1) refl (pageState (before n)) refl (before n) refl refl (here (read n) .sound) (sixteenfold n) (kept-for n)
 
 enum-known-turn : tie.Need-enum-known-turn Inv-loop μ-loop
 enum-known-turn c = search needs
@@ -319,7 +319,7 @@ loop-again-7 c =
     (state-sound (c .push .result) (pushed (pageState (before n))) state-is (sound .bounded) (sound .bounded, sound .kept) (sound .known)
     (omega (arith, c .push .ensures .1, room n turn-is))
     (ap length (c .push .ensures .2) ∙ length-set (before n .stack) (before n .depth) (before n .now) ∙ sound .full))
-    (weight n) (weighs n)
+    (sixteenfold n) (kept-for n)
 
 enum-told-5 : tie.Need-enum-told-5 Inv-loop μ-loop
 enum-told-5 c = search needs
@@ -354,7 +354,7 @@ loop-again-8 c =
     to-state n Turn.Pop turn-is refl (popped s) refl (c .pop .result) (c .pop .ensures .0) (c .pop .ensures .1)
     (state-sound (c .pop .result) (popped s) (c .pop .ensures .0) (back .0) (back .1) (subst Known same-font (sound .known))
     (omega (arith, c .pop .ensures .1, sound .shallow)) (ap length (c .pop .ensures .2) ∙ sound .full))
-    (weight n) (weighs n ∙ ap (λ (font : Font). weightOf (font .scale)) same-font)
+    (sixteenfold n) (kept-for n ∙ ap (λ (font : Font). sixteenfoldOf (font .scale)) same-font)
 
 enum-known-turn-5 : tie.Need-enum-known-turn-5 Inv-loop μ-loop
 enum-known-turn-5 c = search needs
@@ -362,8 +362,8 @@ enum-known-turn-5 c = search needs
 exchanged-requires : tie.Need-exchanged-requires Inv-loop μ-loop
 exchanged-requires c κs = tt
 
-weight-of-requires : tie.Need-weight-of-requires Inv-loop μ-loop
-weight-of-requires c κs =
+sixteenfold-of-requires : tie.Need-sixteenfold-of-requires Inv-loop μ-loop
+sixteenfold-of-requires c κs =
     let n = c .before .before .before .before .before .before .before in
     let v = c .before .before .before .turn5 .given in
     safe (read n) (Turn.Select (v .0 .0)) (v .1) .scale-small
@@ -383,7 +383,7 @@ loop-again-9 c =
     to-state n (Turn.Select (v .0 .0)) (v .1) refl (record { level = before n .now; saved = savedOf (before n .depth) (before n .stack); font = v .0 .0 }) refl
     (c .select .result) (ap pageState is) (ap (λ (page : Page). page .depth) is)
     (subst Sound (sym is) (record { bounded = sound .bounded; kept = sound .kept; known = safe (read n) (Turn.Select (v .0 .0)) (v .1); shallow = sound .shallow; full = sound .full }))
-    (c .before .weight-of .result) (c .before .weight-of .ensures)
+    (c .before .sixteenfold-of .result) (c .before .sixteenfold-of .ensures)
 
 enum-told-6 : tie.Need-enum-told-6 Inv-loop μ-loop
 enum-told-6 c = search needs
@@ -456,7 +456,7 @@ walk-spec =
     loop-again-8
     enum-known-turn-5
     exchanged-requires
-    weight-of-requires
+    sixteenfold-of-requires
     select-requires
     loop-less-9
     loop-again-9

@@ -1,12 +1,12 @@
--- `widths::scaling::weight_of` meets its contract. Assumes nothing.
+-- `widths::scaling::sixteenfold_of` meets its contract. Assumes nothing.
 use mathlib.Core.Path.{ap}
 use Prim.Native.Nat.{ℕ, _*_}
 use native.Mathlib.Omega.{arith}
 use Rattle.widths.specs.Scaling.{Halved}
-use Rattle.widths.specs.Steps.{weightOf}
+use Rattle.widths.specs.Steps.{sixteenfoldOf}
 use Rattle.widths.proofs.Halving.{Left, start, turn, done, alpha-small}
-use Rattle.widths.proofs.scaling.weight_of.Statement.{statement}
-use Rattle.widths.proofs.scaling.weight_of.Tie as tie
+use Rattle.widths.proofs.scaling.sixteenfold_of.Statement.{statement}
+use Rattle.widths.proofs.scaling.sixteenfold_of.Tie as tie
 
 abbrev Inv-loop : tie.InvT-loop
 Inv-loop scale z₀ alpha₀ z alpha = (times : ℕ) × Left scale times z alpha
@@ -34,10 +34,10 @@ mul-result : tie.Need-mul-result Inv-loop μ-loop
 mul-result c = omega (arith, c .before .loop .inv .1 .kept, c .before .before .pre)
 
 returns : tie.Need-returns Inv-loop μ-loop
-unfolding weightOf
+unfolding sixteenfoldOf
 returns c =
     let l = c .before .loop in
     ap (λ (k : Halved). k .alpha * k .z) (done (c .before .before .args .scale) (l .z) (l .alpha) (l .inv .0) (l .inv .1) (omega (arith, c .loop-test .left)))
 
-pub weight-of-spec : {M : Type 1} → statement M
-weight-of-spec = tie.close (tie.spec Inv-loop μ-loop loop-holds mul-alpha loop-less loop-again mul-result returns)
+pub sixteenfold-of-spec : {M : Type 1} → statement M
+sixteenfold-of-spec = tie.close (tie.spec Inv-loop μ-loop loop-holds mul-alpha loop-less loop-again mul-result returns)

@@ -1,4 +1,4 @@
--- `widths::scaling::weighed` meets its contract: the product has 55 bits. Assumes nothing.
+-- `widths::scaling::scaled` meets its contract: the product has 55 bits. Assumes nothing.
 use mathlib.Core.Path.{_≡_, ap, _∙_}
 use Prim.Native.Nat.{ℕ, _+_, _*_, _/_, _^_, _≤_, _<_}
 use native.Mathlib.Nat.{mul-le-mul}
@@ -10,8 +10,8 @@ use mir.Syntax.{w64}
 use mir.Facts.{toZ-ofZ}
 use mir.ValLaws.{toZ-pos}
 use Rattle.widths.specs.AsBytes.{fraction}
-use Rattle.widths.proofs.scaling.weighed.Statement.{statement}
-use Rattle.widths.proofs.scaling.weighed.Tie as tie
+use Rattle.widths.proofs.scaling.scaled.Statement.{statement}
+use Rattle.widths.proofs.scaling.scaled.Tie as tie
 
 wide-requires : tie.Need-wide-requires
 wide-requires c κs = search needs
@@ -38,14 +38,14 @@ add-fraction-2 c = search needs
 abbrev last-three : tie.After-wide3 → ℕ
 last-three c = c .before .before .wide .result * 65536 + c .before .wide2 .result * 256 + c .wide3 .result
 
-abbrev weight : tie.After-wide3 → ℕ
-weight c = c .before .before .before .args .weight
+abbrev sixteenfold : tie.After-wide3 → ℕ
+sixteenfold c = c .before .before .before .args .sixteenfold
 
-product-small : (c : tie.After-wide3) → last-three c * weight c < 2 ^ 55
+product-small : (c : tie.After-wide3) → last-three c * sixteenfold c < 2 ^ 55
 product-small c =
     let some : last-three c ≤ 16777215 = omega (arith, c .before .before .wide .ensures .1, c .before .wide2 .ensures .1, c .wide3 .ensures .1) in
-    let small : weight c ≤ 2147483647 = omega (arith, c .before .before .before .pre) in
-    let most : last-three c * weight c ≤ 16777215 * 2147483647 = mul-le-mul some small in
+    let small : sixteenfold c ≤ 2147483647 = omega (arith, c .before .before .before .pre) in
+    let most : last-three c * sixteenfold c ≤ 16777215 * 2147483647 = mul-le-mul some small in
     omega arith
 
 mul-product : tie.Need-mul-product
@@ -58,7 +58,7 @@ cast-result : tie.Need-cast-result
 cast-result c = omega (arith, product-small (c .before))
 
 -- they are the fraction
-positive-is : (c : tie.After-wide3) → last-three c * weight c / 16777216 ≡ fraction (c .before .before .before .args .w) * weight c / 16777216
+positive-is : (c : tie.After-wide3) → last-three c * sixteenfold c / 16777216 ≡ fraction (c .before .before .before .args .w) * sixteenfold c / 16777216
 positive-is c = cc
 
 returns : tie.Need-returns
@@ -67,7 +67,7 @@ returns c =
     simp (eq-eqb (s .args .w .b0) 255 (c .before .if1 .taken)) (
     toZ-ofZ (sfits-of (c .difference .ok))
     ∙ c .difference .ensures
-    ∙ ap (λ (positive : ℕ). pos positive -ℤ pos (s .args .weight)) (positive-is (c .before .before))
+    ∙ ap (λ (positive : ℕ). pos positive -ℤ pos (s .args .sixteenfold)) (positive-is (c .before .before))
     )
 
 returns-2 : tie.Need-returns-2
@@ -75,8 +75,8 @@ returns-2 c =
     let s = c .before .before .before .before in
     simp (ne-eqb (s .args .w .b0) 255 (c .if1 .left)) (toZ-pos w64 _ (omega (arith, product-small (c .before))) ∙ ap pos (positive-is (c .before)))
 
-pub weighed-spec : {M : Type 1} → statement M
-weighed-spec =
+pub scaled-spec : {M : Type 1} → statement M
+scaled-spec =
     tie.close
     (tie.spec
     wide-requires
