@@ -61,14 +61,16 @@ cast-result c = omega (arith, product-small (c .before))
 positive-is : (c : tie.After-wide3) → last-three c * sixteenfold c / 16777216 ≡ fraction (c .before .before .before .args .w) * sixteenfold c / 16777216
 positive-is c = cc
 
+-- what is left where b0 is 255
+gap : (c : tie.After-difference) → let m = c .before .before in c .difference .result ≡ pos (last-three m * sixteenfold m / 16777216) -ℤ pos (sixteenfold m)
+gap c = c .difference .ensures
+
 returns : tie.Need-returns
 returns c =
-    let s = c .before .before .before .before .before in
-    simp (eq-eqb (s .args .w .b0) 255 (c .before .if1 .taken)) (
-    toZ-ofZ (sfits-of (c .difference .ok))
-    ∙ c .difference .ensures
-    ∙ ap (λ (positive : ℕ). pos positive -ℤ pos (s .args .sixteenfold)) (positive-is (c .before .before))
-    )
+    let m = c .before .before in
+    let s = m .before .before .before in
+    simp (eq-eqb (s .args .w .b0) 255 (c .before .if1 .taken))
+    (toZ-ofZ (sfits-of (c .difference .ok)) ∙ gap c ∙ ap (λ (positive : ℕ). pos positive -ℤ pos (sixteenfold m)) (positive-is m))
 
 returns-2 : tie.Need-returns-2
 returns-2 c =
