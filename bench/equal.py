@@ -23,7 +23,6 @@ ANSWER = 8  # two numbers more than the longest answer
 SMALL = 70_000  # bytes; what is longer is asked as it is only
 RESOLUTIONS = (0, 1, 50, 99, 100, 199, 200, 300, 600, 1200, 10_000, 10_001, 4_294_967_295)
 SCALES = (0, 1, 134_217_727, 134_217_728, 4_294_967_295)
-HALVED_ONCE_MORE = [beside for bits in range(23, 27) for beside in ((1 << bits) - 1, 1 << bits, (1 << bits) + 1)]
 FIRST_BYTES = (0, 255, 1, 254)
 LAST_BYTES = (0, 1, 127, 128, 255)
 RANDOM_WORDS = 25  # for each scale and first byte
@@ -102,7 +101,7 @@ def compare_too_long(comparing):
 def compare_scaling(comparing, rng):
     """Scales at the edges of their range and where they are halved once more, with fix words of edge bytes and random ones, and random lawful widths;
     each with answer arrays long enough and too short."""
-    scales = [*SCALES, 134_217_726, *HALVED_ONCE_MORE]
+    scales = [*SCALES, *questions.made_up.SCALES_AROUND_HALVINGS]
     widths = []
     for scale, first in itertools.product(scales, FIRST_BYTES):
         widths += [(scale, first, *last) for last in itertools.product(LAST_BYTES, repeat=3)]

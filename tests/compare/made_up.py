@@ -527,7 +527,7 @@ def pages_with_bars(group, rng, count):
 
 def scales_around_halvings():
     """Around each bound from which a scale is halved once more: one less, the bound, and above it those that lose a single bit, to any one of the
-    halvings, or a bit to each. Far above the bounds two that are odd before and behind their halvings, and the greatest."""
+    halvings, or a bit to each. Far above the bounds two that are odd before and behind their halvings, and the two greatest."""
     found = {12_345_679, 99_999_999, GREATEST_SCALE - 1, GREATEST_SCALE}
     for times in (1, 2, 3, 4):
         bound = 1 << 22 + times

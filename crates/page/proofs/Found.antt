@@ -1,4 +1,4 @@
--- What was found tells: it was read from the table, and its numbers are small. Assumes nothing.
+-- What a metric that was found tells: it was read from the table, and its numbers are small. Assumes nothing.
 use mathlib.Core.Path.{_≡_, sym, subst}
 use mathlib.Core.Bool.{Bool, true, false, cond}
 use mathlib.Core.List.{List}
@@ -31,7 +31,7 @@ module _ (table : List ℕ) (checksum scale byte : ℕ) (m : Metric) where
   hit-from zero index is = let z : _≡_ {A = ℕ} 0 1 = cc in absurd (omega arith)
   hit-from (suc left) index is = hit-by left index (isFor (recordOf table index) checksum scale byte) is (hit-from left (suc index))
 
-  -- what a walk finds was
+  -- what a walk finds was read from the table
   pub walk-found : (rows : ℕ) → walk rows table checksum scale byte ≡ found m → Hit table m
   walk-found rows is = hit-from rows 0 is
 

@@ -1,4 +1,4 @@
--- The loop that halves z and doubles α, against `halving`: a turn takes one from the times left. Assumes nothing.
+-- The loop that halves z and doubles α, against `halving`: a turn takes one from the times left; and what holds of z and α at every scale. Assumes nothing.
 use mathlib.Core.Path.{_≡_, refl, sym, ap, subst, _∙_}
 use mathlib.Core.Bool.{Bool, true, false, cond}
 use Prim.Native.Nat.{ℕ, zero, suc, _*_, _/_, _^_, _≤_, _<_}

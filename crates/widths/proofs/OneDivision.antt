@@ -42,7 +42,7 @@ module _ (scale : ℕ) where
       let k = halved scale in
       ap (λ (n : ℕ). cond (eqb (w .b0) 255) (pos n -ℤ pos (k .alpha * k .z)) (pos n)) (sym (share-by-sixteenfold w (settled scale)))
 
-  -- of a scale in its range it has 31 bits
+  -- the sixteenfold of a scale in its range has 31 bits at most
   pub sixteenfold-small : scale ≤ 134217727 → sixteenfoldOf scale < 2 ^ 31
   unfolding sixteenfoldOf
   sixteenfold-small lawful = omega (arith, settled scale .kept)

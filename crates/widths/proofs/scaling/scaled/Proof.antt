@@ -1,4 +1,4 @@
--- `widths::scaling::scaled` meets its contract: the product has 55 bits. Assumes nothing.
+-- `widths::scaling::scaled` meets its contract: the product has 55 bits at most. Assumes nothing.
 use mathlib.Core.Path.{_≡_, ap, _∙_}
 use Prim.Native.Nat.{ℕ, _+_, _*_, _/_, _^_, _≤_, _<_}
 use native.Mathlib.Nat.{mul-le-mul}
@@ -57,11 +57,11 @@ difference-requires c κs = (omega (arith, product-small (c .before)), omega (ar
 cast-result : tie.Need-cast-result
 cast-result c = omega (arith, product-small (c .before))
 
--- they are the fraction
+-- the last three bytes, as the code reads them, are the definition's fraction
 positive-is : (c : tie.After-wide3) → last-three c * sixteenfold c / 16777216 ≡ fraction (c .before .before .before .args .w) * sixteenfold c / 16777216
 positive-is c = cc
 
--- what is left where b0 is 255
+-- what is left where b0 is 255, written out, so that a wrong one is an equation that fails
 gap : (c : tie.After-difference) → let m = c .before .before in c .difference .result ≡ pos (last-three m * sixteenfold m / 16777216) -ℤ pos (sixteenfold m)
 gap c = c .difference .ensures
 
