@@ -33,6 +33,15 @@ abbrev pub stage : List Command → Stage
 stage [] = AtStart
 stage (c ∷ past) = stageAfter (kindOfCommand c) (stage past)
 
+-- between a bop and its eop (rule 3.2)
+abbrev pub isOnPage : Stage → Bool
+isOnPage AtStart = false
+isOnPage BeforePages = false
+isOnPage OnPage = true
+isOnPage BetweenPages = false
+isOnPage AfterPost = false
+isOnPage AfterEnd = false
+
 -- whether post has passed (rule 3.2)
 abbrev pub isAfterPost : Stage → Bool
 isAfterPost AtStart = false

@@ -17,7 +17,7 @@ use Rattle.commands.proofs.Lengths.{whole-plain}
 use Rattle.list.specs.declared.Stage.{Stage}
 use Rattle.list.specs.declared.Stage.the-variants.{AtStart, BeforePages, OnPage, BetweenPages, AfterPost, AfterEnd}
 use Rattle.volume.specs.declared.Summary.{Summary}
-use Rattle.list.specs.Past.{isA, stage, stageAfter, depth, pages}
+use Rattle.list.specs.Past.{isA, stage, isOnPage, stageAfter, depth, pages}
 use Rattle.list.specs.Steps.{bopOf}
 use Rattle.list.specs.Rules.{wrongAtDepth, Allowed}
 use Rattle.volume.specs.Judged.{judged}
@@ -25,7 +25,7 @@ use Rattle.volume.specs.History.{history}
 use Rattle.list.proofs.Arms.{on-kinds, is-kind}
 use Rattle.volume.proofs.History.{history-counts}
 use Rattle.volume.proofs.Going.{after-command}
-use Rattle.page.specs.PageList.{Located, isOnPage, isOn, pageOf}
+use Rattle.page.specs.PageList.{Located, isOn, pageOf}
 use Rattle.page.specs.Steps.{Runs, ends, onward}
 use Rattle.list.proofs.AtStages.{compared, does-lawfully}
 use Rattle.page.specs.Trace.{Trace, start, more}

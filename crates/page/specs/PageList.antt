@@ -1,27 +1,16 @@
 -- A page's own list of commands, from the list of the whole volume (rule 8.2). Assumes nothing.
 use Prim.Native.Nat.{ℕ}
-use mathlib.Core.Bool.{Bool, true, false, cond, not, _&&_}
+use mathlib.Core.Bool.{Bool, cond, not, _&&_}
 use mathlib.Core.List.{List, [], _∷_, _++_}
 use lib.Dec.{eqb}
 use Rattle.commands.specs.declared.Kind.the-variants.{Eop}
 use Rattle.commands.specs.Commands.{Command, place}
-use Rattle.list.specs.declared.Stage.{Stage}
-use Rattle.list.specs.declared.Stage.the-variants.{AtStart, BeforePages, OnPage, BetweenPages, AfterPost, AfterEnd}
-use Rattle.list.specs.Past.{isA, stage, pages}
+use Rattle.list.specs.Past.{isA, stage, isOnPage, pages}
 
 -- a command with the place of its opcode (rule 3.1)
 pub record Located : Type 0 where
   pub at : ℕ
   pub command : Command
-
--- between a bop and its eop (rule 3.2)
-abbrev pub isOnPage : Stage → Bool
-isOnPage AtStart = false
-isOnPage BeforePages = false
-isOnPage OnPage = true
-isOnPage BetweenPages = false
-isOnPage AfterPost = false
-isOnPage AfterEnd = false
 
 -- whether a command is one of a page's own (rule 8.2)
 abbrev pub isOn : ℕ → List Command → Command → Bool

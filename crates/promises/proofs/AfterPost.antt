@@ -10,12 +10,11 @@ use Rattle.commands.specs.Kinds.{is}
 use Rattle.commands.specs.Commands.{Command, kindOfCommand, place}
 use Rattle.list.specs.declared.Stage.{Stage}
 use Rattle.list.specs.declared.Stage.the-variants.{AtStart, BeforePages, OnPage, BetweenPages, AfterPost, AfterEnd}
-use Rattle.list.specs.Past.{isA, stage, stageAfter, isAfterPost, depth, greatest, postPlace}
+use Rattle.list.specs.Past.{isA, stage, stageAfter, isOnPage, isAfterPost, depth, greatest, postPlace}
 use Rattle.list.specs.Rules.{Allowed}
 use Rattle.list.specs.Lawful.{Follows, ends, goes}
 use Rattle.list.proofs.Arms.{on-kinds}
 use Rattle.volume.specs.OfList.{upToLast}
-use Rattle.page.specs.PageList.{isOnPage}
 use Rattle.list.proofs.AtStages.{compared, does-lawfully}
 
 -- what a kind does at a stage: whether post has passed after it; whether it is a post on a page or after another, a post_post before post, a push or pop after it

@@ -20,13 +20,12 @@ use Rattle.commands.specs.Fields.{unsignedIn, signedIn, postPointer, postNum, p
 use Rattle.commands.specs.Lengths.{lengths, fixedLength, innerLength, sizeOf}
 use Rattle.commands.specs.Commands.{Command, kindOfCommand, Whole, form, written, place}
 use Rattle.commands.proofs.Opcodes.{kind-range}
-use Rattle.list.specs.Past.{isA, stage, isAfterPost, greatest, pages, postPlace, num, den, mag}
+use Rattle.list.specs.Past.{isA, stage, isOnPage, isAfterPost, greatest, pages, postPlace, num, den, mag}
 use Rattle.list.specs.Rules.{lawfulPostamble, preambleWrong, definitionWrong, fontMissing, pointerWrong, postambleWrong, fault, Allowed}
 use Rattle.list.specs.Lawful.{Follows, ends, goes}
 use Rattle.list.proofs.Arms.{is-kind}
 use Rattle.volume.specs.OfList.{upToLast}
 use Rattle.volume.specs.Refusing.{RefusesAt, breaks, later}
-use Rattle.page.specs.PageList.{isOnPage}
 use Rattle.promises.proofs.Agreeing.{Agree, agree-follows}
 use Rattle.promises.proofs.Volumes.{repeats}
 use Rattle.promises.proofs.AfterPost.{passes-post, post-between, end-after, greatest-stays, after-post}
