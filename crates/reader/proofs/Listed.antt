@@ -26,7 +26,7 @@ use Rattle.page.proofs.RefusedWith.{page-refused-with}
 
 -- a number of the list
 abbrev Low : ℕ → Type 0
-Low number = (1 ≤ number) × (number ≤ 22)
+Low number = (1 ≤ number) × (number ≤ 23)
 
 -- what is refused only with numbers of the list
 listed : {A : Type 0} (May : ℕ → ℕ → Type 0) (answer : Answer A) → ((number place : ℕ) → May number place → Low number) → RefusedOnly May answer → Listed answer

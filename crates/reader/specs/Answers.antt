@@ -22,6 +22,8 @@ use Rattle.reader.specs.declared.Rounded.{Rounded}
 use Rattle.reader.specs.declared.Rounded.the-variants as Rounded
 use Rattle.reader.specs.declared.TableMade.{TableMade}
 use Rattle.reader.specs.declared.TableMade.the-variants as TableMade
+use Rattle.reader.specs.declared.PagesCut.{PagesCut}
+use Rattle.reader.specs.declared.PagesCut.the-variants as PagesCut
 use Rattle.reader.specs.declared.Placed.{Placed}
 use Rattle.reader.specs.declared.Placed.the-variants as Placed
 
@@ -75,6 +77,16 @@ madeAnswer (TableMade.Refused number place) = refused number place
 abbrev pub NotMade : TableMade → Type 0
 NotMade (TableMade.Records records) = ⊥
 NotMade (TableMade.Refused number place) = Unit {0}
+
+-- cut_pages: how many bytes (rule 9.10)
+abbrev pub cutAnswer : PagesCut → Answer ℕ
+cutAnswer (PagesCut.Bytes bytes) = given bytes
+cutAnswer (PagesCut.Refused number place) = refused number place
+
+-- cutting is refused (rule 9.1)
+abbrev pub NotCut : PagesCut → Type 0
+NotCut (PagesCut.Bytes bytes) = ⊥
+NotCut (PagesCut.Refused number place) = Unit {0}
 
 -- place_page: how many records, missing characters and specials (rule 9.8)
 abbrev pub placedAnswer : Placed → Answer Counts

@@ -1,5 +1,6 @@
 // The front door: every public entry, and nothing else. None has a `requires`: what an input breaks is refused, by number and place.
 use commands::Read;
+use cutting::Cut;
 use packed::Made;
 use packed::tables;
 use page::PagePlaced;
@@ -27,8 +28,9 @@ ghost use Rattle.widths.specs.Scaling.{fixWord, scaledWidth};
 ghost use Rattle.widths.specs.Table.{checkedTable};
 ghost use Rattle.widths.specs.LookUp.{lookedUp};
 ghost use Rattle.packed.specs.Table.{tableMade, recordsMade, tableArea};
+ghost use Rattle.cutting.specs.CutFile.{cutPages, bytesCut, cutArea};
 ghost use Rattle.page.specs.Answers.{placedPage, placedCounts, areaAfter};
-ghost use Rattle.reader.specs.Answers.{commandAnswer, fileAnswer, Accepts, nameAnswer, roundedAnswer, scaledAnswer, tableAnswer, lookedAnswer, madeAnswer, NotMade, placedAnswer, Refuses};
+ghost use Rattle.reader.specs.Answers.{commandAnswer, fileAnswer, Accepts, nameAnswer, roundedAnswer, scaledAnswer, tableAnswer, lookedAnswer, madeAnswer, NotMade, cutAnswer, NotCut, placedAnswer, Refuses};
 
 // A command's opcode, where its parameters start and the place after them, or refusal 1, 2 or 3
 pub enum CommandRead {
@@ -258,6 +260,28 @@ pub fn width_table(pk: &[u8], scale: u32, out: &mut [u8]) -> TableMade
     match tables::width_table(pk, scale as u64, out) {
         Made::Records(records) => TableMade::Records(records),
         Made::Refused(reason) => TableMade::Refused {
+            number: reason.number,
+            place: reason.place,
+        },
+    }
+}
+
+// How many bytes were written, or refusal 1 to 11, 17 or 23
+pub enum PagesCut {
+    Bytes(usize),
+    Refused { number: u8, place: usize },
+}
+
+// Chosen pages of a file, by a list of their numbers that rises, as a file of their own: it is written into the output area. A refusal leaves every byte of the
+// area. An area that has three bytes more than the file always suffices.
+pub fn cut_pages(file: &[u8], pages: &[u32], out: &mut [u8]) -> PagesCut
+    ensures { λ r. ⌜ cutAnswer r ≡ bytesCut (cutPages (now (file .entry)) (now (pages .entry)) (length (now (out .entry)))) ⌝ }
+    ensures { λ _. ⌜ now (out .exit) ≡ cutArea (now (out .entry)) (cutPages (now (file .entry)) (now (pages .entry)) (length (now (out .entry)))) ⌝ }
+    ensures { λ r. ⌜ (NotCut r → now (out .exit) ≡ now (out .entry)) ⌝ }
+{
+    match cutting::pages::cut_pages(file, pages, out) {
+        Cut::Bytes(bytes) => PagesCut::Bytes(bytes),
+        Cut::Refused(reason) => PagesCut::Refused {
             number: reason.number,
             place: reason.place,
         },

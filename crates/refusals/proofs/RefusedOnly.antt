@@ -6,7 +6,7 @@ use mathlib.Core.List.{List}
 use mathlib.Core.Logic.{inl, inr}
 use native.Mathlib.Omega.{arith}
 use Rattle.refusals.specs.Answer.{Answer, refused, given, refuseIf, andThen}
-use Rattle.refusals.specs.RefusedOnly.{RefusedOnly, FileRefusal, NameRefusal, UnitRefusal, PageRefusal, MadeRefusal}
+use Rattle.refusals.specs.RefusedOnly.{RefusedOnly, FileRefusal, NameRefusal, UnitRefusal, PageRefusal, MadeRefusal, CutRefusal}
 
 module _ {A : Type 0} (May : ℕ → ℕ → Type 0) where
   -- a test whose refusal may be, and what follows it
@@ -64,3 +64,9 @@ module _ {number place : ℕ} where
   made-numbers pk (inr (inl (inl (is, at)))) = (omega (arith, is), omega (arith, is))
   made-numbers pk (inr (inl (inr (low, high, at)))) = (omega (arith, low), omega (arith, high))
   made-numbers pk (inr (inr (is, at))) = (omega (arith, is), omega (arith, is))
+
+  -- 1 to 23
+  pub cut-numbers : (file : List ℕ) → CutRefusal file number place → (1 ≤ number) × (number ≤ 23)
+  cut-numbers file (inl of-file) = let (low, high) = file-numbers file of-file in (low, omega arith)
+  cut-numbers file (inr (inl is, at)) = (omega (arith, is), omega (arith, is))
+  cut-numbers file (inr (inr is, at)) = (omega (arith, is), omega (arith, is))

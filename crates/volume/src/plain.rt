@@ -39,7 +39,7 @@ fn pass_characters(file: &[u8], at: usize) -> usize
 }
 
 // The place after the plain commands that stand at a place.
-fn pass_plain(table: &[u8; 122], file: &[u8], at: usize) -> usize
+pub fn pass_plain(table: &[u8; 122], file: &[u8], at: usize) -> usize
     requires { ⌜ now table ≡ lengths ⌝ }
     ensures { λ r. ⌜ Passes (now (file .entry)) at r ⌝ }
 {

@@ -1,0 +1,21 @@
+use mathlib.Core.Path.{refl}
+use borrow.Author.Needs.{needs}
+use Rattle.cutting.proofs.writing.two_bytes.Statement.{statement}
+use Rattle.cutting.proofs.writing.two_bytes.Tie as tie
+use Rattle.cutting.proofs.writing.two_bytes.Reads as reads
+use Rattle.cutting.proofs.writing.two_bytes.Lts as lts
+
+-- src/writing.rt:50:6
+cast-t4 : tie.Need-cast-t4
+cast-t4 c = search needs
+
+-- src/writing.rt:50:29
+cast-t6 : tie.Need-cast-t6
+cast-t6 c = search needs
+
+-- src/writing.rt:47:1
+returns : tie.Need-returns
+returns c = refl
+
+pub two-bytes-spec : {M : Type 1} → statement M
+two-bytes-spec = tie.close (tie.spec cast-t4 cast-t6 returns)

@@ -1,0 +1,4 @@
+pub mod Chosen
+pub mod CutList
+pub mod CutFile
+pub mod Steps

@@ -1,0 +1,2 @@
+pub mod OldWords
+pub mod Renumbered
