@@ -14,7 +14,24 @@ ghost use Rattle.list.specs.Past.{pages};
 ghost use Rattle.list.specs.Lawful.{Lawful};
 ghost use Rattle.volume.specs.History.{history};
 ghost use Rattle.cutting.specs.Chosen.{risesFrom};
-ghost use Rattle.cutting.specs.Steps.{runCounted, countedAfter, CountsAll};
+ghost use Rattle.cutting.specs.Steps.{oneKept, countedAfter, runCounted, CountsAll};
+
+// After a command that stays, of so many bytes.
+fn one_kept(kind: Kind, size: usize, m: Counted) -> Counted
+    requires { ⌜ (m .kept + size < 2 ^ 32) × (m .depth < 2 ^ 32) ⌝ }
+    ensures { λ r. ⌜ r ≡ oneKept kind size m ⌝ }
+{
+    let opened = m.opened;
+    let kept = m.kept;
+    let depth = progress::next_depth(kind, m.depth);
+    let greatest = progress::greater(m.greatest, depth);
+    Counted {
+        opened,
+        kept: kept + size,
+        depth,
+        greatest,
+    }
+}
 
 // After one more command of so many bytes.
 fn counted_after(fate: Fate, kind: Kind, size: usize, m: Counted) -> Counted
@@ -27,22 +44,14 @@ fn counted_after(fate: Fate, kind: Kind, size: usize, m: Counted) -> Counted
     let greatest = m.greatest;
     match fate {
         Fate::Dropped => m,
+        Fate::Copied => one_kept(kind, size, m),
+        Fate::Mended => one_kept(kind, size, m),
         Fate::Opening => Counted {
             opened: opened + size,
             kept,
             depth,
             greatest,
         },
-        _ => {
-            let deep = progress::next_depth(kind, depth);
-            let deepest = progress::greater(greatest, deep);
-            Counted {
-                opened,
-                kept: kept + size,
-                depth: deep,
-                greatest: deepest,
-            }
-        }
     }
 }
 

@@ -31,7 +31,7 @@ add-result c = search needs
 
 -- src/choosing.rt:35:1
 returns-2 : tie.Need-returns-2
-returns-2 c = rw (lt-ltb _ _ (c .before .before .before .if1 .left)) (ap (λ (n : ℕ). eqb n (c .before .before .before .before .args .pages + 1)) (c .widened .ensures))
+returns-2 c = rw (lt-ltb _ _ (c .before .before .if1 .left)) (ap (λ (n : ℕ). eqb n (c .before .before .before .before .args .pages + 1)) (c .widened .ensures))
 
 pub is-next-spec : {M : Type 1} → statement M
 is-next-spec =

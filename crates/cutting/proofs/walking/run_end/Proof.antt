@@ -12,7 +12,7 @@ pass-plain-requires c κs = search needs
 
 -- src/walking.rt:70:9
 returns : tie.Need-returns
-returns c = rw (c .before .before .if1 .taken) (c .pass-plain .ensures)
+returns c = rw (c .before .if1 .taken) (c .pass-plain .ensures)
 
 -- src/walking.rt:65:1
 returns-2 : tie.Need-returns-2

@@ -1,3 +1,12 @@
+use Rattle.cutting.specs.Steps.{nextChosen, spotAfter}
+use Rattle.cutting.specs.declared.Spot.{Spot}
+use Rattle.list.proofs.Arms.{kind-others}
+use Rattle.commands.specs.declared.Kind.the-variants.{Bop, Eop, Post}
+use denote.Ref.{now}
+use Prim.Native.Nat.{ℕ}
+use mathlib.Core.List.{List, [], _∷_}
+use mathlib.Core.Bool.{true, false}
+use mathlib.Core.Path.{_≡_, refl, ap, sym, _∙_}
 use borrow.Author.Needs.{needs}
 use Rattle.cutting.proofs.walking.spot_after.Statement.{statement}
 use Rattle.cutting.proofs.walking.spot_after.Tie as tie
@@ -31,23 +40,31 @@ enum-told-3 c = search needs
 
 -- src/walking.rt:26:1
 returns : tie.Need-returns
-returns c = ?
+returns c = 
+ let a = c .before .before .before .before .before .args in
+ let next : nextChosen (now (a .list)) (a .p .met) (a .p .pages) ≡ true = sym (c .before .is-next .ensures) ∙ c .if1 .taken in
+ rw (c .if1 .taken, c .before .before .enum-told .given .1, next) refl
 
 -- src/walking.rt:26:1
 returns-2 : tie.Need-returns-2
-returns-2 c = ?
+returns-2 c = 
+ let a = c .before .before .before .before .before .args in
+ let next : nextChosen (now (a .list)) (a .p .met) (a .p .pages) ≡ false = sym (c .before .is-next .ensures) ∙ c .if1 .left in
+ rw (c .if1 .left, c .before .before .enum-told .given .1, next) refl
 
 -- src/walking.rt:26:1
 returns-3 : tie.Need-returns-3
-returns-3 c = ?
+returns-3 c = rw (c .enum-told2 .given .1) refl
 
 -- src/walking.rt:26:1
 returns-4 : tie.Need-returns-4
-returns-4 c = ?
+returns-4 c = rw (c .enum-told3 .given .1) refl
 
 -- src/walking.rt:26:1
 returns-5 : tie.Need-returns-5
-returns-5 c = ?
+returns-5 c = 
+ let a = c .before .before .args in
+ ap (λ (f : Spot → Spot). f (a .p)) (kind-others (λ k p. p) (spotAfter (now (a .list))) (Bop ∷ Eop ∷ Post ∷ []) refl (a .kind) (c .match .keys4))
 
 pub spot-after-spec : {M : Type 1} → statement M
 spot-after-spec =

@@ -1,3 +1,4 @@
+use Rattle.numbers.specs.Bytes as Bytes
 use mathlib.Core.Path.{refl}
 use borrow.Author.Needs.{needs}
 use Rattle.cutting.proofs.writing.four_bytes.Statement.{statement}
@@ -23,6 +24,7 @@ cast-t15 c = search needs
 
 -- src/writing.rt:35:1
 returns : tie.Need-returns
+unfolding Bytes.bytesOf
 returns c = refl
 
 pub four-bytes-spec : {M : Type 1} → statement M

@@ -1,3 +1,10 @@
+use Rattle.cutting.proofs.Pasted.{pasted-sets, between-length}
+use Rattle.cutting.specs.Steps.{between}
+use lib.ListN.{length}
+use denote.Ref.{now}
+use mathlib.Core.Path.{_≡_, refl, ap, _∙_}
+use native.Mathlib.Omega.{arith}
+use Prim.Native.Nat.{ℕ, _+_, _-_, _≤_}
 use borrow.Author.Needs.{needs}
 use Rattle.cutting.proofs.writing.opened.Statement.{statement}
 use Rattle.cutting.proofs.writing.opened.Tie as tie
@@ -35,7 +42,11 @@ same-length c = search needs
 
 -- src/writing.rt:149:1
 returns : tie.Need-returns
-returns c = ?
+returns c =
+    let a = c .before .before .before .before .before .before .before .args in
+    let room = c .before .before .before .before .before .before .before .pre in
+    let long = between-length (a .at) (a .next) (now (a .file)) (room .0) (room .1) in
+    (refl, pasted-sets (now (a .out)) (a .m .opened) (between (a .at) (a .next) (now (a .file))) _ (omega (arith, room .2, long)) (c .before .before .paste .ensures))
 
 pub opened-spec : {M : Type 1} → statement M
 opened-spec =

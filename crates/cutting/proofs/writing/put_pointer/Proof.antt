@@ -1,3 +1,12 @@
+use Rattle.cutting.proofs.Pasted.{pasted-sets}
+use Rattle.numbers.proofs.Bytes.{length-bytes}
+use lib.Seq.{sets}
+use lib.ListN.{length}
+use denote.Ref.{now}
+use mathlib.Core.List.{List}
+use mathlib.Core.Path.{_≡_, ap, _∙_}
+use native.Mathlib.Omega.{arith}
+use Prim.Native.Nat.{ℕ}
 use borrow.Author.Needs.{needs}
 use Rattle.cutting.proofs.writing.put_pointer.Statement.{statement}
 use Rattle.cutting.proofs.writing.put_pointer.Tie as tie
@@ -24,7 +33,11 @@ same-length c = search needs
 
 -- src/writing.rt:54:1
 returns : tie.Need-returns
-returns c = ?
+returns c =
+    let a = c .before .before .before .before .before .before .before .args in
+    let bytes = c .before .before .before .before .before .four-bytes in
+    pasted-sets (now (a .out)) (a .at) (bytes .result) _ (omega (arith, c .before .before .before .before .before .before .before .pre, ap length (bytes .ensures) ∙ length-bytes 4 (a .n))) (c .before .before .paste .ensures)
+    ∙ ap (sets (now (a .out)) (a .at)) (bytes .ensures)
 
 pub put-pointer-spec : {M : Type 1} → statement M
 put-pointer-spec =

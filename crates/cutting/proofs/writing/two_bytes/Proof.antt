@@ -1,3 +1,4 @@
+use Rattle.numbers.specs.Bytes as Bytes
 use mathlib.Core.Path.{refl}
 use borrow.Author.Needs.{needs}
 use Rattle.cutting.proofs.writing.two_bytes.Statement.{statement}
@@ -15,6 +16,7 @@ cast-t6 c = search needs
 
 -- src/writing.rt:47:1
 returns : tie.Need-returns
+unfolding Bytes.bytesOf
 returns c = refl
 
 pub two-bytes-spec : {M : Type 1} → statement M
