@@ -1,2 +1,4 @@
 pub mod OldWords
 pub mod Renumbered
+pub mod Unplaced
+pub mod SameCommand
