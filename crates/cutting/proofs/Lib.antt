@@ -6,3 +6,5 @@ pub mod Standing
 pub mod Becoming
 pub mod MendedForms
 pub mod Growing
+pub mod PlainRuns
+pub mod CountLaws

@@ -30,6 +30,10 @@ with-sets opcode at size n params fits =
     ∙ append-assoc (take (suc at) (opcode ∷ params)) (bytesOf size n) (drop (suc at + length (bytesOf size n)) (opcode ∷ params))
     ∙ ap (λ (k : ℕ). opcode ∷ (take at params ++ (bytesOf size n ++ drop k (opcode ∷ params)))) behind)
 
+-- as many as before
+with-length : (at size n : ℕ) (params : List ℕ) → at + size ≤ length params → length (take at params ++ (bytesOf size n ++ drop (at + size) params)) ≡ length params
+with-length at size n params fits = omega (arith, ap length (with-sets 0 at size n params fits), length-sets (0 ∷ params) (suc at) (bytesOf size n))
+
 -- a pointer's bytes, as the code holds it
 abbrev pub pointer : List Command → ℕ
 pointer before = toTwos (256 ^ 4) (lastBop before)
@@ -47,6 +51,13 @@ post-form opcode params long point deep count =
     with-sets opcode 26 2 count (withUnsigned postDepth deep pointed) (omega (arith, long, long-first, long-second))
     ∙ ap (λ (l : List ℕ). sets l 27 (bytesOf 2 count)) (second ∙ ap (λ (l : List ℕ). sets l 25 (bytesOf 2 deep)) first)
 
+post-length : (bytes : List ℕ) (point deep count : ℕ)
+    → length (sets (sets (sets bytes 1 (bytesOf 4 point)) 25 (bytesOf 2 deep)) 27 (bytesOf 2 count)) ≡ length bytes
+post-length bytes point deep count =
+    length-sets (sets (sets bytes 1 (bytesOf 4 point)) 25 (bytesOf 2 deep)) 27 (bytesOf 2 count)
+    ∙ length-sets (sets bytes 1 (bytesOf 4 point)) 25 (bytesOf 2 deep)
+    ∙ length-sets bytes 1 (bytesOf 4 point)
+
 module _ (before : List Command) (c : Command) (w : Whole c) where
   -- how many bytes a command has that is mended
   pub mended-size : IsMended (kindOfCommand c) → 1 + length (c .params) ≡ mendedSize (kindOfCommand c)
@@ -63,3 +74,11 @@ module _ (before : List Command) (c : Command) (w : Whole c) where
       let long = whole-plain c w k refl in
       let same : toTwos (256 ^ 4) (pos (postPlace before)) ≡ postPlace before = mod-eq-of-lt small in
       rw k (with-sets (c .opcode) 0 4 (toTwos (256 ^ 4) (pos (postPlace before))) (c .params) (omega (arith, long)) ∙ ap (λ (n : ℕ). sets (form c) 1 (bytesOf 4 n)) same)
+
+  -- it is as long as it was
+  pub mended-length : IsMended (kindOfCommand c) → length (mended before c .params) ≡ length (c .params)
+  mended-length (inl k) = rw k (with-length 40 4 (pointer before) (c .params) (omega (arith, whole-plain c w k refl)))
+  mended-length (inr (inl k)) =
+      let long = whole-plain c w k refl in
+      rw k (omega (arith, ap length (post-form (c .opcode) (c .params) long (pointer before) (greatest before) (pages before)), post-length (form c) (pointer before) (greatest before) (pages before)))
+  mended-length (inr (inr k)) = rw k (with-length 0 4 (toTwos (256 ^ 4) (pos (postPlace before))) (c .params) (omega (arith, whole-plain c w k refl)))

@@ -12,6 +12,7 @@ use Rattle.commands.specs.Commands.{Command, kindOfCommand, place}
 use Rattle.list.specs.declared.Stage.{Stage}
 use Rattle.list.specs.Past.{isA, stage, isOnPage, isAfterPost, pages}
 use Rattle.list.specs.Rules.{Allowed}
+use Rattle.volume.proofs.Bounds.{pages-small}
 use Rattle.cutting.specs.declared.Spot.{Spot}
 use Rattle.cutting.specs.Chosen.{isIn, risesFrom}
 use Rattle.cutting.specs.Steps.{nextChosen, atStart, spotAfter}
@@ -94,3 +95,7 @@ module _ {list : List ℕ} {past : List Command} {c : Command} {p : Spot} (allow
       by (idles-late at k) = stays-put (rw k refl) (rw k refl) (rw k refl)
       by (defines-again at k) = stays-put (rw k refl) (rw k refl) (rw k refl)
       by (ends at k) = absurd (true≢false (rw k at not-last))
+
+-- the counts of a spot are at most the place after the commands
+pub spot-small : {list : List ℕ} {past : List Command} {p : Spot} → Stands list past p → (p .pages ≤ place past) × (p .met ≤ place past)
+spot-small {past = past} s = (omega (arith, s .pages-is, pages-small past), omega (arith, s .ahead .few, pages-small past))

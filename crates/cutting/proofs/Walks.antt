@@ -1,10 +1,10 @@
 -- A walk over the commands of an accepted file: what stands at a place is the next command of its list. Assumes nothing.
-use Prim.Native.Nat.{ℕ, _+_}
+use Prim.Native.Nat.{ℕ, _+_, _<_}
 use mathlib.Core.Path.{_≡_, refl, sym, ap, _∙_}
 use mathlib.Core.Bool.{Bool, true, false}
 use mathlib.Core.List.{List, [], _∷_, _++_}
 use native.Mathlib.Omega.{arith}
-use lib.ListN.{length, drop}
+use lib.ListN.{length, drop, length-drop}
 use lib.Seq.{drop-drop, drop-at}
 use Rattle.refusals.specs.Answer.{refused}
 use Rattle.commands.specs.declared.Kind.the-variants.{PostPost}
@@ -90,3 +90,14 @@ module _ {file : List ℕ} {at : ℕ} {past : List Command} (w : Walk file at pa
             };
             at-last = λ last. differ last not-last;
           })
+
+  -- the place is in the file
+  pub inside : at < length file
+  inside = by (w .follows) refl
+    where
+      some : (c : Command) (cs : List Command) → w .rest ≡ c ∷ cs → at < length file
+      some c cs same = omega (arith, length-drop at file, ap length (w .left ∙ ap written same))
+
+      by : {before cs : List Command} → Follows before cs → w .rest ≡ cs → at < length file
+      by (ends {c = c} n good allowed last enough) same = some c (fillers n) same
+      by (goes {c = c} {cs = cs} good allowed not-last follows) same = some c cs same

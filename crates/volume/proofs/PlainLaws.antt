@@ -17,7 +17,7 @@ use Rattle.list.specs.Steps.{afterOf, changed, tableAfter}
 use Rattle.volume.specs.Steps.{isPlain}
 
 -- what holds of each plain kind holds of any
-plain-cases : (P : Kind → Type 0) → P SetCharacter → P SetRule → P PutCharacter → P PutRule → P Nop → P Right → P W → P X → P Down → P Y → P Z
+pub plain-cases : (P : Kind → Type 0) → P SetCharacter → P SetRule → P PutCharacter → P PutRule → P Nop → P Right → P W → P X → P Down → P Y → P Z
     → (kind : Kind) → isPlain kind ≡ true → P kind
 plain-cases P a b c d e f g h i j k SetCharacter t = a
 plain-cases P a b c d e f g h i j k SetRule t = b

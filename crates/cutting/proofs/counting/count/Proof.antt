@@ -1,3 +1,31 @@
+use mathlib.Core.List.{List, [], _∷_}
+use Rattle.commands.specs.Kinds.{is}
+use Rattle.cutting.proofs.Standing.{spot-small}
+use Rattle.cutting.proofs.Walks.{never-refused, inside}
+use Rattle.cutting.proofs.CountLaws.{Counting, counting-first, counting-run, counting-on, counting-last, counting-same, counted-is}
+use Rattle.list.proofs.Arms.{kind-others}
+use Rattle.cutting.proofs.PlainRuns.{run-ahead}
+
+
+use Rattle.cutting.specs.Steps.{spotAfter, fateOf, runCounted, countedAfter, CountsAll}
+use Rattle.cutting.specs.declared.Counted.{Counted}
+use Rattle.cutting.specs.declared.Spot.{Spot}
+use Rattle.volume.specs.History.{history}
+use Rattle.list.specs.Past.{isA, pages}
+use Rattle.commands.proofs.Readings.{commandAt, Reads, given-reads}
+use Rattle.commands.specs.Steps.{readAnswer}
+use Rattle.commands.specs.Commands.{Command, kindOfCommand}
+use Rattle.commands.specs.declared.Reading.{Reading}
+use Rattle.commands.specs.declared.Kind.the-variants.{PostPost}
+use Rattle.commands.specs.declared.Kind.{Kind}
+use lib.ListN.{length}
+use denote.Ref.{now}
+use borrow.Author.Needs.{needs}
+use native.Mathlib.Omega.{arith}
+
+use mathlib.Core.Bool.{Bool, true, false}
+use mathlib.Core.Path.{_≡_, refl, sym, ap, _∙_, subst}
+use Prim.Native.Nat.{ℕ, _-_, _+_, _≤_, _<_}
 use Rattle.cutting.proofs.counting.count.Statement.{statement}
 use Rattle.cutting.proofs.counting.count.Tie as tie
 use Rattle.cutting.proofs.counting.count.Reads as reads
@@ -12,82 +40,189 @@ use Rattle.cutting.proofs.walking.spot_after.Reads as spot-after-reads
 use Rattle.cutting.proofs.walking.start.Reads as start-reads
 
 abbrev Inv-loop : tie.InvT-loop
-Inv-loop table file list at₀ p₀ m₀ at p m = ?
+Inv-loop table file list at₀ p₀ m₀ at p m = Counting file list at p m
 
 abbrev μ-loop : tie.MeasureT-loop
-μ-loop table file list at₀ p₀ m₀ at p m = ?
+μ-loop table file list at₀ p₀ m₀ at p m = length file - at
 
 -- src/counting.rt:75:9
 start-requires : tie.Need-start-requires Inv-loop μ-loop
-start-requires c κs = ?
+start-requires c κs = tt
 
 -- src/counting.rt:82:5
 loop-holds : tie.Need-loop-holds Inv-loop μ-loop
-loop-holds c = ?
+loop-holds c = 
+ let s = c .before .before .before in
+ subst (λ (q : Spot). Counting (now (s .args .file)) (now (s .args .list)) 0 q (record { opened = 0; kept = 0; depth = 0; greatest = 0 })) (sym (c .start .ensures)) (counting-first (now (s .args .file)) (now (s .args .list)) (s .pre .1) (pages (history (now (s .args .file)))) (s .pre .2))
 
 -- src/counting.rt:83:13
 run-end-requires : tie.Need-run-end-requires Inv-loop μ-loop
-run-end-requires c κs = ?
+run-end-requires c κs = c .before .before .before .before .pre .0
+
+-- behind a run of plain commands
+module _ (c : tie.After-run-end Inv-loop μ-loop) where
+  abbrev looped : tie.At-loop Inv-loop μ-loop
+  looped = c .before
+
+  abbrev entered : tie.Start Inv-loop μ-loop
+  entered = looped .before .before .before .before
+
+  abbrev in-file : List ℕ
+  in-file = now (entered .args .file)
+
+  abbrev of-list : List ℕ
+  of-list = now (entered .args .list)
+
+  ran : Counting in-file of-list (c .run-end .result) (looped .loop .p) (runCounted (looped .loop .p .here) (c .run-end .result - looped .loop .at) (looped .loop .m))
+  ran = counting-run in-file of-list (looped .loop .inv) (c .run-end .ensures)
+
+  ahead : looped .loop .at ≤ c .run-end .result
+  ahead = run-ahead in-file (looped .loop .p .on) (looped .loop .at) (c .run-end .result) (c .run-end .ensures)
+
+-- with what is counted of it
+module _ (c : tie.After-run-counted Inv-loop μ-loop) where
+  held : Counting (in-file (c .before)) (of-list (c .before)) (c .before .run-end .result) (looped (c .before) .loop .p) (c .run-counted .result)
+  held =
+      subst (Counting (in-file (c .before)) (of-list (c .before)) (c .before .run-end .result) (looped (c .before) .loop .p)) (sym (c .run-counted .ensures))
+      (ran (c .before))
+
+-- the command that was read there
+module _ (c : tie.After-known-told Inv-loop μ-loop) where
+  abbrev counted-run : tie.After-run-counted Inv-loop μ-loop
+  counted-run = c .before .before .before .before
+
+  abbrev there : ℕ
+  there = counted-run .before .run-end .result
+
+  abbrev reading : Reading
+  reading = c .before .reading .given .0 .0
+
+  read : Reads (in-file (counted-run .before)) there reading
+  read =
+      given-reads (in-file (counted-run .before)) there reading
+      (sym (c .before .before .before .read-by .ensures) ∙ ap readAnswer (c .before .reading .given .1))
+
+  abbrev command : Command
+  command = commandAt (in-file (counted-run .before)) reading
+
+  long : reading .next - there ≡ 1 + length (command .params)
+  long = omega (arith, read .starts, read .nexts)
+
+  ends-there : reading .next ≡ there + (1 + length (command .params))
+  ends-there = omega (arith, read .starts, read .nexts)
 
 -- src/counting.rt:84:28
 sub-run-counted : tie.Need-sub-run-counted Inv-loop μ-loop
-sub-run-counted c = ?
+sub-run-counted c = ahead c
 
 -- src/counting.rt:84:9
 run-counted-requires : tie.Need-run-counted-requires Inv-loop μ-loop
-run-counted-requires c κs = ?
+run-counted-requires c κs = omega (arith, ahead c, looped c .loop .inv .counts .short, inside (ran c .walk), entered c .pre .1 .0)
 
 -- src/counting.rt:85:15
 read-by-requires : tie.Need-read-by-requires Inv-loop μ-loop
-read-by-requires c κs = ?
+read-by-requires c κs = c .before .before .before .before .before .before .pre .0
 
 -- src/counting.rt:86:33
 enum-told : tie.Need-enum-told Inv-loop μ-loop
-enum-told c = ?
+enum-told c = search needs
 
 -- src/counting.rt:86:33
 returns : tie.Need-returns Inv-loop μ-loop
-returns c = ?
+returns c = 
+ let refusal = c .enum-told .given .0 .0 in
+ absurd (never-refused (held (c .before .before .before) .walk) (refusal .number) (refusal .place) (sym (c .before .before .read-by .ensures) ∙ ap readAnswer (c .enum-told .given .1)))
 
 -- src/counting.rt:87:27
 enum-known-reading : tie.Need-enum-known-reading Inv-loop μ-loop
-enum-known-reading c = ?
+enum-known-reading c = search needs
 
 -- src/counting.rt:89:21
 kind-of-requires : tie.Need-kind-of-requires Inv-loop μ-loop
-kind-of-requires c κs = ?
+kind-of-requires c κs = tt
 
 -- src/counting.rt:90:21
 spot-after-requires : tie.Need-spot-after-requires Inv-loop μ-loop
-spot-after-requires c κs = ?
+spot-after-requires c κs = 
+ let h = held (counted-run (c .before)) in
+ let small = spot-small (h .stands) in
+ let s = entered (counted-run (c .before) .before) in
+ (omega (arith, small .0, h .walk .at-is, inside (h .walk), s .pre .1 .0), omega (arith, small .1, h .walk .at-is, inside (h .walk), s .pre .1 .0))
 
 -- src/counting.rt:91:21
 fate-of-requires : tie.Need-fate-of-requires Inv-loop μ-loop
-fate-of-requires c κs = ?
+fate-of-requires c κs = tt
 
 -- src/counting.rt:92:47
 sub-counted-after : tie.Need-sub-counted-after Inv-loop μ-loop
-sub-counted-after c = ?
+sub-counted-after c = omega (arith, ends-there (c .before .before .before))
 
 -- src/counting.rt:92:17
 counted-after-requires : tie.Need-counted-after-requires Inv-loop μ-loop
-counted-after-requires c κs = ?
+counted-after-requires c κs = 
+ let k = c .before .before .before in
+ let n = held (counted-run k) .counts in
+ let s = entered (counted-run k .before) in
+ let top = read k .inside in
+ let end = ends-there k in
+ (omega (arith, n .short, end, top, s .pre .1 .0), omega (arith, n .short, end, top, s .pre .1 .0), omega (arith, n .shallow, end, top, s .pre .1 .0))
+
+-- and what is counted of it
+module _ (c : tie.After-counted-after Inv-loop μ-loop) where
+  abbrev known : tie.After-known-told Inv-loop μ-loop
+  known = c .before .before .before .before
+
+  abbrev before : tie.After-run-end Inv-loop μ-loop
+  before = counted-run known .before
+
+  abbrev spot : Spot
+  spot = looped before .loop .p
+
+  abbrev kind : Kind
+  kind = kindOfCommand (command known)
+
+  spot-is : c .before .before .spot-after .result ≡ spotAfter (of-list before) kind spot
+  spot-is = c .before .before .spot-after .ensures ∙ ap (λ (k : Kind). spotAfter (of-list before) k spot) (c .before .before .before .kind-of .ensures)
+
+  counted : c .counted-after .result
+      ≡ countedAfter (fateOf kind (spotAfter (of-list before) kind spot .here) spot) kind (1 + length (command known .params)) (counted-run known .run-counted .result)
+  counted =
+      counted-is (of-list before) spot (c .before .before .spot-after .result) (counted-run known .run-counted .result) (c .counted-after .result)
+      (c .before .before .before .kind-of .result) kind (c .before .fate-of .result) (reading known .next - there known) (1 + length (command known .params))
+      (c .before .before .before .kind-of .ensures) (c .before .before .spot-after .ensures) (c .before .fate-of .ensures) (long known) (c .counted-after .ensures)
+
+  at-last : isA PostPost (command known) ≡ true → CountsAll (in-file before) (of-list before) (c .counted-after .result)
+  at-last last =
+      subst (CountsAll (in-file before) (of-list before)) (sym counted)
+      (counting-last (in-file before) (of-list before) (held (counted-run known)) (command known) _ (read known .ahead) last)
+
+  onward : isA PostPost (command known) ≡ false
+      → Counting (in-file before) (of-list before) (reading known .next) (c .before .before .spot-after .result) (c .counted-after .result)
+  onward not-last =
+      counting-same (in-file before) (of-list before) (ends-there known) spot-is counted
+      (counting-on (in-file before) (of-list before) (held (counted-run known)) (command known) _ (read known .ahead) not-last)
 
 -- src/counting.rt:94:21
 enum-told-2 : tie.Need-enum-told-2 Inv-loop μ-loop
-enum-told-2 c = ?
+enum-told-2 c = search needs
 
 -- src/counting.rt:94:21
 returns-2 : tie.Need-returns-2 Inv-loop μ-loop
-returns-2 c = ?
+returns-2 c = 
+ let n = c .before .before in
+ at-last n (ap (λ (k : Kind). is k PostPost) (sym (n .before .before .before .kind-of .ensures) ∙ c .enum-told2 .given .1))
 
 -- src/counting.rt:82:5
 loop-less : tie.Need-loop-less Inv-loop μ-loop
-loop-less c = ?
+loop-less c = 
+ let n = c .before in
+ omega (arith, ahead (before n), ends-there (known n), read (known n) .inside)
 
 -- src/counting.rt:82:5
 loop-again : tie.Need-loop-again Inv-loop μ-loop
-loop-again c = ?
+loop-again c = 
+ let n = c .before in
+ onward n (ap (λ (k : Kind). is k PostPost) (sym (n .before .before .before .kind-of .ensures)) ∙ sym (kind-others (λ k. false) (λ k. is k PostPost) (PostPost ∷ []) refl (n .before .before .before .kind-of .result) (c .match2 .keys2)))
 
 pub count-spec : {M : Type 1} → statement M
 count-spec =
