@@ -4,13 +4,13 @@ use mathlib.Core.Path.{_≡_, refl, sym, ap, ap₂, _∙_, subst}
 use mathlib.Core.Bool.{Bool, true, false, cond, _&&_}
 use mathlib.Core.List.{List, [], _∷_}
 use native.Mathlib.Omega.{arith}
-use lib.ListN.{length, drop}
-use lib.Seq.{length-sets}
+use lib.ListN.{length, drop, length-drop}
 use Rattle.commands.specs.declared.Kind.{Kind}
 use Rattle.commands.specs.declared.Kind.the-variants.{Bop, Eop, Post, PostPost, Push, Pop}
 use Rattle.commands.specs.Kinds.{is}
 use Rattle.commands.specs.Commands.{Command, kindOfCommand, Whole, form, whole, front, place}
-use Rattle.list.specs.Past.{isA, stage, isOnPage, depth, depthAfter, greatest, pages}
+use Rattle.commands.proofs.Fronts.{front-length}
+use Rattle.list.specs.Past.{isA, depth, depthAfter, greatest}
 use Rattle.list.specs.Lawful.{Lawful}
 use Rattle.volume.specs.History.{history}
 use Rattle.volume.specs.Steps.{isPlain, Passes, none-more, one-more}
@@ -145,10 +145,12 @@ module _ (file list : List ℕ) where
         let end = there .at-last last in
         let n = counts-there in
         let opened : countedAfter fate (kindOfCommand c) (1 + length (c .params)) m .opened ≡ place first = n .opened-is ∙ ap (λ (l : List Command). place (opening l)) (sym end) in
+        let all = n .kept-is ∙ ap (λ (l : List Command). place (new l)) (sym end) in
         record {
           opened-is = opened;
-          all-is = omega (arith, opened, n .kept-is) ∙ ap (λ (l : List Command). place (new l)) (sym end);
+          all-is = omega (arith, opened, all);
           greatest-is = n .greatest-is ∙ ap (λ (l : List Command). greatest (new l)) (sym end);
+          small = omega (arith, n .short, opened, all, front-length (drop at file) c bytes f, length-drop at file);
         }
 
   -- ---- runs of plain commands

@@ -8,3 +8,5 @@ pub mod MendedForms
 pub mod Growing
 pub mod PlainRuns
 pub mod CountLaws
+pub mod WriteLaws
+pub mod WriteTurns

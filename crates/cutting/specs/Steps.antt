@@ -80,6 +80,7 @@ pub record CountsAll (file list : List ℕ) (r : Counted) : Type 0 where
   pub opened-is : r .opened ≡ place (opening (history file))
   pub all-is : r .opened + r .kept ≡ place (cutPast (isIn list) (history file))
   pub greatest-is : r .greatest ≡ greatest (cutPast (isIn list) (history file))
+  pub small : place (cutPast (isIn list) (history file)) ≤ length file
 
 -- ---- the walk that writes
 

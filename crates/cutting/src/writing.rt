@@ -7,6 +7,7 @@ use commands::Kind;
 use commands::Read;
 use commands::fields;
 ghost use mathlib.Core.Path.{_≡_};
+ghost use mathlib.Core.Bool.{cond};
 ghost use Prim.Native.Nat.{_+_, _-_, _≤_};
 ghost use lib.ListN.{length};
 ghost use lib.Seq.{sets};
@@ -145,6 +146,18 @@ fn copied(file: &[u8], out: &mut [u8], at: usize, next: usize, m: Made) -> Made
     }
 }
 
+// Behind a run of plain commands: on a chosen page there is more to copy, elsewhere they go.
+fn run_passed(file: &[u8], out: &mut [u8], at: usize, run: usize, here: bool, m: Made) -> Made
+    requires { ⌜ RoomToCopy (now file) at m (length (now out)) ⌝ }
+    ensures { λ r. ⌜ r ≡ cond here m (madeCopied at run m) ⌝ }
+    ensures { λ _. ⌜ now (out .exit) ≡ cond here (now (out .entry)) (areaCopied (now (file .entry)) at m (now (out .entry))) ⌝ }
+{
+    if here {
+        return m;
+    }
+    copied(file, out, at, run, m)
+}
+
 // A command of the opening, at the place that was made.
 fn opened(file: &[u8], out: &mut [u8], at: usize, next: usize, m: Made) -> Made
     requires { ⌜ (at ≤ next) × (next ≤ length (now file)) × (m .opened + (next - at) ≤ length (now out)) ⌝ }
@@ -213,9 +226,7 @@ pub fn write(table: &[u8; 122], file: &[u8], list: &[u32], counted: Counted, out
     };
     loop {
         let run = walking::run_end(table, file, at, p);
-        if !p.here {
-            m = copied(file, out, at, run, m);
-        }
+        m = run_passed(file, out, at, run, p.here, m);
         match commands::read_by(table, file, run) {
             Read::Refused(_) => return,
             Read::Command(reading) => {

@@ -37,17 +37,17 @@ widened-requires c κs = search needs
 
 -- src/choosing.rt:23:13
 returns : tie.Need-returns Inv-loop μ-loop
-returns c = 
- let a = c .before .before .before .before .before .before .args in
- let w = c .before .widened .ensures in
- not-rising (a .last) (now (a .list)) (c .before .before .before .before .loop .before) (c .before .before .before .before .loop .index) (c .before .before .before .before .loop .inv) (c .before .before .before .loop-test .taken) (omega (arith, w, c .if1 .taken))
+returns c =
+    let a = c .before .before .before .before .before .before .args in
+    let w = c .before .widened .ensures in
+    not-rising (a .last) (now (a .list)) (c .before .before .before .before .loop .before) (c .before .before .before .before .loop .index) (c .before .before .before .before .loop .inv) (c .before .before .before .loop-test .taken) (omega (arith, w, c .if1 .taken))
 
 -- src/choosing.rt:26:13
 returns-2 : tie.Need-returns-2 Inv-loop μ-loop
-returns-2 c = 
- let a = c .before .before .before .before .before .before .before .args in
- let w = c .before .before .widened .ensures in
- not-there (a .last) (now (a .list)) (c .before .before .before .before .before .loop .before) (c .before .before .before .before .before .loop .index) (c .before .before .before .before .before .loop .inv) (c .before .before .before .before .loop-test .taken) (omega (arith, w, c .before .if1 .left)) (omega (arith, w, c .if2 .taken))
+returns-2 c =
+    let a = c .before .before .before .before .before .before .before .args in
+    let w = c .before .before .widened .ensures in
+    not-there (a .last) (now (a .list)) (c .before .before .before .before .before .loop .before) (c .before .before .before .before .before .loop .index) (c .before .before .before .before .before .loop .inv) (c .before .before .before .before .loop-test .taken) (omega (arith, w, c .before .if1 .left)) (omega (arith, w, c .if2 .taken))
 
 -- src/choosing.rt:29:9
 add-index : tie.Need-add-index Inv-loop μ-loop
@@ -59,10 +59,10 @@ loop-less c = search needs
 
 -- src/choosing.rt:20:5
 loop-again : tie.Need-loop-again Inv-loop μ-loop
-loop-again c = 
- let a = c .before .before .before .before .before .before .before .args in
- let w = c .before .before .widened .ensures in
- rw (w, add-one (c .before .before .before .before .before .loop .index)) (judged-on (a .last) (now (a .list)) (c .before .before .before .before .before .loop .before) (c .before .before .before .before .before .loop .index) (c .before .before .before .before .before .loop .inv) (c .before .before .before .before .loop-test .taken) (omega (arith, w, c .before .if1 .left)) (omega (arith, w, c .if2 .left)))
+loop-again c =
+    let a = c .before .before .before .before .before .before .before .args in
+    let w = c .before .before .widened .ensures in
+    rw (w, add-one (c .before .before .before .before .before .loop .index)) (judged-on (a .last) (now (a .list)) (c .before .before .before .before .before .loop .before) (c .before .before .before .before .before .loop .index) (c .before .before .before .before .before .loop .inv) (c .before .before .before .before .loop-test .taken) (omega (arith, w, c .before .if1 .left)) (omega (arith, w, c .if2 .left)))
 
 -- src/choosing.rt:15:1
 returns-3 : tie.Need-returns-3 Inv-loop μ-loop

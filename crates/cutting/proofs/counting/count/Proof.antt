@@ -5,8 +5,6 @@ use Rattle.cutting.proofs.Walks.{never-refused, inside}
 use Rattle.cutting.proofs.CountLaws.{Counting, counting-first, counting-run, counting-on, counting-last, counting-same, counted-is}
 use Rattle.list.proofs.Arms.{kind-others}
 use Rattle.cutting.proofs.PlainRuns.{run-ahead}
-
-
 use Rattle.cutting.specs.Steps.{spotAfter, fateOf, runCounted, countedAfter, CountsAll}
 use Rattle.cutting.specs.declared.Counted.{Counted}
 use Rattle.cutting.specs.declared.Spot.{Spot}
@@ -22,7 +20,6 @@ use lib.ListN.{length}
 use denote.Ref.{now}
 use borrow.Author.Needs.{needs}
 use native.Mathlib.Omega.{arith}
-
 use mathlib.Core.Bool.{Bool, true, false}
 use mathlib.Core.Path.{_≡_, refl, sym, ap, _∙_, subst}
 use Prim.Native.Nat.{ℕ, _-_, _+_, _≤_, _<_}
@@ -51,9 +48,9 @@ start-requires c κs = tt
 
 -- src/counting.rt:82:5
 loop-holds : tie.Need-loop-holds Inv-loop μ-loop
-loop-holds c = 
- let s = c .before .before .before in
- subst (λ (q : Spot). Counting (now (s .args .file)) (now (s .args .list)) 0 q (record { opened = 0; kept = 0; depth = 0; greatest = 0 })) (sym (c .start .ensures)) (counting-first (now (s .args .file)) (now (s .args .list)) (s .pre .1) (pages (history (now (s .args .file)))) (s .pre .2))
+loop-holds c =
+    let s = c .before .before .before in
+    subst (λ (q : Spot). Counting (now (s .args .file)) (now (s .args .list)) 0 q (record { opened = 0; kept = 0; depth = 0; greatest = 0 })) (sym (c .start .ensures)) (counting-first (now (s .args .file)) (now (s .args .list)) (s .pre .1) (pages (history (now (s .args .file)))) (s .pre .2))
 
 -- src/counting.rt:83:13
 run-end-requires : tie.Need-run-end-requires Inv-loop μ-loop
@@ -129,9 +126,9 @@ enum-told c = search needs
 
 -- src/counting.rt:86:33
 returns : tie.Need-returns Inv-loop μ-loop
-returns c = 
- let refusal = c .enum-told .given .0 .0 in
- absurd (never-refused (held (c .before .before .before) .walk) (refusal .number) (refusal .place) (sym (c .before .before .read-by .ensures) ∙ ap readAnswer (c .enum-told .given .1)))
+returns c =
+    let refusal = c .enum-told .given .0 .0 in
+    absurd (never-refused (held (c .before .before .before) .walk) (refusal .number) (refusal .place) (sym (c .before .before .read-by .ensures) ∙ ap readAnswer (c .enum-told .given .1)))
 
 -- src/counting.rt:87:27
 enum-known-reading : tie.Need-enum-known-reading Inv-loop μ-loop
@@ -143,11 +140,11 @@ kind-of-requires c κs = tt
 
 -- src/counting.rt:90:21
 spot-after-requires : tie.Need-spot-after-requires Inv-loop μ-loop
-spot-after-requires c κs = 
- let h = held (counted-run (c .before)) in
- let small = spot-small (h .stands) in
- let s = entered (counted-run (c .before) .before) in
- (omega (arith, small .0, h .walk .at-is, inside (h .walk), s .pre .1 .0), omega (arith, small .1, h .walk .at-is, inside (h .walk), s .pre .1 .0))
+spot-after-requires c κs =
+    let h = held (counted-run (c .before)) in
+    let small = spot-small (h .stands) in
+    let s = entered (counted-run (c .before) .before) in
+    (omega (arith, small .0, h .walk .at-is, inside (h .walk), s .pre .1 .0), omega (arith, small .1, h .walk .at-is, inside (h .walk), s .pre .1 .0))
 
 -- src/counting.rt:91:21
 fate-of-requires : tie.Need-fate-of-requires Inv-loop μ-loop
@@ -159,13 +156,13 @@ sub-counted-after c = omega (arith, ends-there (c .before .before .before))
 
 -- src/counting.rt:92:17
 counted-after-requires : tie.Need-counted-after-requires Inv-loop μ-loop
-counted-after-requires c κs = 
- let k = c .before .before .before in
- let n = held (counted-run k) .counts in
- let s = entered (counted-run k .before) in
- let top = read k .inside in
- let end = ends-there k in
- (omega (arith, n .short, end, top, s .pre .1 .0), omega (arith, n .short, end, top, s .pre .1 .0), omega (arith, n .shallow, end, top, s .pre .1 .0))
+counted-after-requires c κs =
+    let k = c .before .before .before in
+    let n = held (counted-run k) .counts in
+    let s = entered (counted-run k .before) in
+    let top = read k .inside in
+    let end = ends-there k in
+    (omega (arith, n .short, end, top, s .pre .1 .0), omega (arith, n .short, end, top, s .pre .1 .0), omega (arith, n .shallow, end, top, s .pre .1 .0))
 
 -- and what is counted of it
 module _ (c : tie.After-counted-after Inv-loop μ-loop) where
@@ -208,21 +205,21 @@ enum-told-2 c = search needs
 
 -- src/counting.rt:94:21
 returns-2 : tie.Need-returns-2 Inv-loop μ-loop
-returns-2 c = 
- let n = c .before .before in
- at-last n (ap (λ (k : Kind). is k PostPost) (sym (n .before .before .before .kind-of .ensures) ∙ c .enum-told2 .given .1))
+returns-2 c =
+    let n = c .before .before in
+    at-last n (ap (λ (k : Kind). is k PostPost) (sym (n .before .before .before .kind-of .ensures) ∙ c .enum-told2 .given .1))
 
 -- src/counting.rt:82:5
 loop-less : tie.Need-loop-less Inv-loop μ-loop
-loop-less c = 
- let n = c .before in
- omega (arith, ahead (before n), ends-there (known n), read (known n) .inside)
+loop-less c =
+    let n = c .before in
+    omega (arith, ahead (before n), ends-there (known n), read (known n) .inside)
 
 -- src/counting.rt:82:5
 loop-again : tie.Need-loop-again Inv-loop μ-loop
-loop-again c = 
- let n = c .before in
- onward n (ap (λ (k : Kind). is k PostPost) (sym (n .before .before .before .kind-of .ensures)) ∙ sym (kind-others (λ k. false) (λ k. is k PostPost) (PostPost ∷ []) refl (n .before .before .before .kind-of .result) (c .match2 .keys2)))
+loop-again c =
+    let n = c .before in
+    onward n (ap (λ (k : Kind). is k PostPost) (sym (n .before .before .before .kind-of .ensures)) ∙ sym (kind-others (λ k. false) (λ k. is k PostPost) (PostPost ∷ []) refl (n .before .before .before .kind-of .result) (c .match2 .keys2)))
 
 pub count-spec : {M : Type 1} → statement M
 count-spec =

@@ -37,10 +37,10 @@ enum-told-5 c = search needs
 
 -- src/walking.rt:90:21
 returns : tie.Need-returns
-returns c = 
- let a = c .before .before .before .args in
- let copied : Fate.Copied ≡ cond (a .p .on && a .chosen) Fate.Copied Fate.Dropped = rw (c .before .if3 .taken, c .if4 .taken) refl in
- copied ∙ ap (λ (f : Bool → Spot → Fate). f (a .chosen) (a .p)) (kind-others (λ k chosen p. cond (p .on && chosen) Fate.Copied Fate.Dropped) fateOf (Bop ∷ Post ∷ PostPost ∷ Pre ∷ Define ∷ []) refl (a .kind) (c .before .before .match .keys6))
+returns c =
+    let a = c .before .before .before .args in
+    let copied : Fate.Copied ≡ cond (a .p .on && a .chosen) Fate.Copied Fate.Dropped = rw (c .before .if3 .taken, c .if4 .taken) refl in
+    copied ∙ ap (λ (f : Bool → Spot → Fate). f (a .chosen) (a .p)) (kind-others (λ k chosen p. cond (p .on && chosen) Fate.Copied Fate.Dropped) fateOf (Bop ∷ Post ∷ PostPost ∷ Pre ∷ Define ∷ []) refl (a .kind) (c .before .before .match .keys6))
 
 -- src/walking.rt:76:1
 returns-2 : tie.Need-returns-2
@@ -72,17 +72,17 @@ returns-8 c = rw (c .before .enum-told5 .given .1, c .if2 .left)
 
 -- src/walking.rt:76:1
 returns-9 : tie.Need-returns-9
-returns-9 c = 
- let a = c .before .before .before .args in
- let dropped : Fate.Dropped ≡ cond (a .p .on && a .chosen) Fate.Copied Fate.Dropped = rw (c .before .if3 .taken, c .if4 .left) refl in
- dropped ∙ ap (λ (f : Bool → Spot → Fate). f (a .chosen) (a .p)) (kind-others (λ k chosen p. cond (p .on && chosen) Fate.Copied Fate.Dropped) fateOf (Bop ∷ Post ∷ PostPost ∷ Pre ∷ Define ∷ []) refl (a .kind) (c .before .before .match .keys6))
+returns-9 c =
+    let a = c .before .before .before .args in
+    let dropped : Fate.Dropped ≡ cond (a .p .on && a .chosen) Fate.Copied Fate.Dropped = rw (c .before .if3 .taken, c .if4 .left) refl in
+    dropped ∙ ap (λ (f : Bool → Spot → Fate). f (a .chosen) (a .p)) (kind-others (λ k chosen p. cond (p .on && chosen) Fate.Copied Fate.Dropped) fateOf (Bop ∷ Post ∷ PostPost ∷ Pre ∷ Define ∷ []) refl (a .kind) (c .before .before .match .keys6))
 
 -- src/walking.rt:76:1
 returns-10 : tie.Need-returns-10
-returns-10 c = 
- let a = c .before .before .args in
- let dropped : Fate.Dropped ≡ cond (a .p .on && a .chosen) Fate.Copied Fate.Dropped = rw (c .if3 .left) refl in
- dropped ∙ ap (λ (f : Bool → Spot → Fate). f (a .chosen) (a .p)) (kind-others (λ k chosen p. cond (p .on && chosen) Fate.Copied Fate.Dropped) fateOf (Bop ∷ Post ∷ PostPost ∷ Pre ∷ Define ∷ []) refl (a .kind) (c .before .match .keys6))
+returns-10 c =
+    let a = c .before .before .args in
+    let dropped : Fate.Dropped ≡ cond (a .p .on && a .chosen) Fate.Copied Fate.Dropped = rw (c .if3 .left) refl in
+    dropped ∙ ap (λ (f : Bool → Spot → Fate). f (a .chosen) (a .p)) (kind-others (λ k chosen p. cond (p .on && chosen) Fate.Copied Fate.Dropped) fateOf (Bop ∷ Post ∷ PostPost ∷ Pre ∷ Define ∷ []) refl (a .kind) (c .before .match .keys6))
 
 pub fate-of-spec : {M : Type 1} → statement M
 fate-of-spec =

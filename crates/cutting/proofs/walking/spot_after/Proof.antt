@@ -40,17 +40,17 @@ enum-told-3 c = search needs
 
 -- src/walking.rt:26:1
 returns : tie.Need-returns
-returns c = 
- let a = c .before .before .before .before .before .args in
- let next : nextChosen (now (a .list)) (a .p .met) (a .p .pages) ≡ true = sym (c .before .is-next .ensures) ∙ c .if1 .taken in
- rw (c .if1 .taken, c .before .before .enum-told .given .1, next) refl
+returns c =
+    let a = c .before .before .before .before .before .args in
+    let next : nextChosen (now (a .list)) (a .p .met) (a .p .pages) ≡ true = sym (c .before .is-next .ensures) ∙ c .if1 .taken in
+    rw (c .if1 .taken, c .before .before .enum-told .given .1, next) refl
 
 -- src/walking.rt:26:1
 returns-2 : tie.Need-returns-2
-returns-2 c = 
- let a = c .before .before .before .before .before .args in
- let next : nextChosen (now (a .list)) (a .p .met) (a .p .pages) ≡ false = sym (c .before .is-next .ensures) ∙ c .if1 .left in
- rw (c .if1 .left, c .before .before .enum-told .given .1, next) refl
+returns-2 c =
+    let a = c .before .before .before .before .before .args in
+    let next : nextChosen (now (a .list)) (a .p .met) (a .p .pages) ≡ false = sym (c .before .is-next .ensures) ∙ c .if1 .left in
+    rw (c .if1 .left, c .before .before .enum-told .given .1, next) refl
 
 -- src/walking.rt:26:1
 returns-3 : tie.Need-returns-3
@@ -62,9 +62,9 @@ returns-4 c = rw (c .enum-told3 .given .1) refl
 
 -- src/walking.rt:26:1
 returns-5 : tie.Need-returns-5
-returns-5 c = 
- let a = c .before .before .args in
- ap (λ (f : Spot → Spot). f (a .p)) (kind-others (λ k p. p) (spotAfter (now (a .list))) (Bop ∷ Eop ∷ Post ∷ []) refl (a .kind) (c .match .keys4))
+returns-5 c =
+    let a = c .before .before .args in
+    ap (λ (f : Spot → Spot). f (a .p)) (kind-others (λ k p. p) (spotAfter (now (a .list))) (Bop ∷ Eop ∷ Post ∷ []) refl (a .kind) (c .match .keys4))
 
 pub spot-after-spec : {M : Type 1} → statement M
 spot-after-spec =

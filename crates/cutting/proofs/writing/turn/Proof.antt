@@ -64,10 +64,10 @@ copied-requires-2 c κs = room (c .before .before .before .before .before) Fate.
 
 -- src/writing.rt:190:13
 opened-requires : tie.Need-opened-requires
-opened-requires c κs = 
- let r = room (c .before .before .before .before .before .before .before .before .before) Fate.Opening (c .before .before .before .before .before .enum-told3 .given .1) in
- let same = ap (λ (m : Made). m .opened) (c .before .before .before .copied2 .ensures .0) in
- (r .1, r .2, omega (arith, r .3, same, c .before .before .before .copied2 .kept .1 .0))
+opened-requires c κs =
+    let r = room (c .before .before .before .before .before .before .before .before .before) Fate.Opening (c .before .before .before .before .before .enum-told3 .given .1) in
+    let same = ap (λ (m : Made). m .opened) (c .before .before .before .copied2 .ensures .0) in
+    (r .1, r .2, omega (arith, r .3, same, c .before .before .before .copied2 .kept .1 .0))
 
 -- src/writing.rt:193:38
 enum-told-4 : tie.Need-enum-told-4
@@ -91,12 +91,12 @@ part-mended-end c = let r = room (c .before .before .before .before .before .bef
 
 -- src/writing.rt:194:13
 mended-requires : tie.Need-mended-requires
-mended-requires c κs = 
- let s = c .before .before .before .before .before .before .before .before .before .before in
- let r = room s Fate.Mended (c .before .before .before .before .before .before .enum-told4 .given .1) in
- let long = between-length (s .args .at) (s .args .next) (now (s .args .file)) (omega (arith, r .2)) (r .1) in
- let same = ap (λ (m : Made). m .size) (c .before .before .before .before .copied3 .ensures .0) in
- (omega (arith, long, r .2), omega (arith, r .3, same, c .before .before .before .before .copied3 .kept .1 .0))
+mended-requires c κs =
+    let s = c .before .before .before .before .before .before .before .before .before .before in
+    let r = room s Fate.Mended (c .before .before .before .before .before .before .enum-told4 .given .1) in
+    let long = between-length (s .args .at) (s .args .next) (now (s .args .file)) (omega (arith, r .2)) (r .1) in
+    let same = ap (λ (m : Made). m .size) (c .before .before .before .before .copied3 .ensures .0) in
+    (omega (arith, long, r .2), omega (arith, r .3, same, c .before .before .before .before .copied3 .kept .1 .0))
 
 -- src/writing.rt:170:1
 returns : tie.Need-returns
@@ -116,11 +116,11 @@ same-length-2 c = search needs
 
 -- src/writing.rt:170:1
 returns-3 : tie.Need-returns-3
-returns-3 c = 
- let s = c .before .before .before .before .before .before .before .before .before .before .before .before in
- let fate = c .before .before .before .before .before .before .before .before .enum-told3 .given .1 in
- let made = c .before .before .before .before .before .before .copied2 .ensures .0 in
- (rw fate (c .before .before .opened .ensures .0 ∙ ap (λ (m : Made). madeOpened (s .args .next - s .args .at) m) made), rw fate (c .before .before .opened .ensures .1 ∙ opened-there (now (s .args .file)) (s .args .at) (s .args .next) (s .args .m) (c .before .before .before .before .before .before .copied2 .result) (now (s .args .out)) _ made (c .before .before .before .before .before .before .copied2 .ensures .1)))
+returns-3 c =
+    let s = c .before .before .before .before .before .before .before .before .before .before .before .before in
+    let fate = c .before .before .before .before .before .before .before .before .enum-told3 .given .1 in
+    let made = c .before .before .before .before .before .before .copied2 .ensures .0 in
+    (rw fate (c .before .before .opened .ensures .0 ∙ ap (λ (m : Made). madeOpened (s .args .next - s .args .at) m) made), rw fate (c .before .before .opened .ensures .1 ∙ opened-there (now (s .args .file)) (s .args .at) (s .args .next) (s .args .m) (c .before .before .before .before .before .before .copied2 .result) (now (s .args .out)) _ made (c .before .before .before .before .before .before .copied2 .ensures .1)))
 
 -- src/writing.rt:170:1
 same-length-3 : tie.Need-same-length-3
@@ -128,12 +128,12 @@ same-length-3 c = search needs
 
 -- src/writing.rt:170:1
 returns-4 : tie.Need-returns-4
-returns-4 c = 
- let s = c .before .before .before .before .before .before .before .before .before .before .before .before .before in
- let fate = c .before .before .before .before .before .before .before .before .before .enum-told4 .given .1 in
- let made = c .before .before .before .before .before .before .before .copied3 .ensures .0 in
- let r = room s Fate.Mended fate in
- (rw fate (c .before .before .mended .ensures .0 ∙ mended-made (s .args .kind) (s .args .at) (s .args .next) (s .args .m) (c .before .before .before .before .before .before .before .copied3 .result) made (r .2)), rw fate (c .before .before .mended .ensures .1 ∙ mended-there (now (s .args .file)) (s .args .kind) (s .args .greatest) (s .args .pages) (s .args .at) (s .args .next) (s .args .m) (c .before .before .before .before .before .before .before .copied3 .result) (now (s .args .out)) _ made (c .before .before .before .before .before .before .before .copied3 .ensures .1)))
+returns-4 c =
+    let s = c .before .before .before .before .before .before .before .before .before .before .before .before .before in
+    let fate = c .before .before .before .before .before .before .before .before .before .enum-told4 .given .1 in
+    let made = c .before .before .before .before .before .before .before .copied3 .ensures .0 in
+    let r = room s Fate.Mended fate in
+    (rw fate (c .before .before .mended .ensures .0 ∙ mended-made (s .args .kind) (s .args .at) (s .args .next) (s .args .m) (c .before .before .before .before .before .before .before .copied3 .result) made (r .2)), rw fate (c .before .before .mended .ensures .1 ∙ mended-there (now (s .args .file)) (s .args .kind) (s .args .greatest) (s .args .pages) (s .args .at) (s .args .next) (s .args .m) (c .before .before .before .before .before .before .before .copied3 .result) (now (s .args .out)) _ made (c .before .before .before .before .before .before .before .copied3 .ensures .1)))
 
 pub turn-spec : {M : Type 1} → statement M
 turn-spec =
