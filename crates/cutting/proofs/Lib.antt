@@ -10,3 +10,4 @@ pub mod PlainRuns
 pub mod CountLaws
 pub mod WriteLaws
 pub mod WriteTurns
+pub mod NewFiles
