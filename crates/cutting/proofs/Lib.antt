@@ -11,3 +11,4 @@ pub mod CountLaws
 pub mod WriteLaws
 pub mod WriteTurns
 pub mod NewFiles
+pub mod RefusedWith

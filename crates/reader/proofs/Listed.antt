@@ -5,8 +5,8 @@ use mathlib.Core.Logic.{inl, inr}
 use native.Mathlib.Omega.{arith}
 use lib.IntN.{ℤ}
 use Rattle.refusals.specs.Answer.{Answer}
-use Rattle.refusals.specs.RefusedOnly.{RefusedOnly, Listed, FileRefusal, CommandRefusal, NameRefusal, DistanceRefusal, WidthRefusal, TableRefusal, PageRefusal, MadeRefusal}
-use Rattle.refusals.proofs.RefusedOnly.{only-wider, file-numbers, name-numbers, unit-numbers, page-numbers, made-numbers}
+use Rattle.refusals.specs.RefusedOnly.{RefusedOnly, Listed, FileRefusal, CommandRefusal, NameRefusal, DistanceRefusal, WidthRefusal, TableRefusal, PageRefusal, MadeRefusal, CutRefusal}
+use Rattle.refusals.proofs.RefusedOnly.{only-wider, file-numbers, name-numbers, unit-numbers, page-numbers, made-numbers, cut-numbers}
 use Rattle.units.specs.Rounding.{roundedDistance}
 use Rattle.units.proofs.RefusedWith.{distance-refused-with}
 use Rattle.widths.specs.declared.FixWord.{FixWord}
@@ -21,6 +21,8 @@ use Rattle.volume.specs.Names.{namePlace}
 use Rattle.volume.proofs.RefusedWith.{file-refused-with, name-refused-with}
 use Rattle.packed.specs.Table.{tableMade, recordsMade}
 use Rattle.packed.proofs.RefusedWith.{made-refused-with}
+use Rattle.cutting.specs.CutFile.{cutPages, bytesCut}
+use Rattle.cutting.proofs.RefusedWith.{cut-refused-with}
 use Rattle.page.specs.Answers.{placedPage, placedCounts}
 use Rattle.page.proofs.RefusedWith.{page-refused-with}
 
@@ -57,7 +59,7 @@ page-low : (file table : List ℕ) (number place : ℕ) → PageRefusal file wid
 page-low file table number place may = let (low, high) = page-numbers file widthRecordSize table may in (low, omega arith)
 
 made-low : (pk : List ℕ) (number place : ℕ) → MadeRefusal pk number place → Low number
-made-low pk number place may = let (low, high) = made-numbers pk may in (omega arith, high)
+made-low pk number place may = let (low, high) = made-numbers pk may in (omega arith, omega arith)
 
 -- ---- of each entry
 
@@ -89,3 +91,6 @@ placed-listed file table resolution page room =
 
 pub made-listed : (pk : List ℕ) (scale room : ℕ) → Listed (recordsMade (tableMade pk scale room))
 made-listed pk scale room = listed (MadeRefusal pk) (recordsMade (tableMade pk scale room)) (made-low pk) (made-refused-with pk scale room)
+
+pub cut-listed : (file list : List ℕ) (room : ℕ) → Listed (bytesCut (cutPages file list room))
+cut-listed file list room = listed (CutRefusal file) (bytesCut (cutPages file list room)) (λ number place may. cut-numbers file may) (cut-refused-with file list room)

@@ -53,19 +53,19 @@ add-if1 c = let n = c .before .before .count .ensures in omega (arith, n .all-is
 
 -- src/pages.rt:42:9
 returns : tie.Need-returns
-returns c = 
- let s = c .before .before .before .before .before .before .before .before .before in
- let n = c .before .before .before .count .ensures in
- let filled = c .before .fillers-at .ensures ∙ ap fillersAt (n .all-is) in
- let made = cut-short (now (s .args .file)) (now (s .args .list)) (length (now (s .args .out))) (omega (arith, n .all-is, filled, c .if1 .taken)) in
- (sym (ap bytesCut made), sym (ap (cutArea (now (s .args .out))) made))
+returns c =
+    let s = c .before .before .before .before .before .before .before .before .before in
+    let n = c .before .before .before .count .ensures in
+    let filled = c .before .fillers-at .ensures ∙ ap fillersAt (n .all-is) in
+    let made = cut-short (now (s .args .file)) (now (s .args .list)) (length (now (s .args .out))) (omega (arith, n .all-is, filled, c .if1 .taken)) in
+    (sym (ap bytesCut made), sym (ap (cutArea (now (s .args .out))) made))
 
 -- src/pages.rt:47:5
 write-requires : tie.Need-write-requires
-write-requires c κs = 
- let s = c .before .before .before .before .before .before .before .before .before .before .before in
- let n = c .before .before .before .before .before .count .ensures in
- (c .before .before .before .before .before .before .before .length-table .ensures, record { lawful = s .pre .0; rising = rising (pages (history (now (s .args .file)))) (now (s .args .list)) (s .pre .1); counts = n; fits = omega (arith, n .all-is, c .before .before .if1 .left) })
+write-requires c κs =
+    let s = c .before .before .before .before .before .before .before .before .before .before .before in
+    let n = c .before .before .before .before .before .count .ensures in
+    (c .before .before .before .before .before .before .before .length-table .ensures, record { lawful = s .pre .0; rising = rising (pages (history (now (s .args .file)))) (now (s .args .list)) (s .pre .1); counts = n; fits = omega (arith, n .all-is, c .before .before .if1 .left) })
 
 -- src/pages.rt:49:29
 array-share-prefix-tail : tie.Need-array-share-prefix-tail
@@ -73,16 +73,16 @@ array-share-prefix-tail c = search needs
 
 -- src/pages.rt:49:29
 slice-aggregate-paste : tie.Need-slice-aggregate-paste
-slice-aggregate-paste c = 
- let few = fillers-few (c .before .before .before .before .before .before .before .before .before .before .count .result .opened + c .before .before .before .before .before .before .before .before .before .before .count .result .kept) in
- sym (length-take-le {A = ℕ} (c .before .before .before .before .before .before .before .before .fillers-at .result) (replicate 7 223) (omega (arith, few, c .before .before .before .before .before .before .before .before .fillers-at .ensures)))
+slice-aggregate-paste c =
+    let few = fillers-few (c .before .before .before .before .before .before .before .before .before .before .count .result .opened + c .before .before .before .before .before .before .before .before .before .before .count .result .kept) in
+    sym (length-take-le {A = ℕ} (c .before .before .before .before .before .before .before .before .fillers-at .result) (replicate 7 223) (omega (arith, few, c .before .before .before .before .before .before .before .before .fillers-at .ensures)))
 
 -- src/pages.rt:49:5
 paste-requires : tie.Need-paste-requires
-paste-requires c κs = 
- let few = fillers-few (c .before .before .before .before .before .before .before .before .before .before .count .result .opened + c .before .before .before .before .before .before .before .before .before .before .count .result .kept) in
- let long = length-take-le {A = ℕ} (c .before .before .before .before .before .before .before .before .fillers-at .result) (replicate 7 223) (omega (arith, few, c .before .before .before .before .before .before .before .before .fillers-at .ensures)) in
- omega (arith, long, c .before .before .before .before .before .before .before .if1 .left, c .before .before .before .before .write .kept .1 .1 .1 .1 .0)
+paste-requires c κs =
+    let few = fillers-few (c .before .before .before .before .before .before .before .before .before .before .count .result .opened + c .before .before .before .before .before .before .before .before .before .before .count .result .kept) in
+    let long = length-take-le {A = ℕ} (c .before .before .before .before .before .before .before .before .fillers-at .result) (replicate 7 223) (omega (arith, few, c .before .before .before .before .before .before .before .before .fillers-at .ensures)) in
+    omega (arith, long, c .before .before .before .before .before .before .before .if1 .left, c .before .before .before .before .write .kept .1 .1 .1 .1 .0)
 
 -- src/pages.rt:50:16
 add-t11 : tie.Need-add-t11
@@ -94,23 +94,23 @@ same-length c = search needs
 
 -- src/pages.rt:32:1
 returns-2 : tie.Need-returns-2
-returns-2 c = 
- let s = c .before .before .before .before .before .before .before .before .before .before .before .before .before .before .before .before .before .before .before in
- let file = now (s .args .file) in
- let list = now (s .args .list) in
- let entry = now (s .args .out) in
- let new = cutPast (isIn list) (history file) in
- let n = c .before .before .before .before .before .before .before .before .before .before .before .before .before .count .ensures in
- let size = c .before .before .before .before .before .before .before .before .before .before .before .before .before .count .result .opened + c .before .before .before .before .before .before .before .before .before .before .before .before .before .count .result .kept in
- let count = c .before .before .before .before .before .before .before .before .before .before .before .fillers-at .result in
- let filled : count ≡ fillersAt (place new) = c .before .before .before .before .before .before .before .before .before .before .before .fillers-at .ensures ∙ ap fillersAt (n .all-is) in
- let fits : place new + fillersAt (place new) ≤ length entry = omega (arith, n .all-is, filled, c .before .before .before .before .before .before .before .before .before .before .if1 .left) in
- let made = cut-given file list (length entry) fits in
- let bytes : size + count ≡ length (cutFile file list) = omega (arith, n .all-is, filled, file-length file list) in
- let long = length-take-le {A = ℕ} count (replicate 7 223) (omega (arith, filled, fillers-few (place new))) in
- let room : size + length {A = ℕ} (take count (replicate 7 223)) ≤ length (c .before .before .before .before .before .before .before .write .last .1 .1 .1 .1 .0) = omega (arith, long, c .before .before .before .before .before .before .before .before .before .before .if1 .left, c .before .before .before .before .before .before .before .write .kept .1 .1 .1 .1 .0) in
- let tailed = pasted-sets (c .before .before .before .before .before .before .before .write .last .1 .1 .1 .1 .0) size (take count (replicate 7 223)) (c .before .before .paste .last .0) room (c .before .before .paste .ensures) in
- (ap given bytes ∙ sym (ap bytesCut made), tailed ∙ tail-there entry (formsOf new) (c .before .before .before .before .before .before .before .write .last .1 .1 .1 .1 .0) size (place new) count (fillersAt (place new)) (c .before .before .before .before .before .before .before .write .ensures) (n .all-is) filled ∙ area-filled file list entry fits ∙ sym (ap (cutArea entry) made))
+returns-2 c =
+    let s = c .before .before .before .before .before .before .before .before .before .before .before .before .before .before .before .before .before .before .before in
+    let file = now (s .args .file) in
+    let list = now (s .args .list) in
+    let entry = now (s .args .out) in
+    let new = cutPast (isIn list) (history file) in
+    let n = c .before .before .before .before .before .before .before .before .before .before .before .before .before .count .ensures in
+    let size = c .before .before .before .before .before .before .before .before .before .before .before .before .before .count .result .opened + c .before .before .before .before .before .before .before .before .before .before .before .before .before .count .result .kept in
+    let count = c .before .before .before .before .before .before .before .before .before .before .before .fillers-at .result in
+    let filled : count ≡ fillersAt (place new) = c .before .before .before .before .before .before .before .before .before .before .before .fillers-at .ensures ∙ ap fillersAt (n .all-is) in
+    let fits : place new + fillersAt (place new) ≤ length entry = omega (arith, n .all-is, filled, c .before .before .before .before .before .before .before .before .before .before .if1 .left) in
+    let made = cut-given file list (length entry) fits in
+    let bytes : size + count ≡ length (cutFile file list) = omega (arith, n .all-is, filled, file-length file list) in
+    let long = length-take-le {A = ℕ} count (replicate 7 223) (omega (arith, filled, fillers-few (place new))) in
+    let room : size + length {A = ℕ} (take count (replicate 7 223)) ≤ length (c .before .before .before .before .before .before .before .write .last .1 .1 .1 .1 .0) = omega (arith, long, c .before .before .before .before .before .before .before .before .before .before .if1 .left, c .before .before .before .before .before .before .before .write .kept .1 .1 .1 .1 .0) in
+    let tailed = pasted-sets (c .before .before .before .before .before .before .before .write .last .1 .1 .1 .1 .0) size (take count (replicate 7 223)) (c .before .before .paste .last .0) room (c .before .before .paste .ensures) in
+    (ap given bytes ∙ sym (ap bytesCut made), tailed ∙ tail-there entry (formsOf new) (c .before .before .before .before .before .before .before .write .last .1 .1 .1 .1 .0) size (place new) count (fillersAt (place new)) (c .before .before .before .before .before .before .before .write .ensures) (n .all-is) filled ∙ area-filled file list entry fits ∙ sym (ap (cutArea entry) made))
 
 pub cut-accepted-spec : {M : Type 1} → statement M
 cut-accepted-spec =

@@ -15,7 +15,6 @@ use borrow.Author.Tests.{not-true, not-false}
 use lib.ListN.{length}
 use denote.Ref.{now}
 use mathlib.Core.List.{List}
-
 use mathlib.Core.Path.{_≡_, refl, sym, ap, _∙_, subst}
 use Prim.Native.Nat.{ℕ}
 use borrow.Author.Needs.{needs}
@@ -65,29 +64,29 @@ module _ (c : tie.After-right-list) where
 
 -- src/pages.rt:62:17
 returns : tie.Need-returns
-returns c = 
- let r = c .before in
- let a = start r .args in
- let wrong = wrong-there (wrongList (found r .pages) (now (a .list))) (r .right-list .result) (r .right-list .ensures) (c .if1 .taken) in
- let made = cut-wrong (now (a .file)) (now (a .list)) (length (now (a .out))) (found r) (accepted r) wrong in
- (sym (ap bytesCut made), sym (ap (cutArea (now (a .out))) made))
+returns c =
+    let r = c .before in
+    let a = start r .args in
+    let wrong = wrong-there (wrongList (found r .pages) (now (a .list))) (r .right-list .result) (r .right-list .ensures) (c .if1 .taken) in
+    let made = cut-wrong (now (a .file)) (now (a .list)) (length (now (a .out))) (found r) (accepted r) wrong in
+    (sym (ap bytesCut made), sym (ap (cutArea (now (a .out))) made))
 
 -- src/pages.rt:67:13
 cut-accepted-requires : tie.Need-cut-accepted-requires
-cut-accepted-requires c κs = 
- let r = c .before .before in
- let a = start r .args in
- let right = right-there (wrongList (found r .pages) (now (a .list))) (r .right-list .result) (r .right-list .ensures) (c .before .if1 .left) in
- let same : pages (history (now (a .file))) ≡ found r .pages = ap (λ (s : Summary). s .pages) (history-counts (now (a .file)) (found r) (accepted r)) in
- (accepts-lawful (now (a .file)) (found r) (accepted r), ap (λ (n : ℕ). wrongList n (now (a .list))) same ∙ right)
+cut-accepted-requires c κs =
+    let r = c .before .before in
+    let a = start r .args in
+    let right = right-there (wrongList (found r .pages) (now (a .list))) (r .right-list .result) (r .right-list .ensures) (c .before .if1 .left) in
+    let same : pages (history (now (a .file))) ≡ found r .pages = ap (λ (s : Summary). s .pages) (history-counts (now (a .file)) (found r) (accepted r)) in
+    (accepts-lawful (now (a .file)) (found r) (accepted r), ap (λ (n : ℕ). wrongList n (now (a .list))) same ∙ right)
 
 -- src/pages.rt:54:1
 returns-2 : tie.Need-returns-2
-returns-2 c = 
- let a = c .before .before .before .before .before .before .before .args in
- let refusal = c .before .refusal .given .0 .0 in
- let made = cut-refused (now (a .file)) (now (a .list)) (length (now (a .out))) (refusal .number) (refusal .place) (sym (c .before .before .before .check-file .ensures) ∙ ap checkAnswer (c .before .refusal .given .1)) in
- (sym (ap bytesCut made), sym (ap (cutArea (now (a .out))) made))
+returns-2 c =
+    let a = c .before .before .before .before .before .before .before .args in
+    let refusal = c .before .refusal .given .0 .0 in
+    let made = cut-refused (now (a .file)) (now (a .list)) (length (now (a .out))) (refusal .number) (refusal .place) (sym (c .before .before .before .check-file .ensures) ∙ ap checkAnswer (c .before .refusal .given .1)) in
+    (sym (ap bytesCut made), sym (ap (cutArea (now (a .out))) made))
 
 -- src/pages.rt:54:1
 same-length : tie.Need-same-length
@@ -95,12 +94,12 @@ same-length c = search needs
 
 -- src/pages.rt:54:1
 returns-3 : tie.Need-returns-3
-returns-3 c = 
- let r = c .before .before .before .before .before in
- let a = start r .args in
- let right = right-there (wrongList (found r .pages) (now (a .list))) (r .right-list .result) (r .right-list .ensures) (c .before .before .before .before .if1 .left) in
- let made = cut-right (now (a .file)) (now (a .list)) (length (now (a .out))) (found r) (accepted r) right in
- (c .before .before .cut-accepted .ensures .0 ∙ sym (ap bytesCut made), c .before .before .cut-accepted .ensures .1 ∙ sym (ap (cutArea (now (a .out))) made))
+returns-3 c =
+    let r = c .before .before .before .before .before in
+    let a = start r .args in
+    let right = right-there (wrongList (found r .pages) (now (a .list))) (r .right-list .result) (r .right-list .ensures) (c .before .before .before .before .if1 .left) in
+    let made = cut-right (now (a .file)) (now (a .list)) (length (now (a .out))) (found r) (accepted r) right in
+    (c .before .before .cut-accepted .ensures .0 ∙ sym (ap bytesCut made), c .before .before .cut-accepted .ensures .1 ∙ sym (ap (cutArea (now (a .out))) made))
 
 pub cut-pages-spec : {M : Type 1} → statement M
 cut-pages-spec =

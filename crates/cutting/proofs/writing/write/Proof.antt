@@ -50,9 +50,9 @@ start-requires c κs = tt
 
 -- src/writing.rt:227:5
 loop-holds : tie.Need-loop-holds Inv-loop μ-loop
-loop-holds c = 
- let s = c .before .before .before .before in
- writing-same (now (s .args .file)) (now (s .args .list)) (s .args .counted) (now (s .args .out)) (s .pre .1) refl (c .start .ensures) refl refl (writing-first (now (s .args .file)) (now (s .args .list)) (s .args .counted) (now (s .args .out)) (s .pre .1))
+loop-holds c =
+    let s = c .before .before .before .before in
+    writing-same (now (s .args .file)) (now (s .args .list)) (s .args .counted) (now (s .args .out)) (s .pre .1) refl (c .start .ensures) refl refl (writing-first (now (s .args .file)) (now (s .args .list)) (s .args .counted) (now (s .args .out)) (s .pre .1))
 
 -- src/writing.rt:228:13
 run-end-requires : tie.Need-run-end-requires Inv-loop μ-loop
@@ -60,9 +60,9 @@ run-end-requires c κs = c .before .before .before .before .before .pre .0
 
 -- src/writing.rt:229:9
 run-passed-requires : tie.Need-run-passed-requires Inv-loop μ-loop
-run-passed-requires c κs = 
- let s = c .before .before .before .before .before .before .before in
- room-to-copy (now (s .args .file)) (now (s .args .list)) (s .args .counted) (now (s .args .out)) (s .pre .1) (c .before .before .loop .inv)
+run-passed-requires c κs =
+    let s = c .before .before .before .before .before .before .before in
+    room-to-copy (now (s .args .file)) (now (s .args .list)) (s .args .counted) (now (s .args .out)) (s .pre .1) (c .before .before .loop .inv)
 
 -- behind a run of plain commands
 module _ (c : tie.After-run-passed Inv-loop μ-loop) where
@@ -130,9 +130,9 @@ same-length c = area-length _ _ _ _ (held (c .before .before .before .before .be
 
 -- src/writing.rt:231:33
 returns : tie.Need-returns Inv-loop μ-loop
-returns c = 
- let refusal = c .enum-told .given .0 .0 in
- absurd (never-refused (held (c .before .before .before .before .before) .walk) (refusal .number) (refusal .place) (sym (c .before .before .read-by .ensures) ∙ ap readAnswer (c .enum-told .given .1)))
+returns c =
+    let refusal = c .enum-told .given .0 .0 in
+    absurd (never-refused (held (c .before .before .before .before .before) .walk) (refusal .number) (refusal .place) (sym (c .before .before .read-by .ensures) ∙ ap readAnswer (c .enum-told .given .1)))
 
 -- src/writing.rt:232:27
 enum-known-reading : tie.Need-enum-known-reading Inv-loop μ-loop
@@ -144,11 +144,11 @@ kind-of-requires c κs = tt
 
 -- src/writing.rt:235:21
 spot-after-requires : tie.Need-spot-after-requires Inv-loop μ-loop
-spot-after-requires c κs = 
- let h = held (passed (c .before)) in
- let small = spot-small (h .stands) in
- let s = entered (passed (c .before)) in
- (omega (arith, small .0, h .walk .at-is, inside (h .walk), s .pre .1 .lawful .0), omega (arith, small .1, h .walk .at-is, inside (h .walk), s .pre .1 .lawful .0))
+spot-after-requires c κs =
+    let h = held (passed (c .before)) in
+    let small = spot-small (h .stands) in
+    let s = entered (passed (c .before)) in
+    (omega (arith, small .0, h .walk .at-is, inside (h .walk), s .pre .1 .lawful .0), omega (arith, small .1, h .walk .at-is, inside (h .walk), s .pre .1 .lawful .0))
 
 -- src/writing.rt:236:21
 fate-of-requires : tie.Need-fate-of-requires Inv-loop μ-loop
@@ -156,12 +156,12 @@ fate-of-requires c κs = tt
 
 -- src/writing.rt:237:17
 turn-requires : tie.Need-turn-requires Inv-loop μ-loop
-turn-requires c κs = 
- let f = c .before in
- let k = f .before .before .before in
- let b = passed k in
- let s = entered b in
- room-same (of-list b) (in-file b) (looped b .loop .p) (f .before .spot-after .result) (f .before .before .kind-of .result) (kindOfCommand (command k)) (f .fate-of .result) (run b) (reading k .next) _ (made b) (f .before .before .kind-of .ensures) (f .before .spot-after .ensures) (f .fate-of .ensures) (ends-there k) (length (area b)) (room-to-turn (in-file b) (of-list b) (s .args .counted) (at-entry b) (s .pre .1) (held b) (command k) _ (read k .ahead))
+turn-requires c κs =
+    let f = c .before in
+    let k = f .before .before .before in
+    let b = passed k in
+    let s = entered b in
+    room-same (of-list b) (in-file b) (looped b .loop .p) (f .before .spot-after .result) (f .before .before .kind-of .result) (kindOfCommand (command k)) (f .fate-of .result) (run b) (reading k .next) _ (made b) (f .before .before .kind-of .ensures) (f .before .spot-after .ensures) (f .fate-of .ensures) (ends-there k) (length (area b)) (room-to-turn (in-file b) (of-list b) (s .args .counted) (at-entry b) (s .pre .1) (held b) (command k) _ (read k .ahead))
 
 -- and what is written of it
 module _ (c : tie.After-turn Inv-loop μ-loop) where
@@ -214,11 +214,11 @@ same-length-2 c = let n = c .before .before .before .before in n .turn .kept .1 
 
 -- src/writing.rt:239:21
 returns-2 : tie.Need-returns-2 Inv-loop μ-loop
-returns-2 c = 
- let n = c .before .before .before .before in
- let b = before n in
- let s = entered b in
- area-is n ∙ writing-last (in-file b) (of-list b) (s .args .counted) (at-entry b) (s .pre .1) (held b) (command (known n)) _ (read (known n) .ahead) (sym (kind-is n) ∙ c .enum-told2 .given .1)
+returns-2 c =
+    let n = c .before .before .before .before in
+    let b = before n in
+    let s = entered b in
+    area-is n ∙ writing-last (in-file b) (of-list b) (s .args .counted) (at-entry b) (s .pre .1) (held b) (command (known n)) _ (read (known n) .ahead) (sym (kind-is n) ∙ c .enum-told2 .given .1)
 
 -- src/writing.rt:227:5
 loop-less : tie.Need-loop-less Inv-loop μ-loop
@@ -226,11 +226,11 @@ loop-less c = let n = c .before .before .before in omega (arith, ahead (before n
 
 -- src/writing.rt:227:5
 loop-again : tie.Need-loop-again Inv-loop μ-loop
-loop-again c = 
- let n = c .before .before .before in
- let b = before n in
- let s = entered b in
- writing-same (in-file b) (of-list b) (s .args .counted) (at-entry b) (s .pre .1) (ends-there (known n)) (spot-is n) (made-is n) (area-is n) (writing-on (in-file b) (of-list b) (s .args .counted) (at-entry b) (s .pre .1) (held b) (command (known n)) _ (read (known n) .ahead) (ap (λ (k : Kind). is k PostPost) (sym (kind-is n)) ∙ sym (kind-others (λ k. false) (λ k. is k PostPost) (PostPost ∷ []) refl (read-there n .before .before .kind-of .result) (c .match2 .keys2))))
+loop-again c =
+    let n = c .before .before .before in
+    let b = before n in
+    let s = entered b in
+    writing-same (in-file b) (of-list b) (s .args .counted) (at-entry b) (s .pre .1) (ends-there (known n)) (spot-is n) (made-is n) (area-is n) (writing-on (in-file b) (of-list b) (s .args .counted) (at-entry b) (s .pre .1) (held b) (command (known n)) _ (read (known n) .ahead) (ap (λ (k : Kind). is k PostPost) (sym (kind-is n)) ∙ sym (kind-others (λ k. false) (λ k. is k PostPost) (PostPost ∷ []) refl (read-there n .before .before .kind-of .result) (c .match2 .keys2))))
 
 pub write-spec : {M : Type 1} → statement M
 write-spec =
