@@ -27,20 +27,20 @@ fn font(bytes: u8, number: i64, check_sum: u32, s: i64, d: i64, area: &str, name
     out
 }
 
-struct Parts {
-    first: Vec<u8>,      // between pre and the first bop
-    pages: Vec<Vec<u8>>, // the insides of the pages
-    last: Vec<u8>,       // between post and post_post
-    units: [i64; 3],
-    depth: u16, // s in post
+pub struct Parts {
+    pub first: Vec<u8>,      // between pre and the first bop
+    pub pages: Vec<Vec<u8>>, // the insides of the pages
+    pub last: Vec<u8>,       // between post and post_post
+    pub units: [i64; 3],
+    pub depth: u16, // s in post
 }
 
-fn parts() -> Parts {
+pub fn parts() -> Parts {
     Parts { first: vec![], pages: vec![vec![]], last: vec![], units: [254, 1, 1000], depth: 0 }
 }
 
 impl Parts {
-    fn build(&self) -> Vec<u8> {
+    pub fn build(&self) -> Vec<u8> {
         let units: Vec<u8> = self.units.iter().flat_map(|unit| four(*unit)).collect();
         let mut out = vec![247, 2];
         out.extend(&units);
@@ -76,7 +76,7 @@ impl Parts {
     }
 }
 
-fn m() -> Vec<u8> {
+pub fn m() -> Vec<u8> {
     parts().build()
 }
 
@@ -85,14 +85,14 @@ pub fn changed(mut file: Vec<u8>, at: usize, byte: u8) -> Vec<u8> {
     file
 }
 
-fn checked(file: &[u8]) -> String {
+pub fn checked(file: &[u8]) -> String {
     match check(file) {
         Ok(s) => format!("{} {} {} {}", s.pages.len(), s.fonts.len(), s.greatest_depth, s.post),
         Err(refusal) => refusal.to_string(),
     }
 }
 
-fn placed(file: &[u8], table: &[u8], resolution: u32, page: u32, area: u64) -> Vec<String> {
+pub fn placed(file: &[u8], table: &[u8], resolution: u32, page: u32, area: u64) -> Vec<String> {
     match place(file, table, resolution, page, area) {
         Ok(placed) => {
             let mut lines: Vec<String> = placed.records.iter().map(record_line).collect();

@@ -2,6 +2,7 @@
 
 use crate::check::check;
 use crate::commands::read_command;
+use crate::cutting::cut;
 use crate::fonts::name_of_font;
 use crate::packed::width_table;
 use crate::placing::{place, record_line};
@@ -15,17 +16,40 @@ use std::os::unix::ffi::OsStrExt;
 
 const NO_INPUT: &str = "no input";
 
-/// How long the files may be, none when any length will do; and the output area.
+/// How long the files may be, none when any length will do; the output area, and that for a new
+/// file; the line itself, and the list of pages on it.
 #[derive(Clone, Copy)]
 pub struct Limits {
     pub dvi: Option<u64>,
     pub pk: Option<u64>,
     pub table: Option<u64>,
     pub area: u64,
+    pub file_area: u64,
+    pub line: usize,
+    pub pages: usize,
 }
 
-pub const DESK: Limits = Limits { dvi: Some(262_144), pk: Some(262_144), table: Some(65_536), area: 60_000 };
-pub const LONG: Limits = Limits { dvi: None, pk: None, table: None, area: u64::MAX };
+pub const DESK: Limits = Limits {
+    dvi: Some(262_144),
+    pk: Some(262_144),
+    table: Some(65_536),
+    area: 60_000,
+    file_area: 262_144,
+    line: 16_384,
+    pages: 1_000,
+};
+pub const LONG: Limits = Limits {
+    dvi: None,
+    pk: None,
+    table: None,
+    area: u64::MAX,
+    file_area: u64::MAX,
+    line: usize::MAX,
+    pages: usize::MAX,
+};
+
+/// How many bytes of a new file a line of the answer has.
+const BYTES_A_LINE: usize = 32;
 
 /// The line could not be understood, or a file not be read.
 struct NoInput;
@@ -40,6 +64,9 @@ pub fn answer(line: &[u8], limits: Limits) -> String {
 }
 
 fn asked(line: &[u8], limits: Limits) -> Result<Result<String, Refusal>, NoInput> {
+    if line.len() > limits.line {
+        return Err(NoInput);
+    }
     let words: Vec<&[u8]> = line.split(|byte| *byte == b' ').collect();
     let dvi = |name: &[u8]| contents(name, limits.dvi);
     let pk = |name: &[u8]| contents(name, limits.pk);
@@ -112,6 +139,17 @@ fn asked(line: &[u8], limits: Limits) -> Result<Result<String, Refusal>, NoInput
             Ok(width_table(&file, scale, area).map(|records| {
                 let mut lines: Vec<String> = records.iter().map(|record| hexadecimal(record)).collect();
                 lines.push(format!("end {}", records.len()));
+                lines.join("\n")
+            }))
+        }
+        [b"cut", file, area, ref pages @ ..] if pages.len() <= limits.pages => {
+            let area = plain(area, limits.file_area)?;
+            let pages =
+                pages.iter().map(|page| unsigned_word(page)).collect::<Result<Vec<u32>, NoInput>>()?;
+            let file = dvi(file)?;
+            Ok(cut(&file, &pages, area).map(|new| {
+                let mut lines: Vec<String> = new.chunks(BYTES_A_LINE).map(hexadecimal).collect();
+                lines.push(format!("end {}", new.len()));
                 lines.join("\n")
             }))
         }

@@ -4,6 +4,7 @@
 
 mod check;
 mod commands;
+mod cutting;
 mod fonts;
 mod lines;
 mod numbers;
@@ -13,6 +14,8 @@ mod refusal;
 mod units;
 mod widths;
 
+#[cfg(test)]
+mod cutting_examples;
 #[cfg(test)]
 mod examples;
 #[cfg(test)]
