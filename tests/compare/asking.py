@@ -22,12 +22,16 @@ ANSWERS = {
     b"look": rb"(?:found -?\d+ \d+ \d+ \d+ \d+|absent)",
     b"place": rb"end \d+ \d+ \d+",
     b"widths": rb"end \d+",
+    b"cut": rb"end \d+",
 }
 FORMS = {word: re.compile(rb"(?:refused \d+ at \d+|no input|" + form + rb")\Z") for word, form in ANSWERS.items()}
 NO_INPUT = re.compile(rb"no input\Z")
 # The questions whose answers have records, a row each before the last: how such a row looks, and what is enough to know it.
-RECORDS = {b"place": re.compile(rb"[cr] \d+ \d+ -?\d+ -?\d+ -?\d+ -?\d+\Z"), b"widths": re.compile(rb"[0-9a-f]{32}\Z")}
-STARTS = {b"place": re.compile(rb"[cr] "), b"widths": RECORDS[b"widths"]}
+RECORDS = {
+    b"place": re.compile(rb"[cr] \d+ \d+ -?\d+ -?\d+ -?\d+ -?\d+\Z"), b"widths": re.compile(rb"[0-9a-f]{32}\Z"),
+    b"cut": re.compile(rb"(?:[0-9a-f]{2}){1,32}\Z"),
+}
+STARTS = {b"place": re.compile(rb"[cr] "), b"widths": RECORDS[b"widths"], b"cut": RECORDS[b"cut"]}
 MOST_RESTARTS = 12
 MOST_BYTES = 1_000_000_000  # of one run's answers; a side that writes more has gone wrong
 
@@ -155,6 +159,8 @@ def well_formed(line, answer):
     if len(rows) == 1 and not rows[0].startswith(b"end "):
         return True
     records = int(rows[-1].split(b" ")[1]) if rows[-1].startswith(b"end ") else -1
+    if word == b"cut":  # bytes, 32 a row but for the last
+        records = -(-records // 32) if 2 * records == sum(map(len, rows[:-1])) else -1
     return records == len(rows) - 1 and (not records or bool(RECORDS[word].match(rows[0]) and RECORDS[word].match(rows[-2])))
 
 

@@ -155,13 +155,18 @@ def whole(x):
     return x.denominator == 1
 
 
-def typed(path, scales, unit, resolution):
-    """What DVItype says of a file at this resolution, where K is this."""
+def said(path, resolution):
+    """What DVItype prints about a file at this resolution."""
     command = ["dvitype", "-output-level=4", f"-dpi={resolution}", str(path)]
     done = subprocess.run(command, stdin=subprocess.DEVNULL, capture_output=True, timeout=600, check=False)
     if done.returncode:
         raise NoWitness("DVItype gives up: " + done.stderr.decode(errors="replace").strip()[-100:])
-    return Witness(scales, unit).read(done.stdout.decode("latin-1"))
+    return done.stdout.decode("latin-1")
+
+
+def typed(path, scales, unit, resolution):
+    """What DVItype says of a file at this resolution, where K is this."""
+    return Witness(scales, unit).read(said(path, resolution))
 
 
 def half(n):

@@ -6,7 +6,7 @@ from asking import ask_both, differs
 
 MOST_ROUNDS = 80
 MOST_TRIES = 400  # candidates that one run of the two programs is asked about
-FILE_WORDS = {b"read": (1,), b"check": (1,), b"name": (1,), b"table": (1,), b"look": (1,), b"place": (1, 2), b"widths": (1,)}
+FILE_WORDS = {b"read": (1,), b"check": (1,), b"name": (1,), b"table": (1,), b"look": (1,), b"place": (1, 2), b"widths": (1,), b"cut": (1,)}
 
 
 def without(runs, left_out):
