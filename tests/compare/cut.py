@@ -52,28 +52,31 @@ def as_checked(data, pages, area, answer, checked):
     return unlike(answer, rows)
 
 
-def ask_both(group, rng, data, pages, placings):
+def ask_both(group, rng, data, pages, placings, table=None):
     """Asks for a file of these pages, then about the file that the rules make: the check, fonts' names, pages at so many resolutions beside the
     old ones, and a file of all its pages, which is itself."""
     new = new_file(data, pages)
-    for area in (LONGEST_AREA, len(new), len(new) - 1):
-        ask(group, data, pages, area)
-    old_file, file, commands = group.keep(data), group.keep(new), dvi.commands_of(new)[0]
-    fonts, everything = dvi.fonts_of(commands), range(1, len(pages) + 1)
+    rows = rows_of(new)
+    old_file, file, everything = group.keep(data), group.keep(new), range(1, len(pages) + 1)
+    commands = dvi.commands_of(new)[0]
     line = b"check %s" % file
-    group.ask(line)
-    group.expect(line, [["accepted", *dvi.summary(new)]])
-    again = cut(file, everything)
-    if len(pages) <= MOST_PAGES:
-        group.ask(again)
-        group.expect(again, rows_of(new))
+    known = {cut(old_file, pages): rows, cut(old_file, pages, len(new)): rows, cut(old_file, pages, len(new) - 1): [["refused", 17, "at", 0]],
+             line: [["accepted", *dvi.summary_of(commands)]], cut(file, everything): rows}
+    for line, answer in known.items():
+        group.ask(line)
+        group.expect(line, answer)
     ask_names(group, rng, old_file, file, commands)
     if placings:
-        table, empty = group.keep(table_for(rng, fonts, unit_of(units_of(commands), 300), 0.9)), group.keep(b"")
+        table = group.keep(table if table is not None else any_table(rng, commands))
         for number in sorted(rng.sample(everything, min(3, len(pages)))):
             for resolution in rng.sample(RESOLUTIONS, placings):
-                ask_page(group, old_file, file, rng.choice([table, table, table, empty]), resolution, pages[number - 1], number)
+                ask_page(group, old_file, file, rng.choice([table, table, table, group.keep(b"")]), resolution, pages[number - 1], number)
     return new
+
+
+def any_table(rng, commands):
+    """A width table for most characters of a file's fonts."""
+    return table_for(rng, dvi.fonts_of(commands), unit_of(units_of(commands), 300), 0.9)
 
 
 def ask_names(group, rng, old_file, file, commands):
@@ -339,10 +342,12 @@ def many_pages(group, rng):
 def greatest_sizes(group, rng):
     """As long as a file and an area may be and one byte more: by a special, by *nop*s on the page or outside of it, by many commands, by the tail."""
     short = volume(PLAIN_UNITS, [*page([MARK]), *page([])])
-    for length in (LONGEST_FILE - 4, LONGEST_FILE - 3, LONGEST_FILE - 1, LONGEST_FILE, LONGEST_FILE + 1):
+    for length in (LONGEST_FILE - 3, LONGEST_FILE - 1, LONGEST_FILE, LONGEST_FILE + 1):
         more = length - len(short)
-        for body, tail in (([*page([special(bytes(more - 5), 4), MARK]), *page([])], 4), ([*page([MARK]), *page([])], 4 + more), ([*page([MARK]), *[NOTHING] * more, *page([])], 4),
-                           ([*page([MARK]), *page([NOTHING] * more)], 4)):
+        bodies = [([*page([special(bytes(more - 5), 4), MARK]), *page([])], 4), ([*page([MARK]), *page([])], 4 + more)]
+        if length == LONGEST_FILE:  # these take the rules' model its time
+            bodies += [([*page([MARK]), *[NOTHING] * more, *page([])], 4), ([*page([MARK]), *page([NOTHING] * more)], 4)]
+        for body, tail in bodies:
             data = volume(PLAIN_UNITS, body, tail=tail)
             for some in ([1], [2], [1, 2], []):
                 ask(group, data, some)
@@ -416,20 +421,19 @@ def real_groups(gather, numbers, paths, long, wanted, typed=False, lawful=True):
             if len(data) > LONGEST_FILE:
                 ask(group, data, [1])
                 continue
-            count = dvi.page_count(dvi.commands_of(data)[0])
-            everything = list(range(1, count + 1))
+            commands = dvi.commands_of(data)[0]
+            count = dvi.page_count(commands)
+            everything, table = list(range(1, count + 1)), any_table(rng, commands)
             if not lawful:
                 for some in (everything[:MOST_PAGES], everything[1::2][:MOST_PAGES], [count]):
                     ask_any(group, data, some)
                 continue
             alone = everything if long or count <= FEW_PAGES else rng.sample(everything, FEW_PAGES)
             for some in (everything, everything[::2], [1], [count]):
-                ask_both(group, rng, data, some, 2)
+                ask_both(group, rng, data, some, 2, table)
             for number in alone:
                 if number not in (1, count):
-                    new = ask_both(group, rng, data, [number], 0)
-                    table = group.keep(table_for(rng, dvi.fonts_of(dvi.commands_of(new)[0]), unit_of(TEX_UNITS, 300)))
-                    ask_page(group, group.keep(data), group.keep(new), table, 300, number, 1)
+                    ask_both(group, rng, data, [number], 1, table)
             for some in wrong_lists(count)[:4]:
                 ask(group, data, some)
             if typed:

@@ -16,28 +16,34 @@ BYTES_A_ROW = 32
 DEFINITIONS = range(dvi.FNT_DEF1, dvi.PRE)
 
 
-@functools.lru_cache(4)
-def listed(file):
-    """The commands up to *post_post*, each with the number of the page that it stands on: 0 outside of pages, -1 from *post* on."""
-    page, commands, pages = 0, [], 0
-    for command in dvi.commands_of(file)[0]:
-        if command[0] == dvi.BOP:
-            pages += 1
-            page = pages
-        elif command[0] == dvi.POST:
-            page = -1
-        commands.append((command, page))
-        if command[0] == dvi.EOP:
-            page = 0
-    return commands, pages
+class Listed:
+    """The commands of an accepted file up to *post_post*: those of each page, *bop* first; those outside of pages; those from *post* on; and the
+    definitions before *post*, wherever they stand."""
+
+    def __init__(self, file):
+        self.outside, self.pages, self.last, self.definitions = [], [], [], []
+        here = self.outside
+        for command in dvi.commands_of(file)[0]:
+            if command[0] == dvi.BOP:
+                self.pages.append([])
+                here = self.pages[-1]
+            elif command[0] == dvi.POST:
+                here = self.last
+            here.append(command)
+            if command[0] == dvi.EOP:
+                here = self.outside
+            elif command[0] in DEFINITIONS and here is not self.last:
+                self.definitions.append(command)
+
+
+listed = functools.lru_cache(4)(Listed)
 
 
 class Cutting:
     """One question on its way."""
 
     def __init__(self, file, pages, area):
-        self.file, self.pages, self.area = file, pages, area
-        self.old, self.count = listed(file)
+        self.file, self.pages, self.area, self.old = file, pages, area, listed(file)
 
     def answer(self):
         """The answer's rows."""
@@ -45,23 +51,24 @@ class Cutting:
             self.judge()
         except Refused as refused:
             return [["refused", refused.args[0], "at", refused.args[1]]]
-        return rows_of(self.new_file())
+        return rows_of(self.new_file)
 
     def judge(self):
         self.judge_list()
         self.judge_area()
 
     def judge_list(self):
-        if not self.pages or not self.rising() or self.pages[0] < 1 or self.pages[-1] > self.count:
+        if not self.pages or not self.rising() or self.pages[0] < 1 or self.pages[-1] > len(self.old.pages):
             raise Refused(23, 0)
 
     def rising(self):
         return all(a < b for a, b in zip(self.pages, self.pages[1:]))
 
     def judge_area(self):
-        if len(self.new_file()) > self.area:
+        if len(self.new_file) > self.area:
             raise Refused(17, 0)
 
+    @functools.cached_property
     def new_file(self):
         data = b"".join(self.mended(self.commands()))
         return data + bytes([dvi.TAIL]) * self.fill(len(data))
@@ -72,24 +79,20 @@ class Cutting:
 
     def commands(self):
         """The new file's, its pointers and the numbers in *post* still to be mended."""
-        chosen = set(self.pages)
-        return [self.old[0][0], *self.definitions(), *self.outside(), *(c for c, page in self.old if page in chosen and self.stays(c)), *self.postamble()]
+        pages = [command for number in self.pages for command in self.page(self.old.pages[number - 1])]
+        return [self.old.outside[0], *self.definitions(), *pages, *self.postamble()]
 
     def definitions(self):
-        """All before *post*, wherever they stand."""
-        return [command for command, page in self.old if page >= 0 and command[0] in DEFINITIONS]
+        """All before *post*, in their order."""
+        return self.old.definitions
 
-    def outside(self):
-        """What stays of the commands between *pre*, pages and *post* that are no definitions: nothing."""
-        return []
-
-    def stays(self, command):
-        """Whether a command of a chosen page stays on it."""
-        return command[0] not in DEFINITIONS
+    def page(self, commands):
+        """What stays of a chosen page."""
+        return [command for command in commands if command[0] not in DEFINITIONS]
 
     def postamble(self):
         """*post* with no depth stated, definitions, *post_post*."""
-        post, *rest = [command for command, page in self.old if page < 0]
+        post, *rest = self.old.last
         return [post[:25] + bytes(4), *(command for command in rest if command[0] != dvi.NOP)]
 
     def mended(self, commands):
@@ -107,7 +110,7 @@ def answered(file, pages, area=LONGEST_AREA, rules=Cutting):
 
 
 def new_file(file, pages):
-    return Cutting(file, list(pages), LONGEST_AREA).new_file()
+    return Cutting(file, list(pages), LONGEST_AREA).new_file
 
 
 def read_line(line):

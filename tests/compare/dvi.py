@@ -229,7 +229,10 @@ def post_place(commands):
 
 def summary(file):
     """What the check answers about a file that keeps the rules: pages, fonts, the depth reached, the place of *post*."""
-    commands, _ = commands_of(file)
+    return summary_of(commands_of(file)[0])
+
+
+def summary_of(commands):
     return [page_count(commands), len(fonts_of(commands)), greatest_depth(commands), post_place(commands)]
 
 

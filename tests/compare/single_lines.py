@@ -1,5 +1,6 @@
 """Lines that need no DVI file worth the name, numbers at their edges, and lines that are `no input`."""
 
+from cutting import LONGEST_LINE
 from dvi import FURTHEST, GREATEST_SCALE, PLAIN_UNITS, TEX_UNITS, Font, page, right, select, volume
 from made_up import SCALES_AROUND_HALVINGS, edge_units, naming
 from placing import scaled
@@ -103,6 +104,11 @@ def no_input(group, rng):
         misspelt(group, line, file)
     group.ask(b"", b" ", b"\t", b"hello", b"check", b"checked %s" % file, b"CHECK %s" % file, b"refused 2 at 0", b"end 0 0 0", b"no input", b"\xff\xfe",
               b"\0", b"check \0", b"check %s\0" % file, b"check %s\0.dvi" % file, b"#", b"x" * 3000, b"check " + b"y" * 3000, b"1 " * 1500)
+    start = b"round 254 1 1000 500 "
+    for length in (4096, 4097, LONGEST_LINE - 1, LONGEST_LINE, LONGEST_LINE + 1, LONGEST_LINE + 2, 2 * LONGEST_LINE, 100_000):
+        line = start + b"3".rjust(length - len(start), b"0")
+        group.ask(line, b"x" * length, b"check %s" % file)  # a line too long leaves the next one alone
+        group.expect(line, [["rounded", 2]] if length <= LONGEST_LINE else [["no", "input"]])
 
 
 def groups(gather, rng, long):
