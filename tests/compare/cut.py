@@ -437,7 +437,7 @@ def real_groups(gather, numbers, paths, long, wanted, typed=False, lawful=True):
             for some in wrong_lists(count)[:4]:
                 ask(group, data, some)
             if typed:
-                heard += hear(group, data, [everything[::2], *([everything, everything[1:], *([number] for number in alone[:12])] if long else [])], new_file)
+                heard += hear(group, data, [everything[::2], *([everything, everything[count // 2 :], *([number] for number in alone[:12])] if long else [])], new_file)
     return heard
 
 
