@@ -29,7 +29,7 @@ class Typed:
             path = pathlib.Path(folder) / "typed.dvi"  # DVItype wants this ending
             path.write_bytes(data)
             text = said(path, RESOLUTION)
-        self.head, self.definitions, self.pages = [], [], []
+        self.head, self.definitions, self.pages, self.late = [], [], [], 0
         repeated = dvi.summary(data)[1]  # DVItype begins with the postamble's definitions
         for line in text.split("\n"):
             if "beginning of page" in line:
@@ -38,6 +38,7 @@ class Typed:
             if found and repeated:
                 repeated, found = repeated - 1, None
             if found:
+                self.late += bool(self.pages)  # a definition on a page or behind one
                 self.definitions.append(SIZE.sub("", found[1]).replace(NO_TFM, ""))
             elif (line := BEYOND.sub("", line)).strip() and not line.startswith(("[", NO_TFM)):  # a line with a bracket repeats the text set, up to the next definition
                 command = COMMAND.match(line)
@@ -69,6 +70,8 @@ def against(old, new, pages, summary):
     given = [new.head, new.definitions, *new.pages]
     if len(given) != len(wanted):
         return f"{len(new.pages)} pages"
+    if new.late:
+        return f"{new.late} definitions behind the first bop"
     for (what, lines), others in zip(wanted, given):
         if lines != others:
             at = next((i for i, (a, b) in enumerate(zip(lines, others)) if a != b), min(len(lines), len(others)))
