@@ -9,7 +9,7 @@ import damaged
 import dvi
 from cutting import DEFINITIONS, LONGEST_AREA, LONGEST_FILE, LONGEST_LINE, MOST_PAGES, answered, answered_line, new_file, rows_of
 from dvi import (
-    FURTHEST, MARK, NOTHING, PLAIN_UNITS, POPPED, PUSHED, TAIL, TEX_UNITS, Font, big, character, page, right, select, special, volume,
+    FURTHEST, MARK, NOTHING, PLAIN_UNITS, POPPED, PUSHED, TAIL, TEX_UNITS, Font, page, right, select, special, volume,
 )
 from dvitype import unlike
 from made_up import RESOLUTIONS, naming, place, random_page, unit_of
@@ -157,23 +157,23 @@ def any_volume(rng, count, length):
     fonts = [any_font(rng, number) for number in rng.sample(range(256), rng.choice([0, 1, 3, 8]))]
     waiting, known, body = list(fonts), [], []
 
-    def nops():
+    def some_nops():
         return [NOTHING] * rng.choice([0, 0, 1, 3])
 
     for _ in range(count):
         while waiting and rng.random() < 0.3:
             known.append(waiting.pop())
-            body += [*nops(), any_definition(rng, known[-1])]
-        commands = [c for command in random_page(rng, known, rng.randrange(length)) for c in (*nops(), command)] if length else []
+            body += [*some_nops(), any_definition(rng, known[-1])]
+        commands = [c for command in random_page(rng, known, rng.randrange(length)) for c in (*some_nops(), command)] if length else []
         while waiting and rng.random() < 0.4:
             known.append(waiting.pop())
             at = rng.randrange(len(commands) + 1)
             commands[at:at] = [any_definition(rng, known[-1]), *rng.choice([[], [dvi.any_select(rng, known[-1].number), b"A", MARK]])]
         if rng.random() < 0.5:
             commands.insert(rng.randrange(len(commands) + 1), special(rng.choice(LOOKALIKES), rng.choice([1, 2, 3, 4])))
-        body += [*nops(), *page(commands, [rng.choice([0, -1, FURTHEST, rng.randrange(-WIDE // 2, WIDE // 2)]) for _ in range(10)])]
-    body += [c for font in waiting for c in (*nops(), any_definition(rng, font))] + nops()
-    after = [c for font in rng.sample(fonts, len(fonts)) for c in (*nops(), any_definition(rng, font))] + nops()
+        body += [*some_nops(), *page(commands, [rng.choice([0, -1, FURTHEST, rng.randrange(-WIDE // 2, WIDE // 2)]) for _ in range(10)])]
+    body += [c for font in waiting for c in (*some_nops(), any_definition(rng, font))] + some_nops()
+    after = [c for font in rng.sample(fonts, len(fonts)) for c in (*some_nops(), any_definition(rng, font))] + some_nops()
     data = volume(rng.choice([TEX_UNITS, PLAIN_UNITS]), body, after=after, comment=any_bytes(rng, 255), tail=rng.choice([4, 5, 6, 7, 8, 40]),
                   stated=rng.choice([0, 0, 2, 99, 65_535]))
     return with_l_and_u(data, rng.randbytes(8))
@@ -229,7 +229,7 @@ def depths(group, rng):
             data = volume(PLAIN_UNITS, [c for one in pages for c in one], stated=stated)
             for some in some_lists(rng, len(pages)):
                 ask(group, data, some)
-        ask_both(group, rng, data, some_lists(rng, len(pages))[-2:][0], 1)
+        ask_both(group, rng, data, rng.choice(some_lists(rng, len(pages))), 1)
 
 
 def fields(group, rng):
@@ -290,7 +290,8 @@ def areas(group, rng):
         data = any_volume(rng, count, length)
         for some in some_lists(rng, count):
             new = len(new_file(data, some))
-            for area in (0, 1, 4, 15, new - 33, new - 32, new - 4, new - 1, new, new + 1, new + 4, len(data) - 1, len(data), LONGEST_AREA - 1, LONGEST_AREA, LONGEST_AREA + 1):
+            for area in (0, 1, 4, 15, new - 33, new - 32, new - 4, new - 1, new, new + 1, new + 4, len(data) - 1, len(data), LONGEST_AREA - 1, LONGEST_AREA,
+                         LONGEST_AREA + 1):
                 ask(group, data, some, max(area, 0))
 
 
@@ -304,9 +305,10 @@ def broken_files():
         return b"".join(dvi.mended([*commands[:at], *others, *commands[at + 1 :]])) + tail
 
     return whole, [
-        (2, b""), (2, whole[:14]), (2, whole[:-5]), (2, whole[: len(whole) // 2]), (3, changed(4, b"\xff")), (4, whole[1:]), (4, dvi.pre(PLAIN_UNITS, identification=3) + whole[15:]),
-        (4, changed(0, dvi.pre((0, 1, 1000)))), (5, changed(7, MARK)), (5, changed(2, dvi.bop(), NOTHING, dvi.bop())), (6, changed(5, POPPED)), (6, changed(6, NOTHING)),
-        (7, changed(1, Font(7, 8, 0).definition())), (7, changed(11, Font(7, 8, 10).definition())), (7, changed(11, NOTHING)), (8, changed(3, NOTHING)), (8, changed(3, select(8))),
+        (2, b""), (2, whole[:14]), (2, whole[:-5]), (2, whole[: len(whole) // 2]), (3, changed(4, b"\xff")), (4, whole[1:]),
+        (4, dvi.pre(PLAIN_UNITS, identification=3) + whole[15:]), (4, changed(0, dvi.pre((0, 1, 1000)))), (5, changed(7, MARK)),
+        (5, changed(2, dvi.bop(), NOTHING, dvi.bop())), (6, changed(5, POPPED)), (6, changed(6, NOTHING)), (7, changed(1, Font(7, 8, 0).definition())),
+        (7, changed(11, Font(7, 8, 10).definition())), (7, changed(11, NOTHING)), (8, changed(3, NOTHING)), (8, changed(3, select(8))),
         (9, whole[:-9] + bytes(4) + whole[-5:]), (9, whole.replace(b"\xff" * 4, bytes(4), 1)), (10, dvi.restated(whole, 0)), (10, whole[:-5] + b"\3" + whole[-4:]),
         (11, whole[:-1]), (11, whole + b"\0"), (11, whole[:-1] + b"\xff"),
     ]
@@ -331,7 +333,8 @@ def many_pages(group, rng):
     """As many pages as the desk's file holds."""
     count = 5000
     data = volume(PLAIN_UNITS, [c for number in range(count) for c in page([NOTHING, right(number)][: rng.randrange(3)], (number, *[-number] * 9))])
-    some = [[number] for number in (1, 2, 255, 256, 257, 4096, count - 1, count)] + [[1, count], [count, 1], [count + 1], [0], range(1, 1001), range(count - 999, count + 1)]
+    some = [[number] for number in (1, 2, 255, 256, 257, 4096, count - 1, count)]
+    some += [[1, count], [count, 1], [count + 1], [0], range(1, 1001), range(count - 999, count + 1)]
     some += [sorted(rng.sample(range(1, count + 1), size)) for size in (10, 999, 1000)]
     for wanted in some:
         ask(group, data, list(wanted))
@@ -357,8 +360,8 @@ def greatest_sizes(group, rng):
 def out_of_range(group, rng):
     """Pages that are refused by 16, whose place is another in the new file, and by 12, 13 and 17."""
     font = Font(9, 1, 1000)
-    data = volume(PLAIN_UNITS, [NOTHING, *page([MARK]), *page([font.definition(), right(FURTHEST), MARK, right(1), MARK]), NOTHING, *page([NOTHING, dvi.down(-FURTHEST), dvi.down(-1)])],
-                  [font])
+    data = volume(PLAIN_UNITS, [NOTHING, *page([MARK]), *page([font.definition(), right(FURTHEST), MARK, right(1), MARK]), NOTHING,
+                                *page([NOTHING, dvi.down(-FURTHEST), dvi.down(-1)])], [font])
     for some in some_lists(rng, 3):
         new = ask_both(group, rng, data, some, 0)
         old_file, file, empty = group.keep(data), group.keep(new), group.keep(b"")
