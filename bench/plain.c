@@ -1,6 +1,7 @@
 /* The reader's jobs in plain C, from documents 01 and 02, written for speed: one scan of the file that notes the wanted page;
    a page walked twice, first with h and v alone (16 and 17 must be known before a byte is written), then with the pixels; the
-   metrics of a font's characters kept once they are found. A PK font read once, with a note of where each code's packet is. */
+   metrics of a font's characters kept once they are found. A PK font read once, with a note of where each code's packet is. Chosen
+   pages cut out by two walks over a file that the scan found lawful, so without a test for its end: one counts, one copies. */
 #include "plain.h"
 #include <string.h>
 
@@ -880,6 +881,219 @@ static struct refusal make_table(const uint8_t *pk, size_t pk_length, uint32_t s
     return nothing_wrong;
 }
 
+/* ---- files of chosen pages ---- */
+
+#define BOP_LENGTH 45u
+#define POST_LENGTH 29u
+#define POST_POST_LENGTH 6u
+
+/* The length of the commands that on a page change nothing of a file of chosen pages but its length, else 0: on a page whose depth is
+   counted, and on one whose pushes and pops need not be told apart. */
+static const uint8_t kept_but_depth[256] = {
+    [0 ... 127] = 1, [128] = FOUR_LENGTHS, [132] = 9, [133] = FOUR_LENGTHS, [137] = 9, [138] = 1,
+    [143] = FOUR_LENGTHS, [147] = 1, FOUR_LENGTHS, [152] = 1, FOUR_LENGTHS, [157] = FOUR_LENGTHS,
+    [161] = 1, FOUR_LENGTHS, [166] = 1, FOUR_LENGTHS, [171 ... 234] = 1, [235] = FOUR_LENGTHS,
+};
+static const uint8_t kept[256] = {
+    [0 ... 127] = 1, [128] = FOUR_LENGTHS, [132] = 9, [133] = FOUR_LENGTHS, [137] = 9, [138] = 1, [141 ... 142] = 1,
+    [143] = FOUR_LENGTHS, [147] = 1, FOUR_LENGTHS, [152] = 1, FOUR_LENGTHS, [157] = FOUR_LENGTHS,
+    [161] = 1, FOUR_LENGTHS, [166] = 1, FOUR_LENGTHS, [171 ... 234] = 1, [235] = FOUR_LENGTHS,
+};
+
+/* The list of chosen pages on its way: the next one, or 0 if none is left, and how many pages have begun. */
+struct choice {
+    const uint32_t *list;
+    size_t left;
+    uint32_t next, begun;
+};
+
+static struct choice first_choice(const uint32_t *list, size_t count)
+{
+    struct choice choice = { list, count, list[0], 0 };
+    return choice;
+}
+
+/* Whether the page that begins now is chosen. */
+static inline int is_chosen(struct choice *choice)
+{
+    if (++choice->begun != choice->next)
+        return 0;
+    choice->next = --choice->left > 0 ? *++choice->list : 0;
+    return 1;
+}
+
+struct cut {
+    size_t opening;   /* bytes up to the first page */
+    size_t rest;      /* and behind, without the 223s */
+    uint32_t deepest; /* of the chosen pages */
+};
+
+static inline size_t definition_length(const uint8_t *at)
+{
+    const uint8_t *lengths = at + command_length[*at] - 2;
+    return command_length[*at] + (size_t)lengths[0] + lengths[1];
+}
+
+/* The next eop or definition of a page; with a depth, what pushes and pops make of it, too. */
+static inline __attribute__((always_inline)) const uint8_t *next_break(const uint8_t *at, uint32_t *depth, uint32_t *deepest)
+{
+    const uint8_t *lengths = depth != NULL ? kept_but_depth : kept;
+    for (;;) {
+        /* runs of characters, by a branch that is foreseen well; the rest by the table */
+        while (*at < 128)
+            at++;
+        const uint8_t opcode = *at;
+        if (lengths[opcode] != 0)
+            at += lengths[opcode];
+        else if (depth != NULL && opcode == 141) {
+            if (++*depth > *deepest)
+                *deepest = *depth;
+            at++;
+        } else if (depth != NULL && opcode == 142) {
+            --*depth;
+            at++;
+        } else if (opcode >= 239 && opcode <= 242)
+            at += opcode - 237 + (size_t)unsigned_in(at + 1, opcode - 238u);
+        else
+            return at;
+    }
+}
+
+/* The first walk: how long the parts of the new file are, and how deep its pages go. */
+static struct cut count_cut(const uint8_t *file, const uint32_t *list, size_t count)
+{
+    struct choice choice = first_choice(list, count);
+    struct cut cut = { 15u + file[14], POST_LENGTH + POST_POST_LENGTH, 0 };
+    uint32_t deepest = 0;
+    const uint8_t *at = file + cut.opening;
+    while (*at != 248)
+        if (*at == 138)
+            at++;
+        else if (*at != 139) {
+            const size_t size = definition_length(at);
+            cut.opening += size;
+            at += size;
+        } else {
+            const uint8_t *bop = at;
+            const int chosen = is_chosen(&choice);
+            size_t definitions = 0;
+            uint32_t depth = 0;
+            at += BOP_LENGTH;
+            for (;;) {
+                at = chosen ? next_break(at, &depth, &deepest) : next_break(at, NULL, NULL);
+                if (*at == 140)
+                    break;
+                const size_t size = definition_length(at);
+                definitions += size;
+                at += size;
+            }
+            at++;
+            cut.opening += definitions;
+            if (chosen)
+                cut.rest += (size_t)(at - bop) - definitions;
+        }
+    for (at += POST_LENGTH; *at != 249;)
+        if (*at == 138)
+            at++;
+        else {
+            const size_t size = definition_length(at);
+            cut.rest += size;
+            at += size;
+        }
+    cut.deepest = deepest;
+    return cut;
+}
+
+static inline uint8_t *put_all(uint8_t *to, const uint8_t *from, size_t length)
+{
+    memcpy(to, from, length);
+    return to + length;
+}
+
+/* The second walk, into an area that is long enough; the new file's length but for the 223s is known. */
+static void write_cut(const uint8_t *file, const uint32_t *list, size_t count, const struct cut *cut, uint8_t *area)
+{
+    struct choice choice = first_choice(list, count);
+    const uint8_t *at = file + 15u + file[14];
+    uint8_t *opening = put_all(area, file, 15u + file[14]), *to = area + cut->opening;
+    uint32_t last_bop = 0xffffffff;
+    while (*at != 248)
+        if (*at == 138)
+            at++;
+        else if (*at != 139) {
+            const size_t size = definition_length(at);
+            opening = put_all(opening, at, size);
+            at += size;
+        } else {
+            const uint8_t *from = at; /* what is still to be copied */
+            uint8_t *bop = to;
+            const int chosen = is_chosen(&choice);
+            at += BOP_LENGTH;
+            while (*(at = next_break(at, NULL, NULL)) != 140) {
+                const size_t size = definition_length(at);
+                opening = put_all(opening, at, size);
+                if (chosen)
+                    to = put_all(to, from, (size_t)(at - from));
+                at += size;
+                from = at;
+            }
+            at++;
+            if (chosen) {
+                to = put_all(to, from, (size_t)(at - from));
+                put4(bop + 41, last_bop);
+                last_bop = (uint32_t)(bop - area);
+            }
+        }
+    const uint32_t post = (uint32_t)(to - area);
+    put4(to + 1, last_bop);
+    to[0] = 248;
+    memcpy(to + 5, at + 5, 20);
+    put4(to + 25, cut->deepest << 16 | (uint32_t)count);
+    to += POST_LENGTH;
+    for (at += POST_LENGTH; *at != 249;)
+        if (*at == 138)
+            at++;
+        else {
+            const size_t size = definition_length(at);
+            to = put_all(to, at, size);
+            at += size;
+        }
+    to[0] = 249;
+    put4(to + 1, post);
+    to[5] = at[5];
+}
+
+/* 23: each number above the one before, the last among the pages. */
+static int right_list(const uint32_t *list, size_t count, uint32_t pages)
+{
+    uint32_t last = 0;
+    for (size_t i = 0; i < count; i++) {
+        if (list[i] <= last || list[i] > pages)
+            return 0;
+        last = list[i];
+    }
+    return count > 0;
+}
+
+static struct refusal cut_out(const uint8_t *file, size_t file_length, const uint32_t *list, size_t count, uint8_t *area,
+                              size_t area_length, size_t *bytes)
+{
+    struct volume volume;
+    struct refusal refusal = scan(file, file_length, 0, &volume);
+    if (refusal.number != 0)
+        return refusal;
+    if (!right_list(list, count, volume.pages))
+        return refuse(23, 0);
+    const struct cut cut = count_cut(file, list, count);
+    const size_t length = cut.opening + cut.rest, fillers = 4 + (-length & 3);
+    if (area_length < length + fillers)
+        return refuse(17, 0);
+    write_cut(file, list, count, &cut, area);
+    memset(area + length, 223, fillers);
+    *bytes = length + fillers;
+    return nothing_wrong;
+}
+
 /* ---- the entries ---- */
 
 static uint32_t refused(struct refusal refusal, int64_t *answer)
@@ -973,5 +1187,18 @@ uint32_t plain_width_table(const uint8_t *pk, size_t pk_length, uint32_t scale, 
     if (refusal.number != 0)
         return refused(refusal, answer);
     answer[0] = (int64_t)records;
+    return 0;
+}
+
+uint32_t plain_cut_pages(const uint8_t *file, size_t file_length, const uint32_t *pages, size_t pages_length, uint8_t *area,
+                         size_t area_length, int64_t *answer, size_t answer_length)
+{
+    if (answer_length < 1)
+        return TOO_SHORT_ANSWER;
+    size_t bytes;
+    struct refusal refusal = cut_out(file, file_length, pages, pages_length, area, area_length, &bytes);
+    if (refusal.number != 0)
+        return refused(refusal, answer);
+    answer[0] = (int64_t)bytes;
     return 0;
 }
