@@ -4,10 +4,10 @@ import ctypes
 from pathlib import Path
 
 PROVED, PLAIN = 0, 1
-ENTRIES = ("check", "place", "scale", "table", "look", "widths")
-ANSWER_LENGTHS = {"check": 4, "place": 3, "scale": 1, "table": 1, "look": 6, "widths": 1}
-NUMBERS = {"check": 0, "place": 2, "scale": 5, "table": 0, "look": 3, "widths": 1}  # behind the files
-RECORDS = {"place": 20, "widths": 16}  # bytes, of the entries that write into an area
+ENTRIES = ("check", "place", "scale", "table", "look", "widths", "cut")
+ANSWER_LENGTHS = {"check": 4, "place": 3, "scale": 1, "table": 1, "look": 6, "widths": 1, "cut": 1}
+NUMBERS = {"check": 0, "place": 2, "scale": 5, "table": 0, "look": 3, "widths": 1}  # behind the files; cut has a list
+RECORDS = {"place": 20, "widths": 16, "cut": 1}  # bytes, of the entries that write into an area; a file is counted in bytes
 CODES = 256
 
 
@@ -22,6 +22,8 @@ class Question(ctypes.Structure):
         ("table_length", ctypes.c_size_t),
         ("area", ctypes.c_void_p),
         ("area_length", ctypes.c_size_t),
+        ("pages", ctypes.c_void_p),
+        ("pages_length", ctypes.c_size_t),
         ("resolution", ctypes.c_uint32),
         ("page", ctypes.c_uint32),
         ("checksum", ctypes.c_uint32),
@@ -39,6 +41,7 @@ class Job:
         self.file, self.table = file, table
         self.resolution = self.page = self.checksum = self.scale = self.code = 0
         self.word = bytes(4)
+        self.pages = listed(())
         if entry == "place":
             self.resolution, self.page = numbers
         elif entry == "scale":
@@ -48,26 +51,46 @@ class Job:
             self.checksum, self.scale, self.code = numbers
         elif entry == "widths":
             (self.scale,) = numbers
+        elif entry == "cut":
+            self.pages = listed(numbers)
         self.area_length = self.enough() if area_length is None else area_length
 
     def enough(self):
-        """An area that any page of the file fits into: a record takes a command, and a command a byte; or any font's records, one a code."""
-        return RECORDS.get(self.entry, 0) * (len(self.file) if self.entry == "place" else CODES)
+        """An area that any page of the file fits into: a record takes a command, and a command a byte; or any font's records, one a code; or a
+        file of any pages, which has three 223s more than the old one at most."""
+        most = {"place": len(self.file), "widths": CODES, "cut": len(self.file) + 3}
+        return RECORDS.get(self.entry, 0) * most.get(self.entry, 0)
+
+
+def listed(numbers):
+    return (ctypes.c_uint32 * len(numbers))(*numbers)
 
 
 def job_of(words, files, group, name, size=0):
-    """ENTRY, its files, its numbers; for place and widths the length of the area may follow."""
+    """ENTRY, its files, its numbers; for place and widths the length of the area may follow. Of cut the length of the area comes first, then the
+    list of pages."""
     entry, *words = words
-    file = files(words.pop(0)) if entry in ("check", "place", "widths") else b""
+    file = files(words.pop(0)) if entry in ("check", "place", "widths", "cut") else b""
     table = files(words.pop(0)) if entry in ("place", "table", "look") else b""
     numbers = [int(word) for word in words]
+    if entry == "cut":
+        return Job(entry, group, name, size, file, numbers=numbers[1:], area_length=numbers[0])
     area_length = numbers.pop() if len(numbers) > NUMBERS[entry] else None
     return Job(entry, group, name, size, file, table, numbers, area_length)
 
 
+def in_full(word):
+    """The words that a word of the manifest stands for: FIRST..LAST/STEP for the numbers of a range, any other for itself."""
+    first, dots, rest = word.partition("..")
+    if not dots:
+        return [word]
+    last, _, step = rest.partition("/")
+    return range(int(first), int(last) + 1, int(step or 1))
+
+
 def works_of(manifest):
     """A line a work: ENTRY GROUP NAME SIZE, then the entry's files, in the manifest's folder, and numbers. A work is one job, or several
-    alike: a file or a number may be a list with commas between, one for each job; what is no list is the same for all."""
+    alike: a file, a number or a range may be a list with commas between, one for each job; what is no list is the same for all."""
     folder, known = Path(manifest).parent, {}
 
     def files(name):
@@ -80,7 +103,8 @@ def works_of(manifest):
         lists = [word.split(",") for word in words]
         alike = max(map(len, lists))
         full = [given * alike if len(given) == 1 else given for given in lists]
-        yield [job_of([entry, *given], files, group, name, int(size)) for given in zip(*full, strict=True)]
+        given = ([said for word in words for said in in_full(word)] for words in zip(*full, strict=True))
+        yield [job_of([entry, *words], files, group, name, int(size)) for words in given]
 
 
 class Readers:
@@ -95,7 +119,7 @@ class Readers:
     def question(job, area):
         return Question(
             ENTRIES.index(job.entry), job.file, len(job.file), job.table, len(job.table), area, job.area_length,
-            job.resolution, job.page, job.checksum, job.scale, job.code, tuple(job.word),
+            ctypes.addressof(job.pages), len(job.pages), job.resolution, job.page, job.checksum, job.scale, job.code, tuple(job.word),
         )  # fmt: skip
 
     def ask(self, reader, question, answer, answer_length):

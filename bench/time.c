@@ -4,7 +4,7 @@
 #include "hurlyburn.h"
 #include "plain.h"
 
-enum entry { CHECK, PLACE, SCALE, TABLE, LOOK, WIDTHS };
+enum entry { CHECK, PLACE, SCALE, TABLE, LOOK, WIDTHS, CUT };
 enum reader { PROVED, PLAIN };
 
 /* The fields of Question in bench/readers.py. */
@@ -16,6 +16,8 @@ struct question {
     size_t table_length;
     uint8_t *area;
     size_t area_length;
+    const uint32_t *pages;
+    size_t pages_length;
     uint32_t resolution, page, checksum, scale;
     int32_t code;
     uint8_t word[4];
@@ -46,9 +48,12 @@ static inline uint32_t asked(enum reader reader, const struct question *q, int64
     case LOOK:
         return (reader == PROVED ? hurlyburn_look_up : plain_look_up)(q->table, q->table_length, q->checksum, q->scale, q->code,
                                                                       answer, answer_length);
-    default:
+    case WIDTHS:
         return (reader == PROVED ? hurlyburn_width_table : plain_width_table)(q->file, q->file_length, q->scale, q->area,
                                                                               q->area_length, answer, answer_length);
+    default:
+        return (reader == PROVED ? hurlyburn_cut_pages : plain_cut_pages)(q->file, q->file_length, q->pages, q->pages_length, q->area,
+                                                                          q->area_length, answer, answer_length);
     }
 }
 
