@@ -1,10 +1,10 @@
 #!/usr/bin/env python3
-"""The bench's work: DVI files, width tables, PK fonts, widths to scale, and the manifest that names each job. Standard library only; the same bytes
-each time.
+"""The bench's work: DVI files, width tables, PK fonts, widths to scale, pages to cut out, and the manifest that names each job. Standard library only;
+the same bytes each time.
 
     make.py PUBLISHED FONTS OUT     the folders of published files and of PK fonts; where the work goes
 
-A line of the manifest: ENTRY GROUP NAME SIZE, then the entry's files and numbers. Sizes rise in geometric steps inside a group, so that growth can be
+A line of the manifest: ENTRY GROUP NAME SIZE, then the entry's files and numbers (bench/readers.py). Sizes rise in geometric steps inside a group, so that growth can be
 fitted. A small work of many different commands is several files alike: asked over and over, a single small one would be learnt by heart by the
 processor, which foresees its branches then, and growth would look steeper than it is.
 """
@@ -30,6 +30,10 @@ SEED = 1
 QUICK = {"-1024K", "-1", "-64", "-4096", "-100", "-10000"}  # ends of names
 DIFFERENT_BYTES, DIFFERENT_RECORDS, DIFFERENT_PACKETS = 1 << 20, 10_000, 2048  # in all files of a work together, at least
 DIFFERENT_WIDTHS = 800  # in a work
+CUT = {  # of the files of which of the check's groups which pages are cut out
+    "joined": ("all", "odd", "one"), "pages": ("all", "odd", "one"), "characters": ("all",), "one-byte": ("all",), "push-pop": ("all",), "selections": ("all",),
+    "specials": ("all",), "on-pages": ("all", "odd"),
+}
 
 
 big = dvi.big
@@ -204,6 +208,19 @@ def definitions(fonts, area, name):
     return volume.finished()
 
 
+def definitions_on_pages(rng, fonts):
+    """So many pages, each of which defines a font in the midst of its text and uses it from there on."""
+    known = [dvi.Font(n, n + 1, 655_360, name=b"cmr%d" % n) for n in range(fonts)]
+    volume = Volume(fonts=known)
+    volume.parts[1:] = []
+    volume.length = len(volume.parts[0])
+    for font in known:
+        before, depth = text_page(rng, 200, known[:1], False) if font.number else (b"", 0)
+        after, deeper = text_page(rng, 200, [font], False)  # selects font 0 by its first byte
+        volume.add(before + font.definition() + dvi.select(font.number) + after[1:], max(depth, deeper))
+    return volume.finished()
+
+
 def many_pages(pages):
     volume = Volume()
     for _ in range(pages):
@@ -238,6 +255,18 @@ def table_for(rng, fonts, unit):
 def table_of(records):
     """So many records, 128 codes a font."""
     return b"".join(width_record(7 * (i // 128) + 1, 655_360, i % 128, i % 40, (i * 977) % (1 << 20)) for i in range(records))
+
+
+def pages_in(data):
+    """How many pages a lawful file has, as its post says."""
+    post_post = len(data.rstrip(bytes([dvi.TAIL]))) - 6
+    post = dvi.unsigned(data[post_post + 1 : post_post + 5])
+    return dvi.unsigned(data[post + 27 : post + 29])
+
+
+def chosen(which, pages):
+    """A list of pages, as the manifest has it."""
+    return {"all": f"1..{pages}", "odd": f"1..{pages}/2", "one": f"{(pages + 1) // 2}"}[which]
 
 
 def unit_of(units, resolution):
@@ -368,6 +397,13 @@ class Work:
         names, _ = self.keep_all(name, files)
         self.lines.append(f"place {group} {name} {size} {names} {self.keep(*table)} {RESOLUTION} 1")
 
+    def cut(self, group, name, names, which):
+        """Pages of files that are kept already, by an area that always suffices."""
+        files = [(self.folder / file).read_bytes() for file in names]
+        areas = ",".join(str(len(data) + 3) for data in files)
+        lists = ",".join(chosen(which, pages_in(data)) for data in files)
+        self.lines.append(f"cut {group} {name} {sum(map(len, files)) // len(files)} {','.join(names)} {areas} {lists}")
+
     def widths(self, group, name, files, size=None):
         names, length = self.keep_all(name, files, "pk")
         self.lines.append(f"widths {group} {name} {size or length} {names} {SCALE}")
@@ -404,6 +440,17 @@ def definition_jobs(work, counts):
 def page_count_jobs(work, counts):
     for pages in counts:
         work.check("pages", f"pages-{pages}", many_pages(pages))
+
+
+def cut_jobs(work, rng, counts):
+    """Pages cut out of the check's files, and of files that define their fonts on pages."""
+    for fonts in counts:
+        work.check("on-pages", f"on-pages-{fonts}", *(definitions_on_pages(rng, fonts) for _ in range(MOST_FONTS // fonts)))
+    checks = [line.split()[1:] for line in work.lines if line.startswith("check ")]
+    for group, ways in CUT.items():
+        for which in ways:
+            for name, _, names in (words for of, *words in checks if of == group):
+                work.cut(f"{group}-{which}", f"{group}-{which}{name.removeprefix(group)}", names.split(","), which)
 
 
 def place_jobs(work, rng, sizes):
@@ -456,6 +503,8 @@ def published_jobs(work, rng, published):
         table = work.keep(f"{name}.widths", table_for(rng, fonts.values(), unit_of(units, RESOLUTION)))
         for page in sorted({1, (len(pages) + 1) // 2, len(pages)}):
             work.lines.append(f"place published {name}-{page} {len(data)} {file} {table} {RESOLUTION} {page}")
+        for which in ("all", "odd", "one"):
+            work.cut("published", f"{name}-{which}", [file], which)
 
 
 def published_page_jobs(work, published, count):
@@ -464,6 +513,12 @@ def published_page_jobs(work, published, count):
         _, _, pages = published_pages(data)
         fullest = max(range(len(pages)), key=lambda index: sum(map(len, pages[index][1])))
         work.lines.append(f"place published-pages {name.removesuffix('.dvi')} {len(data)} {name} {name}.widths {RESOLUTION} {fullest + 1}")
+
+
+def published_cut_jobs(work, published, count):
+    """The odd pages of the largest published files, as `published_jobs` kept them."""
+    for name, _ in sorted(published.items(), key=lambda item: -len(item[1]))[:count]:
+        work.cut("published-odd", name.removesuffix(".dvi"), [name], "odd")
 
 
 def font_jobs(work, rng, sizes):
@@ -489,7 +544,7 @@ def real_font_jobs(work, fonts):
 def is_quick(line):
     """Whether a work is in the short form: one size or two of each group."""
     _, group, name, *_ = line.split()
-    return group in ("published-pages", "scale", "scale-halved", "pk-fonts") or name.removeprefix(group) in QUICK
+    return group in ("published-pages", "published-odd", "scale", "scale-halved", "pk-fonts") or name.removeprefix(group) in QUICK
 
 
 def main():
@@ -509,6 +564,8 @@ def main():
     table_jobs(work, list(steps(16, 65_536, 4)))
     font_jobs(work, rng, list(steps(1 << 16, LONGEST_FILE, 4)))
     real_font_jobs(work, {name: fonts[name] for name in REAL_FONTS})
+    cut_jobs(work, rng, list(steps(1, MOST_FONTS, 4)))
+    published_cut_jobs(work, published, 6)
     work.manifest("quick", filter(is_quick, work.lines))
     work.manifest("full", work.lines)
 
