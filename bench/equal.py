@@ -3,7 +3,7 @@
 
     equal.py READERS.so SEED QUESTIONS VARIANTS [MANIFEST...]
 
-Asked are widths at the edges of what a scale and a fix word may be, the questions of tests/compare with so many damaged files (none of these questions
+Asked are widths at the edges of what a scale and a fix word may be, lists of pages of every kind, the questions of tests/compare with so many damaged files (none of these questions
 if 0 is said), every job of the manifests, and so many damaged variants of their small ones.
 Compared are the returned code, the whole answer array (with numbers behind the answer) and the whole area with guard bytes before and after it.
 """
@@ -16,7 +16,7 @@ import random
 import sys
 
 import questions
-from readers import ANSWER_LENGTHS, PLAIN, PROVED, RECORDS, Job, Readers, works_of
+from readers import ANSWER_LENGTHS, PLAIN, PROVED, RECORDS, Job, Readers, listed, works_of
 
 GUARD = 64
 ANSWER = 8  # two numbers more than the longest answer
@@ -28,6 +28,10 @@ LAST_BYTES = (0, 1, 127, 128, 255)
 RANDOM_WORDS = 25  # for each scale and first byte
 RANDOM_WIDTHS = 5000
 LONGEST_FILE = 16_777_216
+MOST_PAGES = 65_535
+GREATEST = 4_294_967_295  # of 32 bits
+VERY_LONG = 1 << 20  # numbers of a list
+REFUSALS = range(1, 24)
 
 
 class Different(Exception):
@@ -59,6 +63,8 @@ def told(job, proved, plain):
     lines = [f"different: {job.entry}, {job.group}: {job.name}"]
     if job.entry == "scale":
         lines.append(f"  scale {job.scale}, fix word {list(job.word)}")
+    if job.entry == "cut":
+        lines.append(f"  a list of {len(job.pages)} pages: {', '.join(map(str, job.pages[:20]))}; an area of {job.area_length} bytes")
     for name, (code, answer, _) in (("proved", proved), ("plain C", plain)):
         lines.append(f"  {name}: code {code}, answer {answer}")
     at = next((at for at, (one, other) in enumerate(zip(proved[2], plain[2])) if one != other), None)
@@ -74,7 +80,7 @@ def with_area(job, area_length):
 
 
 def compare_with_areas(comparing, job):
-    """As it is; and where records are written, with an area just long enough, and a byte shorter."""
+    """As it is; and where records or a file are written, with an area just long enough, and a byte shorter."""
     code, answer, _ = comparing.compare(job)
     if job.entry in RECORDS and code == 0:
         enough = RECORDS[job.entry] * answer[0]
@@ -95,7 +101,9 @@ def compare_too_long(comparing):
     """Refusal 1, and a file as long as one may be."""
     for length in (LONGEST_FILE, LONGEST_FILE + 1):
         for start in (b"", b"\xff"):
-            comparing.compare(Job("check", "long", f"{length} bytes", file=start.ljust(length, b"\x8a")))
+            file = start.ljust(length, b"\x8a")
+            comparing.compare(Job("check", "long", f"{length} bytes", file=file))
+            comparing.compare(Job("cut", "long", f"{length} bytes", file=file, area_length=0))
 
 
 def compare_scaling(comparing, rng):
@@ -111,6 +119,28 @@ def compare_scaling(comparing, rng):
         job = Job("scale", "scaling", "a width", numbers=numbers)
         for answer_length in (ANSWER, ANSWER_LENGTHS["scale"], 0):
             comparing.compare(job, answer_length)
+
+
+def lists_for(rng, pages):
+    """Lists of pages of a file that has so many: right ones; then lists that are empty, not strictly rising, or name a page that is not there."""
+    everything = range(1, pages + 1)
+    right = [everything, everything[::2], everything[1::2], [1], [pages], sorted(rng.sample(everything, rng.randrange(1, pages + 1)))]
+    wrong = [
+        [], [0], [pages + 1], [pages + 65_536], [GREATEST], [1, 1], [pages, pages], [pages, 1], [1, 0], [1, GREATEST], [GREATEST, 1], range(pages + 1),
+        range(1, pages + 2), everything[::-1], [*everything, pages], [*everything, 1], [*everything, 0], [*everything, GREATEST], [1, *everything],
+        range(1, VERY_LONG), [1] * VERY_LONG, [0] * VERY_LONG,
+    ]  # fmt: skip
+    return [*right, *wrong]
+
+
+def compare_lists(comparing, rng):
+    """Lists of every kind, of one page and of as many as there may be, with areas long enough, just long enough, a byte too short, and empty."""
+    for pages in (1, 2, 3, 300, MOST_PAGES):
+        file = questions.file_of_pages(pages)
+        for numbers in lists_for(rng, pages):
+            job = Job("cut", "lists", f"of {pages} pages", file=file, numbers=numbers)
+            compare_with_areas(comparing, job)
+            comparing.compare(with_area(job, 0))
 
 
 def damaged(rng, data):
@@ -159,11 +189,26 @@ def variant(rng, job, number):
             changed.scale = rng.choice(SCALES)
         if rng.random() < 0.25:
             changed.area_length = rng.randrange(job.area_length + 1)
+    elif job.entry == "cut":
+        if rng.random() < 0.5:
+            changed.pages = listed(changed_list(rng, job.pages[:]))
+        if rng.random() < 0.25:
+            changed.area_length = rng.randrange(job.area_length + 1)
     return changed
+
+
+def changed_list(rng, numbers):
+    """Some of the numbers; now and then one of them another, twice or gone."""
+    numbers = sorted(rng.sample(numbers, rng.randrange(len(numbers) + 1)))
+    if numbers and rng.random() < 0.5:
+        at = rng.randrange(len(numbers))
+        numbers[at : at + 1] = rng.choice([[], [numbers[at]] * 2, [rng.randrange(numbers[-1] + 3)], [GREATEST]])
+    return numbers
 
 
 def compare_all(comparing, seed, asked, variants, manifests):
     compare_scaling(comparing, random.Random(f"{seed} scaling"))
+    compare_lists(comparing, random.Random(f"{seed} lists"))
     if asked:
         compare_too_long(comparing)
         questions.ask_all(comparing.compare, seed, asked)
@@ -189,7 +234,7 @@ def main():
     codes = comparing.codes
     refused = ", ".join(f"{code}: {codes[code]}" for code in sorted(codes) if code not in (0, 255))
     print(f"equal: {codes.total()} answers, {codes[0]} results; refusals by number {refused}")
-    lacking = [number for number in range(1, 23) if codes[number] == 0]
+    lacking = [number for number in REFUSALS if codes[number] == 0]
     if int(asked) and lacking:
         print(f"never occurred: {lacking}")
         sys.exit(1)

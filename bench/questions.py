@@ -1,4 +1,5 @@
-"""The questions of tests/compare as jobs: made-up files, each group for one notion, bars, fonts' scales, widths, PK fonts, published files, and damaged ones."""
+"""The questions of tests/compare as jobs: made-up files, each group for one notion, bars, fonts' scales, widths, PK fonts, files of chosen pages, published
+files, and damaged ones."""
 
 import contextlib
 import random
@@ -7,7 +8,9 @@ from pathlib import Path
 
 TESTS = Path(__file__).resolve().parent.parent / "tests"
 sys.path.insert(0, str(TESTS / "compare"))
+import cut  # noqa: E402
 import damaged  # noqa: E402
+import dvi  # noqa: E402
 import made_up  # noqa: E402
 import packed  # noqa: E402
 import pktype  # noqa: E402
@@ -35,6 +38,9 @@ class Group:
     def expect(self, line, rows, refusable=False):
         """tests/compare holds its programs to these; here the two readers are held to each other."""
 
+    def hold(self, *lines_and_judge):
+        """The same."""
+
     def jobs(self, name):
         """Those lines that an entry of the bench answers."""
         for line in self.lines:
@@ -57,8 +63,17 @@ class Gathered:
             self.take(job)
 
 
+def file_of_pages(count):
+    """A file of so many pages, every third of which has something on it."""
+    return dvi.volume(dvi.PLAIN_UNITS, [c for number in range(count) for c in dvi.page([dvi.right(number), dvi.MARK] if number % 3 == 0 else [])])
+
+
 def ask_all(take, seed, damaged_files):
     """Every question of the short form, with that many damaged files."""
+
+    def numbers(name):
+        return random.Random(f"{seed} {name}")
+
     gather = Gathered(take).gather
     paths = sorted((TESTS / "published").glob("*.dvi"))
     published.groups(gather, random.Random(f"{seed} published"), paths)
@@ -72,3 +87,6 @@ def ask_all(take, seed, damaged_files):
     packed.groups(gather, lambda name: random.Random(f"{seed} {name}"), False, lambda name: name != "packed: lines")
     fonts = [path.read_bytes() for path, _ in pktype.kept_fonts()]
     packed.damaged_groups(gather, random.Random(f"{seed} packed damaged"), fonts, damaged_files, False)
+    cut.groups(gather, numbers, False, lambda name: name != "cut: lines")
+    cut.real_groups(gather, numbers, paths, False, lambda name: True)
+    cut.damaged_groups(gather, numbers("cut damaged"), small, damaged_files, False)
