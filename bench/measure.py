@@ -5,12 +5,13 @@
 
 The readers take turns in short slices (as many calls as take some milliseconds, each job of a work once at least), until each has had SECONDS; the
 least slice counts: a short slice is the likelier to run undisturbed. A line a work: ENTRY GROUP NAME SIZE PROVED-NANOSECONDS PLAIN-NANOSECONDS, of one call.
+Where pages are cut out, the check of the same files takes its turns too, and two numbers more follow: its nanoseconds, proved and plain.
 """
 
 import ctypes
 import sys
 
-from readers import PLAIN, PROVED, Question, Readers, works_of
+from readers import PLAIN, PROVED, Job, Question, Readers, works_of
 
 
 SLICE = 0.004  # seconds
@@ -25,19 +26,23 @@ def calls_for(readers, reader, questions):
     return len(questions) * max(1, round(calls / len(questions) * SLICE / took))
 
 
-def least(readers, questions, seconds):
-    """The least time of a call, of each reader; who goes first changes from turn to turn."""
-    calls = {reader: calls_for(readers, reader, questions) for reader in (PROVED, PLAIN)}
-    best = {PROVED: float("inf"), PLAIN: float("inf")}
-    spent = {PROVED: 0.0, PLAIN: 0.0}
+def least(readers, sides, seconds):
+    """The least time of a call, of each side, which is a reader and its questions; who goes first changes from turn to turn."""
+    calls = [calls_for(readers, *side) for side in sides]
+    best, spent = [float("inf")] * len(sides), [0.0] * len(sides)
+    order = list(range(len(sides)))
     turn = 0
-    while turn < FEWEST_TURNS or min(spent.values()) < seconds:
-        for reader in (PROVED, PLAIN) if turn % 2 == 0 else (PLAIN, PROVED):
-            took = readers.seconds_of(reader, questions, calls[reader])
-            spent[reader] += took
-            best[reader] = min(best[reader], took / calls[reader])
+    while turn < FEWEST_TURNS or min(spent) < seconds:
+        for which in order if turn % 2 == 0 else order[::-1]:
+            took = readers.seconds_of(*sides[which], calls[which])
+            spent[which] += took
+            best[which] = min(best[which], took / calls[which])
         turn += 1
-    return best[PROVED], best[PLAIN]
+    return best
+
+
+def questions_of(readers, work, area):
+    return (Question * len(work))(*(readers.question(job, ctypes.addressof(area)) for job in work))
 
 
 def main():
@@ -45,10 +50,13 @@ def main():
     readers = Readers(shared_object)
     for work in works_of(manifest):
         area = (ctypes.c_uint8 * max(1, *(job.area_length for job in work), 1))()
-        questions = (Question * len(work))(*(readers.question(job, ctypes.addressof(area)) for job in work))
-        proved, plain = least(readers, questions, float(seconds))
         first = work[0]
-        print(first.entry, first.group, first.name, first.size, f"{proved * 1e9:.2f} {plain * 1e9:.2f}", flush=True)
+        asked = [work]
+        if first.entry == "cut":
+            asked.append([Job("check", job.group, job.name, file=job.file) for job in work])
+        sides = [(reader, questions) for questions in (questions_of(readers, some, area) for some in asked) for reader in (PROVED, PLAIN)]
+        times = least(readers, sides, float(seconds))
+        print(first.entry, first.group, first.name, first.size, " ".join(f"{time * 1e9:.2f}" for time in times), flush=True)
 
 
 if __name__ == "__main__":
