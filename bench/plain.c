@@ -887,15 +887,9 @@ static struct refusal make_table(const uint8_t *pk, size_t pk_length, uint32_t s
 #define POST_LENGTH 29u
 #define POST_POST_LENGTH 6u
 
-/* The length of the commands that on a page change nothing of a file of chosen pages but its length, else 0: on a page whose depth is
-   counted, and on one whose pushes and pops need not be told apart. */
-static const uint8_t kept_but_depth[256] = {
-    [0 ... 127] = 1, [128] = FOUR_LENGTHS, [132] = 9, [133] = FOUR_LENGTHS, [137] = 9, [138] = 1,
-    [143] = FOUR_LENGTHS, [147] = 1, FOUR_LENGTHS, [152] = 1, FOUR_LENGTHS, [157] = FOUR_LENGTHS,
-    [161] = 1, FOUR_LENGTHS, [166] = 1, FOUR_LENGTHS, [171 ... 234] = 1, [235] = FOUR_LENGTHS,
-};
+/* The length of the commands that stay on a page and change nothing but the place, else 0. */
 static const uint8_t kept[256] = {
-    [0 ... 127] = 1, [128] = FOUR_LENGTHS, [132] = 9, [133] = FOUR_LENGTHS, [137] = 9, [138] = 1, [141 ... 142] = 1,
+    [0 ... 127] = 1, [128] = FOUR_LENGTHS, [132] = 9, [133] = FOUR_LENGTHS, [137] = 9, [138] = 1,
     [143] = FOUR_LENGTHS, [147] = 1, FOUR_LENGTHS, [152] = 1, FOUR_LENGTHS, [157] = FOUR_LENGTHS,
     [161] = 1, FOUR_LENGTHS, [166] = 1, FOUR_LENGTHS, [171 ... 234] = 1, [235] = FOUR_LENGTHS,
 };
@@ -937,20 +931,20 @@ static inline size_t definition_length(const uint8_t *at)
 /* The next eop or definition of a page; with a depth, what pushes and pops make of it, too. */
 static inline __attribute__((always_inline)) const uint8_t *next_break(const uint8_t *at, uint32_t *depth, uint32_t *deepest)
 {
-    const uint8_t *lengths = depth != NULL ? kept_but_depth : kept;
     for (;;) {
-        /* runs of characters, by a branch that is foreseen well; the rest by the table */
+        /* runs of characters, pushes and pops, by branches that are foreseen well; the rest by the table */
         while (*at < 128)
             at++;
         const uint8_t opcode = *at;
-        if (lengths[opcode] != 0)
-            at += lengths[opcode];
-        else if (depth != NULL && opcode == 141) {
-            if (++*depth > *deepest)
+        if (kept[opcode] != 0)
+            at += kept[opcode];
+        else if (opcode == 141) {
+            if (depth != NULL && ++*depth > *deepest)
                 *deepest = *depth;
             at++;
-        } else if (depth != NULL && opcode == 142) {
-            --*depth;
+        } else if (opcode == 142) {
+            if (depth != NULL)
+                --*depth;
             at++;
         } else if (opcode >= 239 && opcode <= 242)
             at += opcode - 237 + (size_t)unsigned_in(at + 1, opcode - 238u);
