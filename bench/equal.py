@@ -32,6 +32,7 @@ MOST_PAGES = 65_535
 GREATEST = 4_294_967_295  # of 32 bits
 VERY_LONG = 1 << 20  # numbers of a list
 REFUSALS = range(1, 24)
+CUT_REFUSALS = (*range(1, 12), 17, 23)
 
 
 class Different(Exception):
@@ -40,7 +41,7 @@ class Different(Exception):
 
 class Comparing:
     def __init__(self, readers):
-        self.readers, self.codes = readers, collections.Counter()
+        self.readers, self.codes, self.cut_codes = readers, collections.Counter(), collections.Counter()
 
     def outcome(self, reader, job, answer_length):
         answer = (ctypes.c_int64 * ANSWER)(*[0x5A5A5A5A5A5A5A5A] * ANSWER)
@@ -54,6 +55,7 @@ class Comparing:
         """The outcome of both, where it is one."""
         proved, plain = (self.outcome(reader, job, answer_length) for reader in (PROVED, PLAIN))
         self.codes[proved[0]] += 1
+        self.cut_codes[proved[0]] += job.entry == "cut"
         if proved != plain:
             raise Different(told(job, proved, plain))
         return proved
@@ -234,7 +236,7 @@ def main():
     codes = comparing.codes
     refused = ", ".join(f"{code}: {codes[code]}" for code in sorted(codes) if code not in (0, 255))
     print(f"equal: {codes.total()} answers, {codes[0]} results; refusals by number {refused}")
-    lacking = [number for number in REFUSALS if codes[number] == 0]
+    lacking = [number for number in REFUSALS if codes[number] == 0] + [f"{number} of cut" for number in CUT_REFUSALS if comparing.cut_codes[number] == 0]
     if int(asked) and lacking:
         print(f"never occurred: {lacking}")
         sys.exit(1)
