@@ -136,13 +136,15 @@ def lists_for(rng, pages):
 
 
 def compare_lists(comparing, rng):
-    """Lists of every kind, of one page and of as many as there may be, with areas long enough, just long enough, a byte too short, and empty."""
+    """Lists of every kind, of one page and of as many as there may be, with areas long enough, just long enough, a byte too short, and empty; and with
+    an answer array too short."""
     for pages in (1, 2, 3, 300, MOST_PAGES):
         file = questions.file_of_pages(pages)
         for numbers in lists_for(rng, pages):
             job = Job("cut", "lists", f"of {pages} pages", file=file, numbers=numbers)
             compare_with_areas(comparing, job)
             comparing.compare(with_area(job, 0))
+            comparing.compare(job, 0)
 
 
 def damaged(rng, data):
