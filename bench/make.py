@@ -29,7 +29,7 @@ REAL_FONTS = ("cmr10.72", "cmr10.300", "cmr17.600", "cminch.300", "ecrm1000.300"
 SEED = 1
 QUICK = {"-1024K", "-1", "-64", "-4096", "-100", "-10000"}  # ends of names
 DIFFERENT_BYTES, DIFFERENT_RECORDS, DIFFERENT_PACKETS = 1 << 20, 10_000, 2048  # in all files of a work together, at least
-DIFFERENT_WIDTHS = 800  # in a work
+DIFFERENT_WIDTHS, DIFFERENT_DEFINITIONS = 800, 320  # in a work
 CUT = {  # of the files of which of the check's groups which pages are cut out
     "joined": ("all", "odd", "one"), "pages": ("all", "odd", "one"), "characters": ("all",), "one-byte": ("all",), "push-pop": ("all",), "selections": ("all",),
     "specials": ("all",), "on-pages": ("all", "odd"),
@@ -445,7 +445,7 @@ def page_count_jobs(work, counts):
 def cut_jobs(work, rng, counts):
     """Pages cut out of the check's files, and of files that define their fonts on pages."""
     for fonts in counts:
-        work.check("on-pages", f"on-pages-{fonts}", *(definitions_on_pages(rng, fonts) for _ in range(MOST_FONTS // fonts)))
+        work.check("on-pages", f"on-pages-{fonts}", *(definitions_on_pages(rng, fonts) for _ in range(DIFFERENT_DEFINITIONS // fonts)))
     checks = [line.split()[1:] for line in work.lines if line.startswith("check ")]
     for group, ways in CUT.items():
         for which in ways:
@@ -564,7 +564,7 @@ def main():
     table_jobs(work, list(steps(16, 65_536, 4)))
     font_jobs(work, rng, list(steps(1 << 16, LONGEST_FILE, 4)))
     real_font_jobs(work, {name: fonts[name] for name in REAL_FONTS})
-    cut_jobs(work, rng, list(steps(1, MOST_FONTS, 4)))
+    cut_jobs(work, rng, list(steps(4, MOST_FONTS, 4)))
     published_cut_jobs(work, published, 6)
     work.manifest("quick", filter(is_quick, work.lines))
     work.manifest("full", work.lines)
