@@ -31,7 +31,7 @@ QUICK = {"-1024K", "-1", "-64", "-4096", "-100", "-10000"}  # ends of names
 DIFFERENT_BYTES, DIFFERENT_RECORDS, DIFFERENT_PACKETS = 1 << 20, 10_000, 2048  # in all files of a work together, at least
 DIFFERENT_WIDTHS, DIFFERENT_DEFINITIONS = 800, 320  # in a work
 CUT = {  # of the files of which of the check's groups which pages are cut out
-    "joined": ("all", "odd", "one"), "pages": ("all", "odd", "one"), "characters": ("all",), "one-byte": ("all",), "push-pop": ("all",), "selections": ("all",),
+    "joined": ("all", "odd", "one"), "pages": ("all", "odd"), "characters": ("all",), "one-byte": ("all",), "push-pop": ("all",), "selections": ("all",),
     "specials": ("all",), "on-pages": ("all", "odd"),
 }
 
