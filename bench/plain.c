@@ -1184,13 +1184,13 @@ uint32_t plain_width_table(const uint8_t *pk, size_t pk_length, uint32_t scale, 
     return 0;
 }
 
-uint32_t plain_cut_pages(const uint8_t *file, size_t file_length, const uint32_t *pages, size_t pages_length, uint8_t *area,
+uint32_t plain_cut_pages(const uint8_t *file, size_t file_length, const uint32_t *pages, size_t count, uint8_t *area,
                          size_t area_length, int64_t *answer, size_t answer_length)
 {
     if (answer_length < 1)
         return TOO_SHORT_ANSWER;
     size_t bytes;
-    struct refusal refusal = cut_out(file, file_length, pages, pages_length, area, area_length, &bytes);
+    struct refusal refusal = cut_out(file, file_length, pages, count, area, area_length, &bytes);
     if (refusal.number != 0)
         return refused(refusal, answer);
     answer[0] = (int64_t)bytes;

@@ -14,6 +14,6 @@ uint32_t plain_look_up(const uint8_t *table, size_t table_length, uint32_t check
                        int64_t *answer, size_t answer_length);
 uint32_t plain_width_table(const uint8_t *pk, size_t pk_length, uint32_t scale, uint8_t *area, size_t area_length,
                            int64_t *answer, size_t answer_length);
-uint32_t plain_cut_pages(const uint8_t *file, size_t file_length, const uint32_t *pages, size_t pages_length, uint8_t *area,
+uint32_t plain_cut_pages(const uint8_t *file, size_t file_length, const uint32_t *pages, size_t count, uint8_t *area,
                          size_t area_length, int64_t *answer, size_t answer_length);
 #endif
