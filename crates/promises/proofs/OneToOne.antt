@@ -17,9 +17,11 @@ use Rattle.reader.specs.declared.LookedUp.{LookedUp}
 use Rattle.reader.specs.declared.LookedUp.the-variants as LookedUp
 use Rattle.reader.specs.declared.TableMade.{TableMade}
 use Rattle.reader.specs.declared.TableMade.the-variants as TableMade
+use Rattle.reader.specs.declared.PagesCut.{PagesCut}
+use Rattle.reader.specs.declared.PagesCut.the-variants as PagesCut
 use Rattle.reader.specs.declared.Placed.{Placed}
 use Rattle.reader.specs.declared.Placed.the-variants as Placed
-use Rattle.reader.specs.Answers.{commandAnswer, fileAnswer, nameAnswer, roundedAnswer, scaledAnswer, tableAnswer, lookedAnswer, madeAnswer, placedAnswer}
+use Rattle.reader.specs.Answers.{commandAnswer, fileAnswer, nameAnswer, roundedAnswer, scaledAnswer, tableAnswer, lookedAnswer, madeAnswer, cutAnswer, placedAnswer}
 
 -- the outcome of an answer: of a refusal, and of a result
 abbrev outcome : {A R : Type 0} → (ℕ → ℕ → R) → (A → R) → Answer A → R
@@ -104,6 +106,14 @@ made-back (TableMade.Refused number place) = refl
 
 pub made-one-to-one : (r s : TableMade) → madeAnswer r ≡ madeAnswer s → r ≡ s
 made-one-to-one = one madeAnswer (outcome TableMade.Refused TableMade.Records) made-back
+
+-- cut_pages
+cut-back : (r : PagesCut) → outcome PagesCut.Refused PagesCut.Bytes (cutAnswer r) ≡ r
+cut-back (PagesCut.Bytes bytes) = refl
+cut-back (PagesCut.Refused number place) = refl
+
+pub cut-one-to-one : (r s : PagesCut) → cutAnswer r ≡ cutAnswer s → r ≡ s
+cut-one-to-one = one cutAnswer (outcome PagesCut.Refused PagesCut.Bytes) cut-back
 
 -- place_page
 placed-back : (r : Placed) → outcome Placed.Refused (λ c. Placed.Records (c .records) (c .missing) (c .specials)) (placedAnswer r) ≡ r

@@ -9,6 +9,7 @@ use Rattle.reader.specs.declared.Scaled.{Scaled}
 use Rattle.reader.specs.declared.TableChecked.{TableChecked}
 use Rattle.reader.specs.declared.LookedUp.{LookedUp}
 use Rattle.reader.specs.declared.TableMade.{TableMade}
+use Rattle.reader.specs.declared.PagesCut.{PagesCut}
 use Rattle.reader.specs.declared.Placed.{Placed}
 use Rattle.reader.proofs.read_command.Reads as read-command
 use Rattle.reader.proofs.check_file.Reads as check-file
@@ -18,8 +19,9 @@ use Rattle.reader.proofs.scale_width.Reads as scale-width
 use Rattle.reader.proofs.check_table.Reads as check-table
 use Rattle.reader.proofs.look_up.Reads as look-up
 use Rattle.reader.proofs.width_table.Reads as width-table
+use Rattle.reader.proofs.cut_pages.Reads as cut-pages
 use Rattle.reader.proofs.place_page.Reads as place-page
-use Rattle.promises.proofs.OneToOne.{command-one-to-one, file-one-to-one, name-one-to-one, rounded-one-to-one, scaled-one-to-one, table-one-to-one, looked-one-to-one, made-one-to-one, placed-one-to-one}
+use Rattle.promises.proofs.OneToOne.{command-one-to-one, file-one-to-one, name-one-to-one, rounded-one-to-one, scaled-one-to-one, table-one-to-one, looked-one-to-one, made-one-to-one, cut-one-to-one, placed-one-to-one}
 
 pub read-command-outcomes : (κs : Lfts 1) → (a : _) → (r s : CommandRead) → (x y : _) → read-command.Post κs a r x → read-command.Post κs a s y → r ≡ s
 read-command-outcomes κs a r s x y p q = command-one-to-one r s (p ∙ sym q)
@@ -50,6 +52,11 @@ look-up-outcomes κs a r s x y p q = looked-one-to-one r s (p ∙ sym q)
 pub width-table-outcomes : (κs : Lfts 2) → (a : _) → (r s : TableMade) → (x y : _) → width-table.Post κs a r x → width-table.Post κs a s y
     → (r ≡ s) × (now (x .1 .1 .0) ≡ now (y .1 .1 .0))
 width-table-outcomes κs a r s x y p q = (made-one-to-one r s (p .0 ∙ sym (q .0)), p .1 .0 ∙ sym (q .1 .0))
+
+-- of chosen pages: the number of bytes or the refusal, and every byte of the output area
+pub cut-pages-outcomes : (κs : Lfts 3) → (a : _) → (r s : PagesCut) → (x y : _) → cut-pages.Post κs a r x → cut-pages.Post κs a s y
+    → (r ≡ s) × (now (x .1 .1 .0) ≡ now (y .1 .1 .0))
+cut-pages-outcomes κs a r s x y p q = (cut-one-to-one r s (p .0 ∙ sym (q .0)), p .1 .0 ∙ sym (q .1 .0))
 
 -- of one page: the counts or the refusal, and every byte of the output area
 pub place-page-outcomes : (κs : Lfts 3) → (a : _) → (r s : Placed) → (x y : _) → place-page.Post κs a r x → place-page.Post κs a s y

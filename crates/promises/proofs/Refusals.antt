@@ -7,7 +7,7 @@ use lib.ListN.{length}
 use contract.Lifetimes.{Lfts}
 use denote.Ref.{now}
 use Rattle.refusals.specs.Answer.{Answer}
-use Rattle.refusals.specs.RefusedOnly.{RefusedOnly, FileRefusal, CommandRefusal, NameRefusal, DistanceRefusal, WidthRefusal, TableRefusal, PageRefusal, MadeRefusal}
+use Rattle.refusals.specs.RefusedOnly.{RefusedOnly, FileRefusal, CommandRefusal, NameRefusal, DistanceRefusal, WidthRefusal, TableRefusal, PageRefusal, MadeRefusal, CutRefusal}
 use Rattle.units.proofs.RefusedWith.{distance-refused-with}
 use Rattle.widths.specs.Scaling.{fixWord}
 use Rattle.widths.specs.Table.{widthRecordSize}
@@ -16,6 +16,7 @@ use Rattle.commands.proofs.RefusedWith.{command-refused-with}
 use Rattle.volume.proofs.RefusedWith.{file-refused-with, name-refused-with}
 use Rattle.page.proofs.RefusedWith.{page-refused-with}
 use Rattle.packed.proofs.RefusedWith.{made-refused-with}
+use Rattle.cutting.proofs.RefusedWith.{cut-refused-with}
 use Rattle.reader.specs.declared.CommandRead.{CommandRead}
 use Rattle.reader.specs.declared.FileChecked.{FileChecked}
 use Rattle.reader.specs.declared.Rounded.{Rounded}
@@ -23,8 +24,9 @@ use Rattle.reader.specs.declared.Scaled.{Scaled}
 use Rattle.reader.specs.declared.TableChecked.{TableChecked}
 use Rattle.reader.specs.declared.LookedUp.{LookedUp}
 use Rattle.reader.specs.declared.TableMade.{TableMade}
+use Rattle.reader.specs.declared.PagesCut.{PagesCut}
 use Rattle.reader.specs.declared.Placed.{Placed}
-use Rattle.reader.specs.Answers.{commandAnswer, fileAnswer, nameAnswer, roundedAnswer, scaledAnswer, tableAnswer, lookedAnswer, madeAnswer, placedAnswer}
+use Rattle.reader.specs.Answers.{commandAnswer, fileAnswer, nameAnswer, roundedAnswer, scaledAnswer, tableAnswer, lookedAnswer, madeAnswer, cutAnswer, placedAnswer}
 use Rattle.reader.proofs.read_command.Reads as read-command
 use Rattle.reader.proofs.check_file.Reads as check-file
 use Rattle.reader.proofs.font_name.Reads as font-name
@@ -33,6 +35,7 @@ use Rattle.reader.proofs.scale_width.Reads as scale-width
 use Rattle.reader.proofs.check_table.Reads as check-table
 use Rattle.reader.proofs.look_up.Reads as look-up
 use Rattle.reader.proofs.width_table.Reads as width-table
+use Rattle.reader.proofs.cut_pages.Reads as cut-pages
 use Rattle.reader.proofs.place_page.Reads as place-page
 
 -- what holds of the meaning holds of an answer that says it
@@ -89,3 +92,8 @@ place-page-refusals κs file table resolution page area r x post =
 pub width-table-refusals : (κs : Lfts 2) → (pk : _) → (scale : ℕ) → (area : _) → (r : TableMade) → (x : _) → width-table.Post κs (pk, (scale, (area, tt))) r x
     → RefusedOnly (MadeRefusal (now pk)) (madeAnswer r)
 width-table-refusals κs pk scale area r x post = said (MadeRefusal (now pk)) (post .0) (made-refused-with (now pk) scale (length (now area)))
+
+-- as check_file; 23 or 17 at 0
+pub cut-pages-refusals : (κs : Lfts 3) → (file pages area : _) → (r : PagesCut) → (x : _) → cut-pages.Post κs (file, (pages, (area, tt))) r x
+    → RefusedOnly (CutRefusal (now file)) (cutAnswer r)
+cut-pages-refusals κs file pages area r x post = said (CutRefusal (now file)) (post .0) (cut-refused-with (now file) (now pages) (length (now area)))

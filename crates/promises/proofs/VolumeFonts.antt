@@ -22,7 +22,8 @@ use Rattle.list.specs.Lawful.{Keeps}
 use Rattle.list.proofs.SameBytes.{same-true}
 use Rattle.list.proofs.FontTables.{lawful-in, defines-kind}
 use Rattle.promises.specs.Standing.{StandsAmong}
-use Rattle.promises.proofs.Volumes.{PastKeeps, no-more, and-one, kept-there, is-there, Right, right}
+use Rattle.rewritten.proofs.Defining.{Right, right}
+use Rattle.promises.proofs.Volumes.{PastKeeps, no-more, and-one, kept-there, is-there}
 
 -- ---- how many numbers pass a test
 

@@ -31,6 +31,7 @@ use Rattle.list.proofs.Arms.{on-kinds, is-kind}
 use Rattle.list.proofs.FaultLaws.{all-kept}
 use Rattle.list.proofs.AtStages.{first-pre, compared, does-lawfully}
 use Rattle.promises.specs.Standing.{StandsAfter, first, later, StandsAmong, listOfM}
+use Rattle.rewritten.proofs.Defining.{holds, right}
 
 -- ---- the file's two ends
 
@@ -163,43 +164,10 @@ only-pre {past} (and-one kept earlier) allowed k =
 
 -- ---- the rules of one command
 
--- what no rule refuses holds
-holds : (t : Bool) → (not t || false) ≡ false → t ≡ true
-holds t e = not-false t (sym (or-false (not t)) ∙ e)
-
--- a font without a definition has none, one with a definition has some
-not-there : (d : Definition) → not (isDefined d) ≡ true → d ≡ none
-not-there none e = refl
-not-there (stands at d) e = absurd (true≢false (sym e))
-
+-- a font with a definition has some
 pub is-there : (found : Definition) → isDefined found ≡ true → (at : ℕ) × (d : Command) × (found ≡ stands at d)
 is-there none e = absurd (true≢false (sym e))
 is-there (stands at d) e = (at, d, refl)
-
--- what the rules ask of a definition
-pub record Right (past : List Command) (c : Command) : Type 0 where
-  pub number : lawfulFont (fontNumber c) ≡ true
-  pub scale : lawfulSize (fontScale (body c)) ≡ true
-  pub size : lawfulSize (fontDesignSize (body c)) ≡ true
-  pub late : isAfterPost (stage past) ≡ true → (definitionOf true (fontNumber c) past ≡ none) × (says (definitionOf false (fontNumber c) past) (body c) ≡ true)
-  pub early : isAfterPost (stage past) ≡ false → (definitionOf false (fontNumber c) past ≡ none) × (fontCount false past < 64)
-
--- it keeps them
-pub right : {past : List Command} {c : Command} → Allowed past c → kindOfCommand c ≡ Define → Right past c
-right {past} {c} allowed k =
-    let rules : lawfulDefinition past c ≡ true = holds _ (rw k at (allowed .definition)) in
-    let from-number = and-eq-true-iff (lawfulFont (fontNumber c)) _ .0 rules in
-    let from-scale = and-eq-true-iff (lawfulSize (fontScale (body c))) _ .0 (from-number .1) in
-    let from-size = and-eq-true-iff (lawfulSize (fontDesignSize (body c))) _ .0 (from-scale .1) in
-    let after : isAfterPost (stage past) ≡ true → _ = λ t. and-eq-true-iff (not (isDefined (definitionOf true (fontNumber c) past))) _ .0 (rw t at (from-size .1)) in
-    let before : isAfterPost (stage past) ≡ false → _ = λ t. and-eq-true-iff (not (isDefined (definitionOf false (fontNumber c) past))) _ .0 (rw t at (from-size .1)) in
-    record {
-      number = from-number .0;
-      scale = from-scale .0;
-      size = from-size .0;
-      late = λ t. (not-there _ (after t .0), after t .1);
-      early = λ t. (not-there _ (before t .0), ltb-true (fontCount false past) 64 (before t .1));
-    }
 
 -- what a post that keeps the rules says
 pub repeats : {past : List Command} {c : Command} → Allowed past c → kindOfCommand c ≡ Post

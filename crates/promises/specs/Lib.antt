@@ -5,3 +5,4 @@ pub mod OfTheList
 pub mod StatedDepth
 pub mod Bars
 pub mod Fonts
+pub mod Cuts

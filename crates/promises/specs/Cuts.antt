@@ -1,0 +1,28 @@
+-- When a call cuts pages, and what it gives; a call that is worked out by hand. Assumes nothing.
+use Prim.Native.Nat.{ℕ, _≤_}
+use mathlib.Core.Path.{_≡_}
+use mathlib.Core.Bool.{false}
+use mathlib.Core.List.{List, [], _∷_}
+use lib.ListN.{length, take, drop, replicate}
+use Rattle.refusals.specs.Answer.{given}
+use Rattle.volume.specs.declared.Summary.{Summary}
+use Rattle.volume.specs.Judged.{judged}
+use Rattle.volume.specs.Starred.{M}
+use Rattle.cutting.specs.Chosen.{wrongList}
+use Rattle.cutting.specs.CutFile.{cutFile}
+
+-- of a file and a list a call with an area gave so many bytes and left the area so (rules 9.1, 9.10)
+pub record Gives (file list area : List ℕ) (bytes : ℕ) (after : List ℕ) : Type 0 where
+  pub summary : Summary
+  pub accepted : judged file ≡ given summary
+  pub right : wrongList (summary .pages) list ≡ false
+  pub bytes-is : bytes ≡ length (cutFile file list)
+  pub room : bytes ≤ length area
+  pub front : take bytes after ≡ cutFile file list
+  pub rest : drop bytes after ≡ drop bytes area
+
+-- the smallest file, its one page, and an area of a hundred zeros (rule 9.10)
+pub record IsSmallest (file list area : List ℕ) : Type 0 where
+  pub file-is : file ≡ M
+  pub list-is : list ≡ 1 ∷ []
+  pub area-is : area ≡ replicate 100 0
