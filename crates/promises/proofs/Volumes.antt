@@ -8,22 +8,21 @@ use lib.Dec.{lit<, leb, eqb}
 use lib.ListN.{length, getD, drop, length-append}
 use lib.Seq.{drop-at}
 use lib.IntN.{pos}
-use borrow.Author.Tests.{not-false, eqb-true, leb-true, leb-false, ltb-true, ltb-false}
+use borrow.Author.Tests.{not-false, eqb-true, leb-true, leb-false, ltb-false}
 use Rattle.numbers.specs.Bytes.{unsignedAt}
 use Rattle.numbers.proofs.Signed.{same-number-true}
-use Rattle.numbers.specs.Sizes.{lawfulSize}
 use Rattle.commands.specs.declared.Kind.{Kind}
 use Rattle.commands.specs.declared.Kind.the-variants.{Bop, Eop, Push, Pop, Select, Define, Pre, Post, PostPost}
 use Rattle.commands.specs.Kinds.{kindOf, is}
 use Rattle.commands.specs.Fields.{unsignedIn, signedIn, bopPointer, postPointer, postNum, postDen, postMag, postDepth, postPages, endPointer}
 use Rattle.commands.specs.Lengths.{lengths, fixedLength, innerLength, sizeOf}
 use Rattle.commands.specs.Commands.{Command, kindOfCommand, Whole, written}
-use Rattle.commands.specs.Parameters.{selectedFont, fontScale, fontDesignSize}
+use Rattle.commands.specs.Parameters.{selectedFont}
 use Rattle.commands.proofs.Opcodes.{kind-range}
 use Rattle.list.specs.declared.Stage.{Stage}
 use Rattle.list.specs.declared.Stage.the-variants.{AtStart, BeforePages, OnPage, BetweenPages, AfterPost, AfterEnd}
-use Rattle.list.specs.Past.{isA, stage, stageAfter, isAfterPost, depth, greatest, pages, lastBop, postPlace, num, den, mag, fontNumber, body, Definition, none, stands, definitionOf, isDefined, fontCount}
-use Rattle.list.specs.Rules.{isAtStart, wrongAtDepth, lawfulFont, says, lawfulDefinition, lawfulPostamble, Allowed}
+use Rattle.list.specs.Past.{isA, stage, stageAfter, isAfterPost, depth, greatest, pages, lastBop, postPlace, num, den, mag, fontNumber, Definition, none, stands, definitionOf, isDefined}
+use Rattle.list.specs.Rules.{isAtStart, wrongAtDepth, says, lawfulPostamble, Allowed}
 use Rattle.list.specs.Lawful.{fillers, Follows, ends, goes, Keeps, Lawful}
 use Rattle.volume.specs.OfList.{upToLast, pastOf}
 use Rattle.volume.specs.Starred.{M}

@@ -1,7 +1,7 @@
 -- What placing a page answers where it has another number and its commands have other places. Assumes nothing.
 use Prim.Native.Nat.{ℕ}
 use mathlib.Core.Bool.{cond}
-use mathlib.Core.List.{List, map}
+use mathlib.Core.List.{map}
 use lib.Dec.{eqb}
 use Rattle.refusals.specs.Numbers.{positionOutOfRange}
 use Rattle.refusals.specs.Answer.{Answer, refused, given}
