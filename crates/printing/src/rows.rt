@@ -3,7 +3,7 @@ ghost use mathlib.Core.Path.{_≡_};
 ghost use Prim.Native.Nat.{_≤_, _<_};
 ghost use lib.ListN.{length};
 
-// So many bytes a row; where the last row has fewer, its line is not ended.
+// So many bytes a row; the last one may have fewer.
 pub fn print(bytes: &[u8], width: usize)
     requires { ⌜ 0 < width ⌝ }
 {
@@ -14,9 +14,19 @@ pub fn print(bytes: &[u8], width: usize)
         held = with_room(&block, held);
         held = with_byte(&mut block, held, bytes[i]);
         i += 1;
-        held = with_end(&mut block, held, i % width == 0);
+        held = with_end(&mut block, held, row_ends(i, width, bytes.len()));
     }
     crate::text(&block[..held]);
+}
+
+// Whether a row ends after so many bytes: where it is full, and with the last byte of all.
+fn row_ends(done: usize, width: usize, all: usize) -> bool
+    requires { ⌜ 0 < width ⌝ }
+{
+    if done == all {
+        return true;
+    }
+    done % width == 0
 }
 
 // How much of the block is held where it has room for a byte's digits and a line's end; if it has not, what it holds is written first.

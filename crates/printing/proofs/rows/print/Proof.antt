@@ -40,8 +40,8 @@ add-i c = search needs
 slice-aggregate-with-end : tie.Need-slice-aggregate-with-end Inv-loop μ-loop
 slice-aggregate-with-end c = search needs
 
-rem-with-end : tie.Need-rem-with-end Inv-loop μ-loop
-rem-with-end c = search needs
+row-ends-requires : tie.Need-row-ends-requires Inv-loop μ-loop
+row-ends-requires c κs = search needs
 
 with-end-requires : tie.Need-with-end-requires Inv-loop μ-loop
 with-end-requires c κs = search needs
@@ -79,7 +79,7 @@ print-spec =
     with-byte-requires
     add-i
     slice-aggregate-with-end
-    rem-with-end
+    row-ends-requires
     with-end-requires
     loop-less
     loop-again
