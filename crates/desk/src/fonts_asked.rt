@@ -1,5 +1,6 @@
 // The question about a PK font, which is read into the buffer that is lent.
 use crate::lines::word;
+use crate::rooms;
 use asking::files;
 use asking::words;
 use asking::words::Unsigned;
@@ -11,7 +12,8 @@ use widths::table;
 
 // widths PK SCALE AREA-BYTES
 pub fn widths(line: &[u8], file: &mut [u8], area: &mut [u8]) {
-    let Unsigned::Is(room) = words::read_unsigned(word(line, 3), area.len() as u64) else {
+    let most = rooms::for_records(area.len());
+    let Unsigned::Is(room) = words::read_unsigned(word(line, 3), most as u64) else {
         asking::no_input();
         return;
     };

@@ -24,26 +24,34 @@ pub fn word(line: &[u8], index: usize) -> &[u8] {
     &line[start..end]
 }
 
-fn word_start(line: &[u8], index: usize) -> usize
+// Where the word of that number starts, or the line's end where it has fewer.
+pub fn word_start(line: &[u8], index: usize) -> usize
     ensures { λ r. ⌜ r ≤ length (now (line .entry)) ⌝ }
 {
     let mut start: usize = 0;
     let mut passed: usize = 0;
     while passed < index {
-        let end = word_end(line, start);
-        if end == line.len() {
-            return end;
-        }
-        start = end + 1;
+        start = after_blank(line, word_end(line, start));
         passed += 1;
     }
     start
 }
 
 // The first blank at or after a place, or the line's end.
-fn word_end(line: &[u8], start: usize) -> usize
+pub fn word_end(line: &[u8], start: usize) -> usize
     requires { ⌜ start ≤ length (now line) ⌝ }
     ensures { λ r. ⌜ (start ≤ r) × (r ≤ length (now (line .entry))) ⌝ }
 {
     bytes::scan::find(line, start, line.len(), b' ')
+}
+
+// The place after a blank; the line's end is its own.
+pub fn after_blank(line: &[u8], end: usize) -> usize
+    requires { ⌜ end ≤ length (now line) ⌝ }
+    ensures { λ r. ⌜ r ≤ length (now (line .entry)) ⌝ }
+{
+    if end < line.len() {
+        return end + 1;
+    }
+    end
 }

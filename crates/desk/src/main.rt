@@ -1,20 +1,22 @@
 // Every public entry of the reader on a desk: a question a line on standard input, its answer on standard output.
+mod cuts_asked;
 mod files_asked;
 mod fonts_asked;
 mod lines;
 mod numbers_asked;
 mod pages_asked;
 mod questions;
+mod rooms;
 mod tables_asked;
 
 use libc::STDIN_FILENO;
 
 fn main() {
     let mut block = io::large_buffer();
-    let mut line = io::buffer();
+    let mut line = [0u8; 16384];
     let mut file = [0u8; 262144];
     let mut widths = io::large_buffer();
-    let mut area = [0u8; 60000];
+    let mut area = [0u8; 262144];
     answer_all(&mut block, &mut line, &mut file, &mut widths, &mut area);
 }
 

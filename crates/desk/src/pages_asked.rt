@@ -1,5 +1,6 @@
 // The question that is answered by many lines: a page placed.
 use crate::lines::word;
+use crate::rooms;
 use asking::files;
 use asking::pages;
 use asking::words;
@@ -8,7 +9,8 @@ use asking::words::Unsigned32;
 
 // place FILE TABLE R PAGE AREA-BYTES
 pub fn place(line: &[u8], file: &mut [u8], widths: &mut [u8], area: &mut [u8]) {
-    let Unsigned::Is(room) = words::read_unsigned(word(line, 5), area.len() as u64) else {
+    let most = rooms::for_records(area.len());
+    let Unsigned::Is(room) = words::read_unsigned(word(line, 5), most as u64) else {
         asking::no_input();
         return;
     };

@@ -1,4 +1,5 @@
 // A line's question, by its first word and how many words it has.
+use crate::cuts_asked;
 use crate::files_asked;
 use crate::fonts_asked;
 use crate::lines;
@@ -19,12 +20,17 @@ enum Question {
     Look,
     Widths,
     Place,
+    // of so many pages
+    Cut(usize),
     Nothing,
 }
 
 fn question_of(line: &[u8]) -> Question {
     let name = lines::word(line, 0);
     let count = lines::word_count(line);
+    if check::same(name, b"cut") {
+        return cut_of(count);
+    }
     if count == 2 {
         return of_two(name);
     }
@@ -41,6 +47,14 @@ fn question_of(line: &[u8]) -> Question {
         return of_six(name);
     }
     Question::Nothing
+}
+
+// `cut` has as many words as it likes behind its first three.
+fn cut_of(count: usize) -> Question {
+    if count < 3 {
+        return Question::Nothing;
+    }
+    Question::Cut(count - 3)
 }
 
 fn of_two(name: &[u8]) -> Question {
@@ -105,6 +119,7 @@ pub fn answer(line: &[u8], file: &mut [u8], widths: &mut [u8], area: &mut [u8]) 
         Question::Look => tables_asked::look(line, widths).print(),
         Question::Widths => fonts_asked::widths(line, file, area),
         Question::Place => pages_asked::place(line, file, widths, area),
+        Question::Cut(pages) => cuts_asked::cut(line, pages, file, area),
         Question::Nothing => asking::no_input(),
     }
 }

@@ -17,11 +17,8 @@ loop-holds c = search needs
 word-end-requires : tie.Need-word-end-requires Inv-loop μ-loop
 word-end-requires c κs = search needs
 
-returns : tie.Need-returns Inv-loop μ-loop
-returns c = search needs
-
-add-start : tie.Need-add-start Inv-loop μ-loop
-add-start c = search needs
+after-blank-requires : tie.Need-after-blank-requires Inv-loop μ-loop
+after-blank-requires c κs = search needs
 
 add-passed : tie.Need-add-passed Inv-loop μ-loop
 add-passed c = search needs
@@ -32,8 +29,8 @@ loop-less c = search needs
 loop-again : tie.Need-loop-again Inv-loop μ-loop
 loop-again c = search needs
 
-returns-2 : tie.Need-returns-2 Inv-loop μ-loop
-returns-2 c = search needs
+returns : tie.Need-returns Inv-loop μ-loop
+returns c = search needs
 
 pub word-start-spec : {M : Type 1} → statement M
 word-start-spec =
@@ -43,9 +40,8 @@ word-start-spec =
     μ-loop
     loop-holds
     word-end-requires
-    returns
-    add-start
+    after-blank-requires
     add-passed
     loop-less
     loop-again
-    returns-2)
+    returns)

@@ -10,8 +10,11 @@ use Rattle.desk.proofs.pages_asked.place.Statement.{statement}
 use Rattle.desk.proofs.pages_asked.place.Tie as tie
 
 -- what is lent is within the area
-room-in-area : (k : tie.After-room) → k .room .given .0 .0 ≤ length (now (k .before .before .before .before .before .before .before .before .args .area))
-room-in-area k = subst (AtMost _) (k .room .given .1) (k .before .before .read-unsigned .ensures .1)
+room-in-area : (k : tie.After-room) → k .room .given .0 .0 ≤ length (now (k .before .before .before .before .before .before .before .before .before .args .area))
+room-in-area k = omega (arith, subst (AtMost _) (k .room .given .1) (k .before .before .read-unsigned .ensures .1), k .before .before .before .before .for-records .ensures)
+
+for-records-requires : tie.Need-for-records-requires
+for-records-requires c κs = search needs
 
 word-requires : tie.Need-word-requires
 word-requires c κs = search needs
@@ -56,6 +59,7 @@ pub place-spec : {M : Type 1} → statement M
 place-spec =
     tie.close
     (tie.spec
+    for-records-requires
     word-requires
     read-unsigned-requires
     enum-known-room
