@@ -1,4 +1,4 @@
--- The code that a call returns tells how it ended: 0 a result, 255 an array too short, 1 to 22 a refusal, whatever the inputs. Assumes nothing.
+-- The code that a call returns tells how it ended: 0 a result, 255 an array too short, 1 to 23 a refusal, whatever the inputs. Assumes nothing.
 use Prim.Native.Nat.{ℕ, _≤_, _<_}
 use mathlib.Core.Path.{_≡_, refl}
 use mathlib.Core.Bool.{Bool, true, false, cond}
@@ -19,8 +19,9 @@ use Rattle.widths.specs.LookUp.{lookedUp}
 use Rattle.volume.specs.Judged.{judged}
 use Rattle.volume.specs.Names.{namePlace}
 use Rattle.packed.specs.Table.{tableMade, recordsMade}
+use Rattle.cutting.specs.CutFile.{cutPages, bytesCut}
 use Rattle.page.specs.Answers.{placedPage, placedCounts}
-use Rattle.reader.proofs.Listed.{command-listed, file-listed, name-listed, rounded-listed, scaled-listed, table-listed, looked-listed, placed-listed, made-listed}
+use Rattle.reader.proofs.Listed.{command-listed, file-listed, name-listed, rounded-listed, scaled-listed, table-listed, looked-listed, placed-listed, made-listed, cut-listed}
 use Rattle.clib.specs.Answers.{numberOf, Given, code, Tells}
 
 module _ {A : Type 0} (least : ℕ) (array : List ℕ) (answer : Answer A) (listed : Listed answer) where
@@ -28,7 +29,7 @@ module _ {A : Type 0} (least : ℕ) (array : List ℕ) (answer : Answer A) (list
   number-is (refused number at) l e = absurd (omega (arith, l .0, e))
   number-is (given a) l e = tt
 
-  number-low : (a : Answer A) → Listed a → numberOf a ≤ 22
+  number-low : (a : Answer A) → Listed a → numberOf a ≤ 23
   number-low (refused number at) l = l .1
   number-low (given a) l = omega arith
 
@@ -78,3 +79,6 @@ font-name-code array file font = tells 2 array (namePlace file font) (name-liste
 
 pub width-table-code : (array pk : List ℕ) (scale room : ℕ) → Tells 1 array (recordsMade (tableMade pk scale room))
 width-table-code array pk scale room = tells 1 array (recordsMade (tableMade pk scale room)) (made-listed pk scale room)
+
+pub cut-pages-code : (array file list : List ℕ) (room : ℕ) → Tells 1 array (bytesCut (cutPages file list room))
+cut-pages-code array file list room = tells 1 array (bytesCut (cutPages file list room)) (cut-listed file list room)

@@ -74,6 +74,10 @@ placedNumbers c = c .records ∷ c .missing ∷ c .specials ∷ []
 abbrev pub tableNumbers : ℕ → List ℕ
 tableNumbers records = records ∷ []
 
+-- how many bytes a file of chosen pages has (rule 10.4)
+abbrev pub cutNumbers : ℕ → List ℕ
+cutNumbers bytes = bytes ∷ []
+
 -- 1, the escapement in two's complement of 64 bits, and the width's four bytes; or 0 where the table has no such character (rule 10.4)
 abbrev pub lookedNumbers : LookUp → List ℕ
 lookedNumbers (found m) =

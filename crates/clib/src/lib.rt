@@ -5,6 +5,7 @@ mod answers;
 use reader::CommandRead;
 use reader::FileChecked;
 use reader::LookedUp;
+use reader::PagesCut;
 use reader::Placed;
 use reader::Rounded;
 use reader::Scaled;
@@ -20,8 +21,9 @@ ghost use Rattle.widths.specs.Scaling.{fixWord, scaledWidth};
 ghost use Rattle.widths.specs.Table.{checkedTable};
 ghost use Rattle.widths.specs.LookUp.{lookedUp};
 ghost use Rattle.packed.specs.Table.{tableMade, recordsMade, tableArea};
+ghost use Rattle.cutting.specs.CutFile.{cutPages, bytesCut, cutArea};
 ghost use Rattle.page.specs.Answers.{placedPage, placedCounts, areaAfter};
-ghost use Rattle.clib.specs.Answers.{ifRoom, code, arrayAfter, commandNumbers, fileNumbers, signedNumbers, placedNumbers, tableNumbers, lookedNumbers, nameNumbers};
+ghost use Rattle.clib.specs.Answers.{ifRoom, code, arrayAfter, commandNumbers, fileNumbers, signedNumbers, placedNumbers, tableNumbers, cutNumbers, lookedNumbers, nameNumbers};
 
 // The command at a place of the file: its opcode, where its parameters start, and the place after them.
 #[no_mangle]
@@ -222,6 +224,30 @@ pub extern "C" fn hurlyburn_width_table(
             answers::give(answer, &numbers)
         }
         TableMade::Refused { number, place } => answers::refuse(answer, number, place),
+    }
+}
+
+// Chosen pages of a file, written into the area as a file of their own: bytes.
+#[no_mangle]
+pub extern "C" fn hurlyburn_cut_pages(
+    file: &[u8],
+    pages: &[u32],
+    area: &mut [u8],
+    answer: &mut [u64],
+) -> u32
+    ensures { λ r. ⌜ r ≡ code 1 (now (answer .entry)) (bytesCut (cutPages (now (file .entry)) (now (pages .entry)) (length (now (area .entry))))) ⌝ }
+    ensures { λ _. ⌜ now (answer .exit) ≡ arrayAfter 1 cutNumbers (now (answer .entry)) (bytesCut (cutPages (now (file .entry)) (now (pages .entry)) (length (now (area .entry))))) ⌝ }
+    ensures { λ _. ⌜ now (area .exit) ≡ ifRoom 1 (now (answer .entry)) (cutArea (now (area .entry)) (cutPages (now (file .entry)) (now (pages .entry)) (length (now (area .entry))))) (now (area .entry)) ⌝ }
+{
+    if answer.len() < 1 {
+        return answers::ARRAY_TOO_SHORT;
+    }
+    match reader::cut_pages(file, pages, area) {
+        PagesCut::Bytes(bytes) => {
+            let numbers = [bytes as u64];
+            answers::give(answer, &numbers)
+        }
+        PagesCut::Refused { number, place } => answers::refuse(answer, number, place),
     }
 }
 
