@@ -6,20 +6,20 @@
 
    How every function works:
 
-   - An input is a pointer to bytes and how many there are. It is only read, and only during the call.
+   - An input is a pointer to bytes (a list of pages: to numbers) and how many there are. It is only read, and only during the call.
    - The result is numbers, written into the caller's array `answer`, which has `answer_length` numbers, HURLYBURN_..._NUMBERS at
      least. Only the numbers that are named at a function are written, from the first on; all others stay as they were.
    - What is returned is
        0           the result is given;
-       1 to 22     the file, the table or the question is refused, for the reason of that number in the list below; answer[0] is
+       1 to 23     the file, the table or the question is refused, for the reason of that number in the list below; answer[0] is
                    then the place, counted in bytes from 0, and the other numbers stay as they were;
        255         answer_length is too small for the function's result, whatever the inputs are. Nothing was judged and nothing
                    written, neither into answer nor into an area.
    - Nothing is kept from one call to the next, and nothing is allocated: all memory is the caller's. Functions may be called from
      several threads at once, as long as no thread writes what another call was lent.
-   - Every pointer must stand for as many bytes (for answer: numbers) as its length says, properly aligned (answer as int64_t).
-     Where the length is 0 the pointer is not used and may be NULL. Inputs may overlap each other; area and answer must not overlap
-     anything else. The proof takes these as given: a C caller has to see to them.
+   - Every pointer must stand for as many bytes (for answer and pages: numbers) as its length says, properly aligned (answer as
+     int64_t, pages as uint32_t). Where the length is 0 the pointer is not used and may be NULL. Inputs may overlap each other; area
+     and answer must not overlap anything else. The proof takes these as given: a C caller has to see to them.
    - Every call ends.
 
    Refusals:
@@ -42,13 +42,14 @@
        14   a width table, a scale or a fix word against its rules
        15   a page that the file has not
        16   h or v at 2^31 or beyond, on either side
-       17   an area that is too short for the records
+       17   an area that is too short for what is to be written
        18   a PK font: no command stands where one is due, its bytes run past the end of the file, or the postamble is missing
        19   a PK font: a command where it is not allowed, an opcode of 248 or more, another identification than 89
        20   a PK font: a packet length below the packet's own fields
        21   a PK font: a code above 255 or one that an earlier packet has, a width whose first byte is neither 0 nor 255, or an
             escapement that two bytes with a sign do not hold
        22   a scale of 0, or above 134,217,727
+       23   a list of pages that is empty, does not rise from each number to the next, or names a page that the file has not
 
    The place of 2 to 10, of 16 and of 18 to 21 is where the opcode or the flag of the wrong command stands, or would have to; of 11
    that byte's, or the length of the file; of 14 where the first wrong record begins. It is 0 for all others, for a single distance
@@ -77,6 +78,7 @@ extern "C" {
 #define HURLYBURN_TABLE_NUMBERS 1
 #define HURLYBURN_LOOK_NUMBERS 6
 #define HURLYBURN_WIDTH_TABLE_NUMBERS 1
+#define HURLYBURN_CUT_NUMBERS 1
 #define HURLYBURN_NAME_NUMBERS 2
 
 /* how many bytes a placed character or rule takes in the area */
@@ -84,6 +86,9 @@ extern "C" {
 
 /* how many bytes a record of a width table has */
 #define HURLYBURN_WIDTH_RECORD_BYTES 16
+
+/* how many bytes more than the file an area for its chosen pages may need, whichever they are */
+#define HURLYBURN_CUT_BYTES_MORE 3
 
 /* The command whose opcode stands at byte `at` of a DVI file; nothing before or behind it is judged. answer: the opcode, where its
    parameters start, the place after them. Refusal 1; then 2 or 3, whose place is `at` (negative in answer where `at` is 2^63 or
@@ -133,6 +138,19 @@ uint32_t hurlyburn_look_up(const uint8_t *table, size_t table_length, uint32_t c
    which is signed; and the four bytes of the width. The greatest byte comes first. */
 uint32_t hurlyburn_width_table(const uint8_t *pk, size_t pk_length, uint32_t scale, uint8_t *area, size_t area_length,
                                int64_t *answer, size_t answer_length);
+
+/* Chosen pages of a DVI file as a DVI file of their own, by the list of their numbers, counted from 1, each above the one before.
+   The new file is written into area, from its first byte on; the bytes behind it stay as they were. An area of file_length +
+   HURLYBURN_CUT_BYTES_MORE bytes always suffices. A refusal leaves every byte of area. hurlyburn_check_file accepts the new file,
+   and each page places in it as in the old one, but for the page's number in the records and a refusal's place. Any file and any
+   list may be asked: refusals 1 to 11, then 23, then 17; with 17 file and list are right and area is too short. answer: the
+   number of bytes written.
+
+   The new file has the preamble; every font definition that stands before post, in their order; the chosen pages, without the
+   definitions that stood on them; post, the definitions behind it and post_post; and four to seven 223s, up to a multiple of four
+   bytes. Its pointers, number of pages and greatest depth are its own. nops outside pages are left out. */
+uint32_t hurlyburn_cut_pages(const uint8_t *file, size_t file_length, const uint32_t *pages, size_t count, uint8_t *area,
+                             size_t area_length, int64_t *answer, size_t answer_length);
 
 /* The name of a font, area first, as its definition before post has it: a part of the caller's own file. The whole file is checked
    first. answer: the place of the part's first byte, and the place past its last. Refusals 1 to 11; 8 with place 0 for a font that

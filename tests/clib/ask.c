@@ -1,4 +1,4 @@
-/* Answers every line of the desk (README.md at the top) through the C interface, for files of up to 17 MiB and areas of up to 32 MiB. What a call must leave alone is looked at after each: where it did not, the answer is `guard broken`,
+/* Answers every line of the desk (README.md at the top) through the C interface, for files of up to 17 MiB, areas of up to 32 MiB and lists of up to 70,000 pages. What a call must leave alone is looked at after each: where it did not, the answer is `guard broken`,
    which no other program gives. */
 #include "hurlyburn.h"
 #include "lent.h"
@@ -8,6 +8,8 @@
 
 #define LONGEST_AREA (32u << 20)
 #define MOST_WORDS 7
+#define MOST_PAGES 70000u
+#define ROW 32
 
 static void no_input(void)
 {
@@ -198,9 +200,12 @@ static void look(char *words[])
 
 static void print_hexadecimal(const uint8_t *bytes, size_t count)
 {
-    for (size_t i = 0; i < count; i++)
-        printf("%02x", bytes[i]);
-    printf("\n");
+    static const char digits[] = "0123456789abcdef";
+    for (size_t i = 0; i < count; i++) {
+        putchar(digits[bytes[i] / 16]);
+        putchar(digits[bytes[i] % 16]);
+    }
+    putchar('\n');
 }
 
 /* The bytes from a place of the caller's file up to another. */
@@ -310,9 +315,91 @@ static void width_table(char *words[])
     take_back(&pk);
 }
 
+static void cut_chosen(const struct input *file, const uint32_t *pages, size_t count, size_t room)
+{
+    struct output area;
+    struct numbers answer;
+    lend_output(room, &area);
+    lend_numbers(&answer);
+    uint32_t code = hurlyburn_cut_pages(file->bytes, file->length, count ? pages : NULL, count, area.bytes, area.length, answer.number,
+                                        HURLYBURN_CUT_NUMBERS);
+    size_t bytes = code == 0 ? (size_t)answer.number[0] : 0;
+    if (!only_front_written(&area, bytes))
+        puts("guard broken");
+    else if (is_result(code, &answer, HURLYBURN_CUT_NUMBERS)) {
+        for (size_t at = 0; at < bytes; at += ROW)
+            print_hexadecimal(area.bytes + at, bytes - at < ROW ? bytes - at : ROW);
+        printf("end %lld\n", (long long)answer.number[0]);
+    }
+    take_output_back(&area);
+}
+
+/* The list of pages, lent as an input is: how many there are, or MOST_PAGES + 1 where a word is no number. */
+static size_t read_pages(char *rest, struct input *list)
+{
+    uint32_t *pages = malloc((MOST_PAGES + 1) * sizeof *pages);
+    size_t count = 0;
+    for (char *word = rest; word && count <= MOST_PAGES;) {
+        char *space = strchr(word, ' ');
+        if (space)
+            *space = 0;
+        if (!pages || !read_unsigned(word, &pages[count]))
+            count = MOST_PAGES;
+        count++;
+        word = space ? space + 1 : NULL;
+    }
+    if (count <= MOST_PAGES && !lend_copy(pages, count * sizeof *pages, list))
+        count = MOST_PAGES + 1;
+    free(pages);
+    return count;
+}
+
+/* FILE AREA, then the pages in one piece, NULL where there is none */
+static void cut(char *words[], char *rest)
+{
+    struct input file, list;
+    uint64_t room;
+    if (!read_number(words[2], LONGEST_AREA, &room)) {
+        no_input();
+        return;
+    }
+    size_t count = read_pages(rest, &list);
+    if (count > MOST_PAGES) {
+        no_input();
+        return;
+    }
+    if (lend_file(words[1], &file)) {
+        cut_chosen(&file, (const uint32_t *)(const void *)list.bytes, count, (size_t)room);
+        take_back(&file);
+    } else
+        no_input();
+    take_back(&list);
+}
+
+/* `cut` has as many words as it likes behind its first three. */
+static void answer_cut(char *line)
+{
+    char *words[3];
+    for (size_t i = 0; i < 3; i++) {
+        if (!line) {
+            no_input();
+            return;
+        }
+        words[i] = line;
+        line = strchr(line, ' ');
+        if (line)
+            *line++ = 0;
+    }
+    cut(words, line);
+}
+
 static void answer_line(char *line)
 {
     char *words[MOST_WORDS];
+    if (!strncmp(line, "cut ", 4)) {
+        answer_cut(line);
+        return;
+    }
     size_t count = split(line, words);
     if (count == 2 && !strcmp(words[0], "check"))
         check(words[1]);

@@ -1,6 +1,6 @@
 /* What a call of the C interface writes and what it leaves: every length of the answer array from none on, areas of every interesting
-   length, inputs of length 0, a PK font longer than 2^32 bytes. Takes a DVI file whose first page has records, a width table that is right
-   for it, the number of a font that it defines, and a PK font: no comment, a first packet of the short form without a raster, a second of the
+   length, inputs of length 0, a PK font longer than 2^32 bytes. Takes a DVI file of two pages whose first has records, a width table that is
+   right for it, the number of a font that it defines, and a PK font: no comment, a first packet of the short form without a raster, a second of the
    long form, the postamble byte at the end. Prints each failure, and how many tests passed and failed. */
 #include "hurlyburn.h"
 #include "lent.h"
@@ -14,6 +14,7 @@
 
 static struct input file, widths, pk;
 static int32_t font;
+static const uint32_t both_pages[] = {1, 2};
 static unsigned passed, failed;
 
 static void expect(int holds, const char *what, const char *call, size_t length)
@@ -96,6 +97,16 @@ static uint32_t tabled(size_t less, struct output *area, int64_t *answer, size_t
     return hurlyburn_width_table(pk.bytes, pk.length - less, SCALE, area->bytes, area->length, answer, length);
 }
 
+static uint32_t cut(size_t less, struct output *area, int64_t *answer, size_t length)
+{
+    return hurlyburn_cut_pages(file.bytes, file.length - less, both_pages, 2, area->bytes, area->length, answer, length);
+}
+
+static uint32_t cut_last(size_t less, struct output *area, int64_t *answer, size_t length)
+{
+    return hurlyburn_cut_pages(file.bytes, file.length, both_pages + 1, 1 - less, area->bytes, area->length, answer, length);
+}
+
 static const struct call {
     const char *name;
     size_t least, written; /* of a result */
@@ -111,6 +122,8 @@ static const struct call {
     {"look, absent", HURLYBURN_LOOK_NUMBERS, 1, look_absent},
     {"name", HURLYBURN_NAME_NUMBERS, 2, name},
     {"widths", HURLYBURN_WIDTH_TABLE_NUMBERS, 1, tabled},
+    {"cut", HURLYBURN_CUT_NUMBERS, 1, cut},
+    {"cut, one page", HURLYBURN_CUT_NUMBERS, 1, cut_last},
 };
 
 #define CALLS (sizeof calls / sizeof calls[0])
@@ -156,7 +169,7 @@ static void every_length(const struct call *call, size_t less)
 
 /* ---- the area */
 
-/* An entry that writes records, so many bytes each. */
+/* An entry that writes records, so many bytes each; a file of chosen pages counts as records of a byte. */
 struct writer {
     const char *name;
     size_t numbers, record;
@@ -165,6 +178,10 @@ struct writer {
 
 static const struct writer placing = {"area of place", HURLYBURN_PLACE_NUMBERS, HURLYBURN_RECORD_BYTES, place};
 static const struct writer tabling = {"area of widths", HURLYBURN_WIDTH_TABLE_NUMBERS, HURLYBURN_WIDTH_RECORD_BYTES, tabled};
+static const struct writer cutting[] = {
+    {"area of cut", HURLYBURN_CUT_NUMBERS, 1, cut},
+    {"area of cut, one page", HURLYBURN_CUT_NUMBERS, 1, cut_last},
+};
 
 static void area_of(const struct writer *writer, size_t length, size_t records, const uint8_t *known)
 {
@@ -222,6 +239,51 @@ static void tabled_areas(void)
     take_output_back(&area);
 }
 
+/* What is written is an accepted file, and no longer than the header says. */
+static void cut_areas(const struct writer *writer, int64_t pages)
+{
+    struct output area;
+    struct numbers answer;
+    size_t bytes = areas(writer, &area);
+    lend_numbers(&answer);
+    uint32_t code = hurlyburn_check_file(area.bytes, bytes, answer.number, HURLYBURN_CHECK_NUMBERS);
+    expect(code == 0 && answer.number[0] == pages, "no accepted file", writer->name, bytes);
+    expect(bytes <= file.length + HURLYBURN_CUT_BYTES_MORE, "longer than the header says", writer->name, bytes);
+    take_output_back(&area);
+}
+
+/* An area before memory that can neither be read nor written: as long as is needed, and shorter. */
+static void cut_at_edge(size_t bytes, size_t length)
+{
+    struct edge area;
+    struct numbers answer;
+    if (!lend_edge(length, &area)) {
+        expect(0, "no memory", "edge of cut", length);
+        return;
+    }
+    lend_numbers(&answer);
+    uint32_t code = hurlyburn_cut_pages(file.bytes, file.length, both_pages, 2, area.bytes, area.length, answer.number, HURLYBURN_CUT_NUMBERS);
+    expect(length < bytes ? code == 17 && answer.number[0] == 0 : code == 0 && answer.number[0] == (int64_t)bytes, "another answer",
+           "edge of cut", length);
+    for (size_t i = 0; length < bytes && i < length; i++)
+        expect(area.bytes[i] == UNTOUCHED_BYTE, "a refused call writes into the area", "edge of cut", i);
+    take_edge_back(&area);
+}
+
+static void cut_edges(void)
+{
+    struct output area;
+    struct numbers answer;
+    lend_output(AREA, &area);
+    lend_numbers(&answer);
+    size_t bytes = cut(0, &area, answer.number, HURLYBURN_CUT_NUMBERS) == 0 ? (size_t)answer.number[0] : 0;
+    take_output_back(&area);
+    cut_at_edge(bytes, bytes);
+    cut_at_edge(bytes, bytes - 1);
+    cut_at_edge(bytes, 1);
+    cut_at_edge(bytes, 0);
+}
+
 /* ---- refusals before the area is reached */
 
 static void refused_place(uint32_t resolution, uint32_t page, uint32_t number)
@@ -254,6 +316,37 @@ static void refused_widths(size_t length, size_t at, uint8_t byte, uint32_t scal
     expect(only_front_numbers_written(&answer, 1), "a refused call writes more than the place", "widths", number);
     take_output_back(&copy);
     take_output_back(&area);
+}
+
+/* Of a file cut short by some bytes, at the file's own place or at 0. */
+static void refused_cut(size_t less, const uint32_t *pages, size_t count, uint32_t number, size_t place)
+{
+    struct output area;
+    struct numbers answer;
+    for (size_t room = 0; room <= AREA; room += AREA) {
+        lend_output(room, &area);
+        lend_numbers(&answer);
+        uint32_t code = hurlyburn_cut_pages(file.bytes, file.length - less, pages, count, area.bytes, area.length, answer.number,
+                                            HURLYBURN_CUT_NUMBERS);
+        expect(code == number && answer.number[0] == (int64_t)place, "not the refusal that is tested", "cut", number);
+        expect(only_front_written(&area, 0), "a refused call writes into the area", "cut", number);
+        expect(only_front_numbers_written(&answer, 1), "a refused call writes more than the place", "cut", number);
+        take_output_back(&area);
+    }
+}
+
+/* The file is judged before the list, the list before the area. */
+static void every_refusal_of_cut(void)
+{
+    static const uint32_t falling[] = {2, 1}, equal[] = {1, 1}, zero[] = {0, 1}, absent[] = {1, 2, 3}, far[] = {4294967295};
+    refused_cut(0, NULL, 0, 23, 0);
+    refused_cut(0, falling, 2, 23, 0);
+    refused_cut(0, equal, 2, 23, 0);
+    refused_cut(0, zero, 2, 23, 0);
+    refused_cut(0, absent, 3, 23, 0);
+    refused_cut(0, far, 1, 23, 0);
+    refused_cut(1, both_pages, 2, 11, file.length - 1);
+    refused_cut(1, NULL, 0, 11, file.length - 1);
 }
 
 /* The first packet's flag stands at 19, its length and its code behind; the second's flag at 30. */
@@ -339,6 +432,11 @@ static void nothing_lent(void)
     code = hurlyburn_width_table(no_packets, sizeof no_packets, SCALE, NULL, 0, answer.number, HURLYBURN_WIDTH_TABLE_NUMBERS);
     expect(code == 0 && answer.number[0] == 0, "a font without packets has records", "widths", 0);
     expect(hurlyburn_width_table(NULL, 0, 0, NULL, 0, NULL, 0) == HURLYBURN_ARRAY_TOO_SHORT, "an array of none is not 255", "widths", 0);
+    code = hurlyburn_cut_pages(NULL, 0, NULL, 0, NULL, 0, answer.number, HURLYBURN_CUT_NUMBERS);
+    expect(code == 2 && answer.number[0] == 0, "the empty file is not 2 at 0", "cut", 0);
+    code = hurlyburn_cut_pages(file.bytes, file.length, both_pages, 2, NULL, 0, answer.number, HURLYBURN_CUT_NUMBERS);
+    expect(code == 17 && answer.number[0] == 0, "an area of no bytes is not 17", "cut", 0);
+    expect(hurlyburn_cut_pages(NULL, 0, NULL, 0, NULL, 0, NULL, 0) == HURLYBURN_ARRAY_TOO_SHORT, "an array of none is not 255", "cut", 0);
     expect(hurlyburn_check_file(file.bytes, file.length, NULL, 0) == HURLYBURN_ARRAY_TOO_SHORT, "an array of none is not 255", "check", 0);
 }
 
@@ -355,9 +453,13 @@ int main(int count, char **words)
             every_length(&calls[i], less);
     placed_areas();
     tabled_areas();
+    cut_areas(&cutting[0], 2);
+    cut_areas(&cutting[1], 1);
+    cut_edges();
     refused_place(0, PAGE, 12);
     refused_place(RESOLUTION, 0, 15);
     every_refusal_of_widths();
+    every_refusal_of_cut();
     far_font();
     nothing_lent();
     printf("%u passed, %u failed\n", passed, failed);

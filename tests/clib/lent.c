@@ -50,6 +50,11 @@ int lend_sparse(size_t length, const uint8_t *front, size_t front_length, const 
     return 1;
 }
 
+int lend_copy(const void *bytes, size_t length, struct input *input)
+{
+    return lend_sparse(length, bytes, length, bytes, 0, input);
+}
+
 void take_back(struct input *input)
 {
     munmap(input->memory, input->memory_length);
@@ -70,6 +75,26 @@ void lend_output(size_t length, struct output *output)
 void take_output_back(struct output *output)
 {
     free(output->memory);
+}
+
+int lend_edge(size_t length, struct edge *edge)
+{
+    size_t pages = (length + PAGE - 1) / PAGE * PAGE;
+    uint8_t *memory = mmap(NULL, pages + PAGE, PROT_READ | PROT_WRITE, MAP_PRIVATE | MAP_ANONYMOUS, -1, 0);
+    if (memory == MAP_FAILED)
+        return 0;
+    memset(memory, UNTOUCHED_BYTE, pages);
+    *edge = (struct edge){memory + pages - length, length, memory, pages + PAGE};
+    if (mprotect(memory + pages, PAGE, PROT_NONE)) {
+        take_edge_back(edge);
+        return 0;
+    }
+    return 1;
+}
+
+void take_edge_back(struct edge *edge)
+{
+    munmap(edge->memory, edge->memory_length);
 }
 
 /* The first byte is, and each is the one before it: a comparison that the C library does quickly. */

@@ -21,6 +21,8 @@ struct input {
 int lend_file(const char *name, struct input *input);
 /* So many bytes, all 0 but the first and the last, which are given. They take address space, and hardly any memory. 0 if there is none. */
 int lend_sparse(size_t length, const uint8_t *front, size_t front_length, const uint8_t *end, size_t end_length, struct input *input);
+/* A copy of so many bytes. 0 if there is no memory. */
+int lend_copy(const void *bytes, size_t length, struct input *input);
 void take_back(struct input *input);
 
 struct output {
@@ -34,6 +36,17 @@ void lend_output(size_t length, struct output *output);
 void take_output_back(struct output *output);
 /* Whether nothing outside the first so many bytes was written. */
 int only_front_written(const struct output *output, size_t front);
+
+/* Bytes that all hold UNTOUCHED_BYTE, the last of them before memory that can neither be read nor written. */
+struct edge {
+    uint8_t *bytes;
+    size_t length;
+    void *memory;
+    size_t memory_length;
+};
+
+int lend_edge(size_t length, struct edge *edge);
+void take_edge_back(struct edge *edge);
 
 #define MOST_NUMBERS 10
 

@@ -24,6 +24,21 @@ def filled(make, length=LONGEST):
     return data
 
 
+def filled_up(data):
+    """A file whose 223s fill up to a multiple of four, as that of chosen pages has them."""
+    data = data.rstrip(bytes([dvi.TAIL]))
+    return data + bytes([dvi.TAIL]) * (4 + -len(data) % 4)
+
+
+def in_rows(data):
+    """The answer that gives a file of chosen pages: 32 bytes a row."""
+    return b"".join(b"%s\n" % data[at : at + 32].hex().encode() for at in range(0, len(data), 32)) + b"end %d" % len(data)
+
+
+def cut(file, area, pages):
+    return b" ".join([b"cut", file, b"%d" % area, *(b"%d" % page for page in pages)])
+
+
 def fonts(count, name_length):
     return [dvi.Font(n, 1000 + n, 655_360 + n, name=bytes([97 + n % 26]) * name_length, area=bytes([65 + n % 26]) * name_length)
             for n in range(count)]
@@ -56,8 +71,11 @@ def three_pages_apart(keep):
         (b"place %s %s 300 3 19" % (file, empty), b"refused 17 at 0"),
         (b"place %s %s 300 4 20" % (file, empty), b"refused 15 at 0"),
     ]
+    yield from cut_long(keep, data, defined)
     longer = keep(filled(make, LONGEST + 1))
     yield "a byte too long", [
+        (cut(longer, 0, []), b"refused 1 at 0"),
+        (cut(longer, LONGEST + 4, [1, 2, 3]), b"refused 1 at 0"),
         (b"check %s" % longer, b"refused 1 at 0"),
         (b"name %s 0" % longer, b"refused 1 at 0"),
         (b"spell %s 0" % longer, b"refused 1 at 0"),
@@ -66,6 +84,33 @@ def three_pages_apart(keep):
     ]
     yield "far too long", [(b"check %s" % keep(bytes(17 << 20)), b"refused 1 at 0")]
     yield from damaged_at(keep, data, start)
+
+
+def cut_long(keep, data, defined):
+    """Chosen pages of the longest file. Its definitions, which stand before the third page, come before the first; the nops between pages go."""
+    file = keep(data)
+    commands, _ = dvi.commands_of(data)
+    pages = [[*dvi.page([command])] for command in commands if command[0] == dvi.XXX1 + 3] + [[*dvi.page([dvi.right(1000), MARK])]]
+    definitions = [font.definition() for font in defined]
+    questions = []
+    for chosen in ([1, 2, 3], [2, 3], [1], [3]):
+        new = filled_up(dvi.volume(PLAIN_UNITS, [*definitions, *(command for page in chosen for command in pages[page - 1])], defined))
+        questions += [
+            (cut(file, len(new), chosen), in_rows(new)),
+            (cut(file, len(new) - 1, chosen), b"refused 17 at 0"),
+        ]
+    yield "chosen pages of the longest file", questions + [
+        (cut(file, 0, [1, 2, 3, 4]), b"refused 23 at 0"),
+        (cut(file, LONGEST + 3, []), b"refused 23 at 0"),
+        (cut(keep(data[:-1]), 0, []), b"refused 11 at %d" % (LONGEST - 1)),
+    ]
+    short = filled(lambda filling: dvi.volume(PLAIN_UNITS, dvi.page([dvi.special(bytes([dvi.TAIL]) * filling, 4)])), LONGEST - 3)
+    longer = filled_up(short)
+    yield "three bytes more", [
+        (cut(keep(short), LONGEST, [1]), in_rows(longer)),
+        (cut(keep(short), LONGEST - 1, [1]), b"refused 17 at 0"),
+        (cut(keep(longer), LONGEST, [1]), in_rows(longer)),
+    ]
 
 
 def damaged_at(keep, data, post):
@@ -124,6 +169,22 @@ def many_pages(keep):
         (b"place %s %s 100 65534 20" % (file, empty), b"end 0 0 0"),
         (b"place %s %s 100 65536 20" % (file, empty), b"refused 15 at 0"),
         (b"check %s" % keep(more), b"refused 10 at %d" % (len(more) - 39)),
+    ]
+    every = range(1, MOST_PAGES + 1)
+    all_pages, odd_pages, first_page, last_page = (filled_up(new) for new in (
+        make(MOST_PAGES), make(MOST_PAGES // 2 + 1), dvi.volume(PLAIN_UNITS, dvi.page([])), make(1)))
+    yield "many chosen pages", [
+        (cut(file, len(all_pages), every), in_rows(all_pages)),
+        (cut(file, len(all_pages) - 1, every), b"refused 17 at 0"),
+        (cut(file, len(odd_pages), every[::2]), in_rows(odd_pages)),
+        (cut(file, len(odd_pages) - 1, every[::2]), b"refused 17 at 0"),
+        (cut(file, len(first_page), [1]), in_rows(first_page)),
+        (cut(file, len(last_page), [MOST_PAGES]), in_rows(last_page)),
+        (cut(file, len(last_page) - 1, [MOST_PAGES]), b"refused 17 at 0"),
+        (cut(file, 0, [*every, MOST_PAGES + 1]), b"refused 23 at 0"),
+        (cut(file, 0, [*every, MOST_PAGES]), b"refused 23 at 0"),
+        (cut(file, 0, every[::-1]), b"refused 23 at 0"),
+        (cut(keep(more), 0, []), b"refused 10 at %d" % (len(more) - 39)),
     ]
 
 

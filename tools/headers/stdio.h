@@ -11,6 +11,7 @@ int fseek(FILE *file, long offset, int from);
 long ftell(FILE *file);
 int fflush(FILE *file);
 int puts(const char *text);
+int putchar(int byte);
 int printf(const char *form, ...) __attribute__((format(printf, 1, 2)));
 int fprintf(FILE *file, const char *form, ...) __attribute__((format(printf, 2, 3)));
 long getline(char **line, size_t *length, FILE *file);

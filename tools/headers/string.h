@@ -6,5 +6,6 @@ void *memcpy(void *restrict to, const void *restrict from, size_t length);
 void *memset(void *to, int byte, size_t length);
 int memcmp(const void *one, const void *other, size_t length);
 int strcmp(const char *one, const char *other);
+int strncmp(const char *one, const char *other, size_t length);
 char *strchr(const char *text, int character);
 #endif
