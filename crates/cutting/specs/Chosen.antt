@@ -4,7 +4,7 @@ use mathlib.Core.Bool.{Bool, true, false, not, _&&_, _||_}
 use mathlib.Core.List.{List, [], _∷_}
 use lib.Dec.{ltb, leb, eqb}
 
--- whether a page is one of the list's (rule 12.1)
+-- whether a page is one of the list's (rule 12.3)
 abbrev pub isIn : List ℕ → ℕ → Bool
 isIn [] page = false
 isIn (p ∷ list) page = eqb p page || isIn list page

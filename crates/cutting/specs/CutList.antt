@@ -1,4 +1,4 @@
--- The list of commands of a file of chosen pages, made from the old file's own list. Both have the newest first. Assumes nothing.
+-- The commands of a file of chosen pages, out of those of the old file. In both lists the newest is first. Assumes nothing.
 use Prim.Native.Nat.{ℕ, _+_, _-_, _%_}
 use mathlib.Core.Bool.{Bool, false, cond, not, _&&_, _||_}
 use mathlib.Core.List.{List, [], _∷_, _++_}
@@ -59,7 +59,7 @@ cutAfter first chosen [] = first
 cutAfter first chosen (c ∷ past) =
     let before = cutAfter first chosen past in cond (stays chosen past c) (mended before c ∷ before) before
 
--- the new list up to post_post (rule 12.5)
+-- the new list up to post_post (rules 12.2 to 12.4)
 abbrev pub cutPast : (ℕ → Bool) → List Command → List Command
 cutPast chosen old = cutAfter (opening old) chosen old
 

@@ -11,6 +11,7 @@ use Rattle.numbers.specs.Bytes.{bytesOf}
 use Rattle.commands.specs.declared.Kind.{Kind}
 use Rattle.commands.specs.declared.Kind.the-variants.{Bop, Eop, Define, Pre, Post, PostPost}
 use Rattle.commands.specs.Kinds.{is}
+use Rattle.commands.specs.Fields.{bopPointer, postPointer, postDepth, postPages, endPointer, endIdentification}
 use Rattle.commands.specs.Commands.{Command, form, place}
 use Rattle.list.specs.Past.{depthAfter, greatest, pages}
 use Rattle.list.specs.Lawful.{Lawful}
@@ -108,12 +109,16 @@ madeOpened size m = record { from = m .from; opened = m .opened + size; size = m
 -- a command's bytes with other numbers in them: pointers to a bop or to post, depth and pages
 abbrev pub mendedForm : Kind → ℕ → ℕ → ℕ → ℕ → List ℕ → List ℕ
 mendedForm kind bop post greatest pages bytes =
-    cond (is kind Bop) (sets bytes 41 (bytesOf 4 bop))
-    (cond (is kind Post) (sets (sets (sets bytes 1 (bytesOf 4 bop)) 25 (bytesOf 2 greatest)) 27 (bytesOf 2 pages)) (sets bytes 1 (bytesOf 4 post)))
+    cond (is kind Bop) (sets bytes (1 + bopPointer .at) (bytesOf 4 bop))
+    (cond (is kind Post)
+    (sets (sets (sets bytes (1 + postPointer .at) (bytesOf 4 bop)) (1 + postDepth .at) (bytesOf 2 greatest)) (1 + postPages .at) (bytesOf 2 pages))
+    (sets bytes (1 + endPointer .at) (bytesOf 4 post)))
 
--- how many bytes such a command has
+-- how many bytes such a command has: up to the end of its last field
 abbrev pub mendedSize : Kind → ℕ
-mendedSize kind = cond (is kind Bop) 45 (cond (is kind Post) 29 6)
+mendedSize kind =
+    cond (is kind Bop) (1 + bopPointer .at + bopPointer .size)
+    (cond (is kind Post) (1 + postPages .at + postPages .size) (1 + endIdentification .at + endIdentification .size))
 
 -- after a command that is mended, of so many bytes
 abbrev pub madeMended : Kind → ℕ → Made → Made
