@@ -1,34 +1,33 @@
 -- What the walk that counts holds, command by command. Assumes nothing.
 use Prim.Native.Nat.{ℕ, _+_, _-_, _≤_, _<_, _^_, max}
-use mathlib.Core.Path.{_≡_, refl, sym, ap, ap₂, _∙_, subst}
+use mathlib.Core.Path.{_≡_, refl, sym, ap, _∙_, subst}
 use mathlib.Core.Bool.{Bool, true, false, cond, _&&_}
 use mathlib.Core.List.{List, [], _∷_}
 use native.Mathlib.Omega.{arith}
 use lib.ListN.{length, drop, length-drop}
 use Rattle.commands.specs.declared.Kind.{Kind}
-use Rattle.commands.specs.declared.Kind.the-variants.{Bop, Eop, Post, PostPost, Push, Pop}
+use Rattle.commands.specs.declared.Kind.the-variants.{Bop, Eop, Post, PostPost}
 use Rattle.commands.specs.Kinds.{is}
 use Rattle.commands.specs.Commands.{Command, kindOfCommand, Whole, form, whole, front, place}
 use Rattle.commands.proofs.Fronts.{front-length}
 use Rattle.list.specs.Past.{isA, depth, depthAfter, greatest}
 use Rattle.list.specs.Lawful.{Lawful}
 use Rattle.volume.specs.History.{history}
-use Rattle.volume.specs.Steps.{isPlain, Passes, none-more, one-more}
 use Rattle.volume.proofs.Bounds.{depth-reached}
-use Rattle.volume.proofs.Going.{forward}
 use Rattle.cutting.specs.declared.Spot.{Spot}
+use Rattle.cutting.specs.declared.Run.{Run}
 use Rattle.cutting.specs.declared.Fate.{Fate}
 use Rattle.cutting.specs.declared.Fate.the-variants as Fate
 use Rattle.cutting.specs.declared.Counted.{Counted}
 use Rattle.cutting.specs.Chosen.{isIn, risesFrom}
 use Rattle.cutting.specs.CutList.{opening, mended, cutAfter}
-use Rattle.cutting.specs.Steps.{atStart, spotAfter, fateOf, RunTo, runCounted, oneKept, countedAfter, CountsAll}
+use Rattle.cutting.specs.Steps.{atStart, spotAfter, fateOf, isIdle, runAt, runAfter, Runs, runs-none, runs-on, RunTo, runCounted, oneKept, countedAfter, CountsAll}
 use Rattle.cutting.proofs.Walks.{Walk, Met, starting, met}
 use Rattle.cutting.proofs.Standing.{Stands, stands-first, stands-on}
 use Rattle.cutting.proofs.Becoming.{IsMended, Becomes, becomes}
 use Rattle.cutting.proofs.MendedForms.{mended-length}
 use Rattle.cutting.proofs.Growing.{opening-bare}
-use Rattle.cutting.proofs.PlainRuns.{Idle, idle}
+use Rattle.cutting.proofs.IdleRuns.{Idle, idle, depth-after, runs-ahead}
 
 module _ (file list : List ℕ) where
   abbrev first : List Command
@@ -78,14 +77,6 @@ module _ (file list : List ℕ) where
     depth-fits : (next : ℕ) → next ≤ m .depth + 1 → next ≤ at + size
     depth-fits next h = omega (arith, k .shallow)
 
-    after-small : (kind : Kind) → depthAfter kind (m .depth) ≤ m .depth + 1
-    after-small kind = by (is kind Push) (is kind Pop)
-      where
-        by : (push pop : Bool) → cond push (m .depth + 1) (cond pop (m .depth - 1) (m .depth)) ≤ m .depth + 1
-        by true pop = omega arith
-        by false true = omega arith
-        by false false = omega arith
-
     -- a command that stays, as it is or mended
     kept : (d : Command) → d .opcode ≡ c .opcode → length (d .params) ≡ length (c .params) → opening (c ∷ past) ≡ opening past → new (c ∷ past) ≡ d ∷ new past
         → Counts (at + size) (c ∷ past) (oneKept (kindOfCommand c) size m)
@@ -97,7 +88,7 @@ module _ (file list : List ℕ) where
           depth-is = rw is (sym deep);
           greatest-is = rw (is, deep, ← k .greatest-is) refl;
           short = omega (arith, k .short);
-          shallow = depth-fits _ (after-small (kindOfCommand c));
+          shallow = depth-fits _ (depth-after (kindOfCommand c) (m .depth));
         }
 
     -- one more command, by its fate
@@ -153,60 +144,65 @@ module _ (file list : List ℕ) where
           small = omega (arith, n .short, opened, all, front-length (drop at file) c bytes f, length-drop at file);
         }
 
-  -- ---- runs of plain commands
+  -- ---- runs of plain commands, pushes, pops and selections
 
   module _ {at : ℕ} {p : Spot} {m : Counted} (k : Counting at p m) (c : Command) (bytes : List ℕ) (f : front (drop at file) ≡ whole c bytes)
-      (on : p .on ≡ true) (plain : isPlain (kindOfCommand c) ≡ true) where
+      (on : p .on ≡ true) (t : isIdle (kindOfCommand c) ≡ true) where
     idles : Idle list p (kindOfCommand c)
-    idles = idle list p (kindOfCommand c) plain
+    idles = idle list p (kindOfCommand c) t
 
     abbrev length-there : ℕ
     length-there = 1 + length (c .params)
 
-    -- no deeper
-    as-deep : max (m .greatest) (m .depth) ≡ m .greatest
-    as-deep = omega (arith, k .counts .depth-is, k .counts .greatest-is, depth-reached (new (k .past)))
-
-    -- what is counted of it
-    one-plain : (here : Bool) → p .here ≡ here → countedAfter (fateOf (kindOfCommand c) (p .here) p) (kindOfCommand c) length-there m ≡ runCounted (p .here) length-there m
-    one-plain true h =
-        rw (idles .same-fate (p .here), on, h)
-        (ap₂ (λ (d g : ℕ). record { opened = m .opened; kept = m .kept + length-there; depth = d; greatest = g }) (idles .same-depth (m .depth))
-        (ap (max (m .greatest)) (idles .same-depth (m .depth)) ∙ as-deep))
-    one-plain false h = rw (idles .same-fate (p .here), on, h) refl
-
-    plain-on : Counting (at + length-there) p (runCounted (p .here) length-there m)
-    plain-on =
+    -- one of them stays on a chosen page
+    idle-on : Counting (at + length-there) p (cond (p .here) (oneKept (kindOfCommand c) length-there m) m)
+    idle-on =
         let next = counting-on k c bytes f (idles .not-last) in
-        subst (Counting (at + length-there) p) (one-plain (p .here) refl)
+        subst (Counting (at + length-there) p) (counts-as (p .here) refl)
         (subst (λ (q : Spot). Counting (at + length-there) q (countedAfter (fateOf (kindOfCommand c) (q .here) p) (kindOfCommand c) length-there m)) (idles .same-spot) next)
+      where
+        counts-as : (here : Bool) → p .here ≡ here
+            → countedAfter (fateOf (kindOfCommand c) (p .here) p) (kindOfCommand c) length-there m ≡ cond here (oneKept (kindOfCommand c) length-there m) m
+        counts-as true h = rw (idles .same-fate (p .here), on, h) refl
+        counts-as false h = rw (idles .same-fate (p .here), on, h) refl
 
-  -- two runs are one
-  runs-joined : (here : Bool) (from middle size : ℕ) (m : Counted) → from ≤ middle → runCounted here size (runCounted here (middle - from) m) ≡ runCounted here (middle + size - from) m
-  runs-joined true from middle size m h =
-      let e : m .kept + (middle - from) + size ≡ m .kept + (middle + size - from) = omega arith in
-      ap (λ (n : ℕ). record { opened = m .opened; kept = n; depth = m .depth; greatest = m .greatest }) e
-  runs-joined false from middle size m h = refl
+  -- where a run starts
+  abbrev runStart : ℕ → Counted → Run
+  runStart at m = runAt at (m .depth) (m .greatest)
 
-  no-run : (here : Bool) (at : ℕ) (m : Counted) → m ≡ runCounted here (at - at) m
+  -- a run with one more command
+  run-joined : (here : Bool) (at : ℕ) (m : Counted) (kind : Kind) (size : ℕ) (r : Run) → at ≤ r .at
+      → cond here (oneKept kind size (runCounted here at r m)) (runCounted here at r m) ≡ runCounted here at (runAfter kind size r) m
+  run-joined true at m kind size r h =
+      let e : m .kept + (r .at - at) + size ≡ m .kept + (r .at + size - at) = omega arith in
+      ap (λ (n : ℕ). record { opened = m .opened; kept = n; depth = depthAfter kind (r .depth); greatest = max (r .greatest) (depthAfter kind (r .depth)) }) e
+  run-joined false at m kind size r h = refl
+
+  -- a run without commands
+  no-run : (here : Bool) (at : ℕ) (m : Counted) → m ≡ runCounted here at (runStart at m) m
   no-run true at m =
       let e : m .kept ≡ m .kept + (at - at) = omega arith in
       ap (λ (n : ℕ). record { opened = m .opened; kept = n; depth = m .depth; greatest = m .greatest }) e
   no-run false at m = refl
 
-  counting-passed : {at next : ℕ} {p : Spot} {m : Counted} → Counting at p m → p .on ≡ true → Passes file at next → Counting next p (runCounted (p .here) (next - at) m)
-  counting-passed {at = at} {p = p} {m = m} k on none-more = subst (Counting at p) (no-run (p .here) at m) k
-  counting-passed {at = at} {p = p} {m = m} k on (one-more {at = middle} c bytes passed f plain) =
-      let before = counting-passed k on passed in
-      subst (Counting (middle + (1 + length (c .params))) p) (runs-joined (p .here) at middle (1 + length (c .params)) m (forward passed)) (plain-on before c bytes f on plain)
+  -- a run on a page
+  counting-runs : {at : ℕ} {p : Spot} {m : Counted} {r : Run} → Counting at p m → p .on ≡ true → Runs file (runStart at m) r → Counting (r .at) p (runCounted (p .here) at r m)
+  counting-runs {at = at} {p = p} {m = m} k on runs-none = subst (Counting at p) (no-run (p .here) at m) k
+  counting-runs {at = at} {p = p} {m = m} k on (runs-on {r = r} c bytes run f t) =
+      subst (Counting (r .at + (1 + length (c .params))) p) (run-joined (p .here) at m (kindOfCommand c) (1 + length (c .params)) r (runs-ahead run))
+      (idle-on (counting-runs k on run) c bytes f on t)
 
-  -- a run of plain commands
-  pub counting-run : {at next : ℕ} {p : Spot} {m : Counted} → Counting at p m → RunTo file (p .on) at next → Counting next p (runCounted (p .here) (next - at) m)
-  counting-run {at = at} {next = next} {p = p} {m = m} k run = by (p .on) refl run
+  -- a run, on a page or elsewhere
+  pub counting-run : {at : ℕ} {p : Spot} {m : Counted} → Counting at p m → (r : Run) → RunTo file (p .on) (runStart at m) r → Counting (r .at) p (runCounted (p .here) at r m)
+  counting-run {at = at} {p = p} {m = m} k r run = by (p .on) refl run
     where
-      by : (on : Bool) → p .on ≡ on → RunTo file on at next → Counting next p (runCounted (p .here) (next - at) m)
-      by true on passed = counting-passed k on passed
+      by : (on : Bool) → p .on ≡ on → RunTo file on (runStart at m) r → Counting (r .at) p (runCounted (p .here) at r m)
+      by true on runs = counting-runs k on runs
       by false on same = rw same (subst (Counting at p) (no-run (p .here) at m) k)
+
+  -- the depth is one that was reached
+  pub counted-deep : {at : ℕ} {p : Spot} {m : Counted} → Counting at p m → m .depth ≤ m .greatest
+  counted-deep k = omega (arith, k .counts .depth-is, k .counts .greatest-is, depth-reached (new (k .past)))
 
   -- the same walk in other words
   pub counting-same : {at there : ℕ} {p q : Spot} {m n : Counted} → at ≡ there → p ≡ q → m ≡ n → Counting there q n → Counting at p m

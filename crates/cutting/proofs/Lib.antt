@@ -6,7 +6,7 @@ pub mod Standing
 pub mod Becoming
 pub mod MendedForms
 pub mod Growing
-pub mod PlainRuns
+pub mod IdleRuns
 pub mod CountLaws
 pub mod WriteLaws
 pub mod WriteTurns

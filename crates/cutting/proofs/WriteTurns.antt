@@ -14,24 +14,23 @@ use Rattle.commands.specs.Commands.{Command, kindOfCommand, Whole, form, whole,
 use Rattle.commands.proofs.Fronts.{front-length}
 use Rattle.list.specs.Past.{isA, greatest, pages, lastBop, postPlace}
 use Rattle.volume.specs.History.{history}
-use Rattle.volume.specs.Steps.{isPlain, Passes, none-more, one-more}
 use Rattle.volume.proofs.Bounds.{post-small}
-use Rattle.volume.proofs.Going.{forward}
 use Rattle.areas.proofs.Pasting.{sets-behind}
 use Rattle.cutting.specs.declared.Spot.{Spot}
+use Rattle.cutting.specs.declared.Run.{Run}
 use Rattle.cutting.specs.declared.Fate.{Fate}
 use Rattle.cutting.specs.declared.Fate.the-variants as Fate
 use Rattle.cutting.specs.declared.Counted.{Counted}
 use Rattle.cutting.specs.declared.Made.{Made}
 use Rattle.cutting.specs.Chosen.{isIn}
 use Rattle.cutting.specs.CutList.{opening, stays, mended, cutAfter, cutPast}
-use Rattle.cutting.specs.Steps.{nextChosen, atStart, spotAfter, fateOf, RunTo, formsOf, between, madeCopied, areaCopied, mendedSize, madeAfter, areaTurned, RoomToCopy, RoomToTurn, Writable}
+use Rattle.cutting.specs.Steps.{nextChosen, atStart, spotAfter, fateOf, isIdle, runAt, Runs, runs-none, runs-on, RunTo, formsOf, between, madeCopied, areaCopied, mendedSize, madeAfter, areaTurned, RoomToCopy, RoomToTurn, Writable}
 use Rattle.cutting.proofs.Walks.{Walk, Met, starting, met, inside}
 use Rattle.cutting.proofs.Standing.{Stands, stands-first, stands-on, next-chosen}
 use Rattle.cutting.proofs.Becoming.{IsMended, Becomes, becomes}
 use Rattle.cutting.proofs.MendedForms.{mended-size, mended-length}
 use Rattle.cutting.proofs.Growing.{opening-grows, cut-grows, post-greatest, opening-bare}
-use Rattle.cutting.proofs.PlainRuns.{Idle, idle}
+use Rattle.cutting.proofs.IdleRuns.{Idle, idle, runs-ahead}
 use Rattle.cutting.proofs.WriteLaws.{forms-length, between-on, between-form, between-none, Written, place-is, area-length, dropped, to-copy, to-opening, to-mend}
 
 -- the walk at a place
@@ -229,7 +228,7 @@ module _ (file list : List ℕ) (counted : Counted) (entry : List ℕ) (w : Writ
           ∙ sets-behind entry 0 (formsOf first) (d .written)
           ∙ ap (sets entry 0) (sym all)
 
-  -- ---- runs of plain commands
+  -- ---- runs of plain commands, pushes, pops and selections
 
   -- what a run of them adds to the commands so far
   record Ran (p : Spot) (from at : ℕ) (before : List Command) : Type 0 where
@@ -258,32 +257,32 @@ module _ (file list : List ℕ) (counted : Counted) (entry : List ℕ) (w : Writ
       }
 
   module _ {p : Spot} {from at : ℕ} {before : List Command} (r : Ran p from at before) (on : p .on ≡ true) (c : Command) (bytes : List ℕ)
-      (f : front (drop at file) ≡ whole c bytes) (plain : isPlain (kindOfCommand c) ≡ true) (ahead : from ≤ at) where
-    abbrev plain-there : Met file at (r .later) c
-    plain-there = met (r .walk) c bytes f
+      (f : front (drop at file) ≡ whole c bytes) (t : isIdle (kindOfCommand c) ≡ true) (ahead : from ≤ at) where
+    abbrev idle-there : Met file at (r .later) c
+    idle-there = met (r .walk) c bytes f
 
     idles : Idle list p (kindOfCommand c)
-    idles = idle list p (kindOfCommand c) plain
+    idles = idle list p (kindOfCommand c) t
 
     fate-is : (here : Bool) → p .here ≡ here → fateOf (kindOfCommand c) (spotAfter list (kindOfCommand c) p .here) p ≡ cond here Fate.Copied Fate.Dropped
     fate-is here h =
         ap (λ (q : Spot). fateOf (kindOfCommand c) (q .here) p) (idles .same-spot) ∙ idles .same-fate (p .here) ∙ ap₂ (λ (a b : Bool). cond (a && b) Fate.Copied Fate.Dropped) on h
 
-    becomes-plain : (here : Bool) → p .here ≡ here → Becomes first list (r .later) c (cond here Fate.Copied Fate.Dropped)
-    becomes-plain here h = subst (Becomes first list (r .later) c) (fate-is here h) (becomes first list (plain-there .allowed) (r .stands))
+    becomes-idle : (here : Bool) → p .here ≡ here → Becomes first list (r .later) c (cond here Fate.Copied Fate.Dropped)
+    becomes-idle here h = subst (Becomes first list (r .later) c) (fate-is here h) (becomes first list (idle-there .allowed) (r .stands))
 
     stands-still : Stands list (c ∷ r .later) p
-    stands-still = subst (Stands list (c ∷ r .later)) (idles .same-spot) (stands-on (plain-there .allowed) (r .stands) (idles .not-last))
+    stands-still = subst (Stands list (c ∷ r .later)) (idles .same-spot) (stands-on (idle-there .allowed) (r .stands) (idles .not-last))
 
-    one-plain : Ran p from (at + (1 + length (c .params))) before
-    one-plain = by (p .here) refl
+    one-idle : Ran p from (at + (1 + length (c .params))) before
+    one-idle = by (p .here) refl
       where
         by : (here : Bool) → p .here ≡ here → Ran p from (at + (1 + length (c .params))) before
         by true h =
-            let (same, news, bop, post) = becomes-plain true h in
+            let (same, news, bop, post) = becomes-idle true h in
             record {
               later = c ∷ r .later;
-              walk = plain-there .onward (idles .not-last);
+              walk = idle-there .onward (idles .not-last);
               stands = stands-still;
               same-opening = same ∙ r .same-opening;
               kept = λ here.
@@ -297,10 +296,10 @@ module _ (file list : List ℕ) (counted : Counted) (entry : List ℕ) (w : Writ
               gone = λ no-here. absurd (true≢false (sym h ∙ no-here));
             }
         by false h =
-            let (same, news) = becomes-plain false h in
+            let (same, news) = becomes-idle false h in
             record {
               later = c ∷ r .later;
-              walk = plain-there .onward (idles .not-last);
+              walk = idle-there .onward (idles .not-last);
               stands = stands-still;
               same-opening = same ∙ r .same-opening;
               kept = λ here. absurd (true≢false (sym here ∙ h));
@@ -310,33 +309,35 @@ module _ (file list : List ℕ) (counted : Counted) (entry : List ℕ) (w : Writ
               gone = λ no-here. news ∙ r .gone no-here;
             }
 
-  ran : {p : Spot} {from at : ℕ} {before : List Command} → p .on ≡ true → Walk file from before → Stands list before p → Passes file from at → Ran p from at before
-  ran on walk stands none-more = no-run walk stands
-  ran on walk stands (one-more c bytes passed f plain) = one-plain (ran on walk stands passed) on c bytes f plain (forward passed)
+  ran : {p : Spot} {from r : Run} {before : List Command} → p .on ≡ true → Walk file (from .at) before → Stands list before p → Runs file from r → Ran p (from .at) (r .at) before
+  ran on walk stands runs-none = no-run walk stands
+  ran on walk stands (runs-on c bytes run f t) = one-idle (ran on walk stands run) on c bytes f t (runs-ahead run)
 
-  -- a run of plain commands
-  pub writing-run : {at next : ℕ} {p : Spot} {m : Made} {out : List ℕ} → Writing file list entry at p m out → RunTo file (p .on) at next
-      → Writing file list entry next p (cond (p .here) m (madeCopied at next m)) (cond (p .here) out (areaCopied file at m out))
-  writing-run {at = at} {next = next} {p = p} {m = m} {out = out} k run = by (p .here) refl (over (p .on) refl run)
+  -- a run, on a page or elsewhere
+  pub writing-run : {at : ℕ} {p : Spot} {m : Made} {out : List ℕ} → Writing file list entry at p m out
+      → (depth greatest : ℕ) (r : Run) → RunTo file (p .on) (runAt at depth greatest) r
+      → Writing file list entry (r .at) p (cond (p .here) m (madeCopied at (r .at) m)) (cond (p .here) out (areaCopied file at m out))
+  writing-run {at = at} {p = p} {m = m} {out = out} k depth greatest r run = by (p .here) refl (over (p .on) refl run)
     where
-      over : (on : Bool) → p .on ≡ on → RunTo file on at next → Ran p at next (k .past) × (at ≤ next)
-      over true on passed = (ran on (k .walk) (k .stands) passed, forward passed)
+      over : (on : Bool) → p .on ≡ on → RunTo file on (runAt at depth greatest) r → Ran p at (r .at) (k .past) × (at ≤ r .at)
+      over true on runs = (ran on (k .walk) (k .stands) runs, runs-ahead runs)
       over false on same = rw same (no-run (k .walk) (k .stands), omega arith)
 
-      by : (here : Bool) → p .here ≡ here → Ran p at next (k .past) × (at ≤ next) → Writing file list entry next p (cond here m (madeCopied at next m)) (cond here out (areaCopied file at m out))
-      by true h (r, high) =
+      by : (here : Bool) → p .here ≡ here → Ran p at (r .at) (k .past) × (at ≤ r .at)
+          → Writing file list entry (r .at) p (cond here m (madeCopied at (r .at) m)) (cond here out (areaCopied file at m out))
+      by true h (n, high) =
           record {
-            past = r .later;
-            walk = r .walk;
-            stands = r .stands;
-            done = to-copy file list entry first (k .done) next (r .later) high (r .same-opening) (r .kept h) (r .same-bop) (r .same-post) (r .same-pages);
+            past = n .later;
+            walk = n .walk;
+            stands = n .stands;
+            done = to-copy file list entry first (k .done) (r .at) (n .later) high (n .same-opening) (n .kept h) (n .same-bop) (n .same-post) (n .same-pages);
           }
-      by false h (r, high) =
+      by false h (n, high) =
           record {
-            past = r .later;
-            walk = r .walk;
-            stands = r .stands;
-            done = dropped file list entry first (k .done) next (r .later) (omega (arith, inside (k .walk))) (r .same-opening) (r .gone h);
+            past = n .later;
+            walk = n .walk;
+            stands = n .stands;
+            done = dropped file list entry first (k .done) (r .at) (n .later) (omega (arith, inside (k .walk))) (n .same-opening) (n .gone h);
           }
 
   -- the same walk in other words

@@ -3,21 +3,22 @@ use Prim.Native.Nat.{ℕ, _+_, _-_, _≤_, max}
 use mathlib.Core.Path.{_≡_}
 use mathlib.Core.Bool.{Bool, true, false, cond, _&&_, _||_}
 use mathlib.Core.List.{List, [], _∷_, _++_}
-use lib.Dec.{ltb, eqb}
+use lib.Dec.{ltb, leb, eqb}
 use lib.ListN.{length, getD, take, drop}
 use lib.Seq.{sets}
 use Rattle.refusals.specs.Answer.{Answer, given, refusal}
 use Rattle.numbers.specs.Bytes.{bytesOf}
 use Rattle.commands.specs.declared.Kind.{Kind}
-use Rattle.commands.specs.declared.Kind.the-variants.{Bop, Eop, Define, Pre, Post, PostPost}
+use Rattle.commands.specs.declared.Kind.the-variants.{Bop, Eop, Push, Pop, Select, Define, Pre, Post, PostPost}
 use Rattle.commands.specs.Kinds.{is}
 use Rattle.commands.specs.Fields.{bopPointer, postPointer, postDepth, postPages, endPointer, endIdentification}
-use Rattle.commands.specs.Commands.{Command, form, place}
+use Rattle.commands.specs.Commands.{Command, kindOfCommand, form, whole, front, place}
 use Rattle.list.specs.Past.{depthAfter, greatest, pages}
 use Rattle.list.specs.Lawful.{Lawful}
 use Rattle.volume.specs.History.{history}
-use Rattle.volume.specs.Steps.{Passes}
+use Rattle.volume.specs.Steps.{isPlain}
 use Rattle.cutting.specs.declared.Spot.{Spot}
+use Rattle.cutting.specs.declared.Run.{Run}
 use Rattle.cutting.specs.declared.Fate.{Fate}
 use Rattle.cutting.specs.declared.Fate.the-variants as Fate
 use Rattle.cutting.specs.declared.Counted.{Counted}
@@ -46,17 +47,41 @@ spotAfter list kind p =
     (cond (is kind Eop) (record { pages = p .pages; met = p .met; on = false; here = p .here; late = p .late })
     (cond (is kind Post) (record { pages = p .pages; met = p .met; on = p .on; here = p .here; late = true }) p))
 
--- from a place to another stand plain commands, none outside pages
-abbrev pub RunTo : List ℕ → Bool → ℕ → ℕ → Type 0
-RunTo file true at next = Passes file at next
-RunTo file false at next = next ≡ at
-
 -- what becomes of a command, by the spot before it and whether its page is chosen
 abbrev pub fateOf : Kind → Bool → Spot → Fate
 fateOf kind chosen p =
     cond (is kind Bop) (cond chosen Fate.Mended Fate.Dropped)
     (cond (is kind Post || is kind PostPost) Fate.Mended
     (cond (is kind Pre) Fate.Opening (cond (is kind Define) (cond (p .late) Fate.Copied Fate.Opening) (cond (p .on && chosen) Fate.Copied Fate.Dropped))))
+
+-- ---- runs of commands that on a page change at most the depth
+
+-- their kinds
+abbrev pub isIdle : Kind → Bool
+isIdle kind = isPlain kind || (is kind Push || (is kind Pop || is kind Select))
+
+-- push, pop, and fnt_num_0 to fnt_num_63
+abbrev pub isShort : ℕ → Bool
+isShort opcode = (leb 141 opcode && ltb opcode 143) || (leb 171 opcode && ltb opcode 235)
+
+-- a place and depths
+abbrev pub runAt : ℕ → ℕ → ℕ → Run
+runAt at depth greatest = record { at = at; depth = depth; greatest = greatest }
+
+-- after one more command of so many bytes
+abbrev pub runAfter : Kind → ℕ → Run → Run
+runAfter kind size r = runAt (r .at + size) (depthAfter kind (r .depth)) (max (r .greatest) (depthAfter kind (r .depth)))
+
+-- from one place to another stand such commands, end to end
+pub data Runs (file : List ℕ) (from : Run) : Run → Type 0 where
+  runs-none : Runs file from from
+  runs-on : {r : Run} (c : Command) (rest : List ℕ) → Runs file from r → front (drop (r .at) file) ≡ whole c rest → isIdle (kindOfCommand c) ≡ true
+      → Runs file from (runAfter (kindOfCommand c) (1 + length (c .params)) r)
+
+-- outside pages there is no run
+abbrev pub RunTo : List ℕ → Bool → Run → Run → Type 0
+RunTo file true from r = Runs file from r
+RunTo file false from r = r ≡ from
 
 -- ---- the walk that counts
 
@@ -65,9 +90,9 @@ abbrev pub oneKept : Kind → ℕ → Counted → Counted
 oneKept kind size m =
     record { opened = m .opened; kept = m .kept + size; depth = depthAfter kind (m .depth); greatest = max (m .greatest) (depthAfter kind (m .depth)) }
 
--- after plain commands of so many bytes, on a page that is chosen or not
-abbrev pub runCounted : Bool → ℕ → Counted → Counted
-runCounted here size m = record { opened = m .opened; kept = cond here (m .kept + size) (m .kept); depth = m .depth; greatest = m .greatest }
+-- after a run from a place, on a page that is chosen or not
+abbrev pub runCounted : Bool → ℕ → Run → Counted → Counted
+runCounted here at r m = cond here (record { opened = m .opened; kept = m .kept + (r .at - at); depth = r .depth; greatest = r .greatest }) m
 
 -- after one more command of so many bytes
 abbrev pub countedAfter : Fate → Kind → ℕ → Counted → Counted

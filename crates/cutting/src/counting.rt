@@ -1,6 +1,7 @@
 // The first walk: how long the new file is, and how deep its pages go.
 use crate::Counted;
 use crate::Fate;
+use crate::Run;
 use crate::Spot;
 use crate::walking;
 use commands::Kind;
@@ -8,7 +9,7 @@ use commands::Read;
 use list::progress;
 ghost use mathlib.Core.Path.{_≡_};
 ghost use mathlib.Core.Bool.{true};
-ghost use Prim.Native.Nat.{_+_, _<_, _^_};
+ghost use Prim.Native.Nat.{_+_, _-_, _≤_, _<_, _^_};
 ghost use Rattle.commands.specs.Lengths.{lengths};
 ghost use Rattle.list.specs.Past.{pages};
 ghost use Rattle.list.specs.Lawful.{Lawful};
@@ -55,21 +56,22 @@ fn counted_after(fate: Fate, kind: Kind, size: usize, m: Counted) -> Counted
     }
 }
 
-// After a run of plain commands of so many bytes.
-fn run_counted(p: Spot, size: usize, m: Counted) -> Counted
-    requires { ⌜ m .kept + size < 2 ^ 32 ⌝ }
-    ensures { λ r. ⌜ r ≡ runCounted (p .here) size m ⌝ }
+// After a run from a place.
+fn run_counted(p: Spot, at: usize, run: Run, m: Counted) -> Counted
+    requires { ⌜ (at ≤ run .at) × (m .kept + (run .at - at) < 2 ^ 32) ⌝ }
+    ensures { λ r. ⌜ r ≡ runCounted (p .here) at run m ⌝ }
 {
     if !p.here {
         return m;
     }
     let opened = m.opened;
     let kept = m.kept;
-    let depth = m.depth;
-    let greatest = m.greatest;
+    let end = run.at;
+    let depth = run.depth;
+    let greatest = run.greatest;
     Counted {
         opened,
-        kept: kept + size,
+        kept: kept + (end - at),
         depth,
         greatest,
     }
@@ -89,8 +91,9 @@ pub fn count(table: &[u8; 122], file: &[u8], list: &[u32]) -> Counted
         greatest: 0,
     };
     loop {
-        let run = walking::run_end(table, file, at, p);
-        m = run_counted(p, run - at, m);
+        let end = walking::run_from(table, file, p, at, m.depth, m.greatest);
+        m = run_counted(p, at, end, m);
+        let run = end.at;
         match commands::read_by(table, file, run) {
             Read::Refused(_) => return m,
             Read::Command(reading) => {

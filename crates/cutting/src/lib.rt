@@ -16,6 +16,13 @@ pub struct Spot {
     pub late: bool,
 }
 
+// Where a run over commands stands: its place, and the depth and the greatest depth there
+pub struct Run {
+    pub at: usize,
+    pub depth: usize,
+    pub greatest: usize,
+}
+
 // What becomes of a command
 pub enum Fate {
     // it goes before all pages

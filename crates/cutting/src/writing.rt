@@ -146,7 +146,7 @@ fn copied(file: &[u8], out: &mut [u8], at: usize, next: usize, m: Made) -> Made
     }
 }
 
-// Behind a run of plain commands: on a chosen page there is more to copy, elsewhere they go.
+// Behind a run: on a chosen page there is more to copy, elsewhere its commands go.
 fn run_passed(file: &[u8], out: &mut [u8], at: usize, run: usize, here: bool, m: Made) -> Made
     requires { ⌜ RoomToCopy (now file) at m (length (now out)) ⌝ }
     ensures { λ r. ⌜ r ≡ cond here m (madeCopied at run m) ⌝ }
@@ -225,7 +225,8 @@ pub fn write(table: &[u8; 122], file: &[u8], list: &[u32], counted: Counted, out
         post: 0,
     };
     loop {
-        let run = walking::run_end(table, file, at, p);
+        let end = walking::run_from(table, file, p, at, 0, 0);
+        let run = end.at;
         m = run_passed(file, out, at, run, p.here, m);
         match commands::read_by(table, file, run) {
             Read::Refused(_) => return,

@@ -105,7 +105,7 @@ unfolding sizeOf
 bare-size opcode rest below bare = omega (arith, inner-below opcode rest below)
 
 -- an opcode without parameters stands there as it is
-bare-ahead : (file : List ℕ) (at opcode : ℕ) → at < length file → getD file at 0 ≡ opcode → opcode < 239 → fixedLength opcode ≡ 0
+pub bare-ahead : (file : List ℕ) (at opcode : ℕ) → at < length file → getD file at 0 ≡ opcode → opcode < 239 → fixedLength opcode ≡ 0
     → front (drop at file) ≡ whole (command opcode []) (drop (at + 1) file)
 bare-ahead file at opcode starts is below bare =
     let rest : List ℕ = drop (at + 1) file in

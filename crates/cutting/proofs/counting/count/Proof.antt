@@ -2,9 +2,9 @@ use mathlib.Core.List.{List, [], _∷_}
 use Rattle.commands.specs.Kinds.{is}
 use Rattle.cutting.proofs.Standing.{spot-small}
 use Rattle.cutting.proofs.Walks.{never-refused, inside}
-use Rattle.cutting.proofs.CountLaws.{Counting, counting-first, counting-run, counting-on, counting-last, counting-same, counted-is}
+use Rattle.cutting.proofs.CountLaws.{Counting, counting-first, counting-run, counted-deep, counting-on, counting-last, counting-same, counted-is}
 use Rattle.list.proofs.Arms.{kind-others}
-use Rattle.cutting.proofs.PlainRuns.{run-ahead}
+use Rattle.cutting.proofs.IdleRuns.{run-ahead}
 use Rattle.cutting.specs.Steps.{spotAfter, fateOf, runCounted, countedAfter, CountsAll}
 use Rattle.cutting.specs.declared.Counted.{Counted}
 use Rattle.cutting.specs.declared.Spot.{Spot}
@@ -32,7 +32,7 @@ use Rattle.commands.proofs.read_by.Reads as read-by-reads
 use Rattle.cutting.proofs.counting.counted_after.Reads as counted-after-reads
 use Rattle.cutting.proofs.counting.run_counted.Reads as run-counted-reads
 use Rattle.cutting.proofs.walking.fate_of.Reads as fate-of-reads
-use Rattle.cutting.proofs.walking.run_end.Reads as run-end-reads
+use Rattle.cutting.proofs.walking.run_from.Reads as run-from-reads
 use Rattle.cutting.proofs.walking.spot_after.Reads as spot-after-reads
 use Rattle.cutting.proofs.walking.start.Reads as start-reads
 
@@ -53,11 +53,14 @@ loop-holds c =
     subst (λ (q : Spot). Counting (now (s .args .file)) (now (s .args .list)) 0 q (record { opened = 0; kept = 0; depth = 0; greatest = 0 })) (sym (c .start .ensures)) (counting-first (now (s .args .file)) (now (s .args .list)) (s .pre .1) (pages (history (now (s .args .file)))) (s .pre .2))
 
 -- src/counting.rt:83:13
-run-end-requires : tie.Need-run-end-requires Inv-loop μ-loop
-run-end-requires c κs = c .before .before .before .before .pre .0
+run-from-requires : tie.Need-run-from-requires Inv-loop μ-loop
+run-from-requires c κs =
+    let s = c .before .before .before .before in
+    let k = c .loop .inv in
+    (s .pre .0, s .pre .1 .0, k .counts .shallow, counted-deep (now (s .args .file)) (now (s .args .list)) k)
 
--- behind a run of plain commands
-module _ (c : tie.After-run-end Inv-loop μ-loop) where
+-- behind a run
+module _ (c : tie.After-run-from Inv-loop μ-loop) where
   abbrev looped : tie.At-loop Inv-loop μ-loop
   looped = c .before
 
@@ -70,17 +73,17 @@ module _ (c : tie.After-run-end Inv-loop μ-loop) where
   abbrev of-list : List ℕ
   of-list = now (entered .args .list)
 
-  ran : Counting in-file of-list (c .run-end .result) (looped .loop .p) (runCounted (looped .loop .p .here) (c .run-end .result - looped .loop .at) (looped .loop .m))
-  ran = counting-run in-file of-list (looped .loop .inv) (c .run-end .ensures)
+  ran : Counting in-file of-list (c .run-from .result .at) (looped .loop .p) (runCounted (looped .loop .p .here) (looped .loop .at) (c .run-from .result) (looped .loop .m))
+  ran = counting-run in-file of-list (looped .loop .inv) (c .run-from .result) (c .run-from .ensures)
 
-  ahead : looped .loop .at ≤ c .run-end .result
-  ahead = run-ahead in-file (looped .loop .p .on) (looped .loop .at) (c .run-end .result) (c .run-end .ensures)
+  ahead : looped .loop .at ≤ c .run-from .result .at
+  ahead = run-ahead in-file (looped .loop .p .on) _ (c .run-from .result) (c .run-from .ensures)
 
 -- with what is counted of it
 module _ (c : tie.After-run-counted Inv-loop μ-loop) where
-  held : Counting (in-file (c .before)) (of-list (c .before)) (c .before .run-end .result) (looped (c .before) .loop .p) (c .run-counted .result)
+  held : Counting (in-file (c .before)) (of-list (c .before)) (c .before .run-from .result .at) (looped (c .before) .loop .p) (c .run-counted .result)
   held =
-      subst (Counting (in-file (c .before)) (of-list (c .before)) (c .before .run-end .result) (looped (c .before) .loop .p)) (sym (c .run-counted .ensures))
+      subst (Counting (in-file (c .before)) (of-list (c .before)) (c .before .run-from .result .at) (looped (c .before) .loop .p)) (sym (c .run-counted .ensures))
       (ran (c .before))
 
 -- the command that was read there
@@ -89,7 +92,7 @@ module _ (c : tie.After-known-told Inv-loop μ-loop) where
   counted-run = c .before .before .before .before
 
   abbrev there : ℕ
-  there = counted-run .before .run-end .result
+  there = counted-run .before .run-from .result .at
 
   abbrev reading : Reading
   reading = c .before .reading .given .0 .0
@@ -108,13 +111,9 @@ module _ (c : tie.After-known-told Inv-loop μ-loop) where
   ends-there : reading .next ≡ there + (1 + length (command .params))
   ends-there = omega (arith, read .starts, read .nexts)
 
--- src/counting.rt:84:28
-sub-run-counted : tie.Need-sub-run-counted Inv-loop μ-loop
-sub-run-counted c = ahead c
-
 -- src/counting.rt:84:9
 run-counted-requires : tie.Need-run-counted-requires Inv-loop μ-loop
-run-counted-requires c κs = omega (arith, ahead c, looped c .loop .inv .counts .short, inside (ran c .walk), entered c .pre .1 .0)
+run-counted-requires c κs = (ahead c, omega (arith, ahead c, looped c .loop .inv .counts .short, inside (ran c .walk), entered c .pre .1 .0))
 
 -- src/counting.rt:85:15
 read-by-requires : tie.Need-read-by-requires Inv-loop μ-loop
@@ -169,7 +168,7 @@ module _ (c : tie.After-counted-after Inv-loop μ-loop) where
   abbrev known : tie.After-known-told Inv-loop μ-loop
   known = c .before .before .before .before
 
-  abbrev before : tie.After-run-end Inv-loop μ-loop
+  abbrev before : tie.After-run-from Inv-loop μ-loop
   before = counted-run known .before
 
   abbrev spot : Spot
@@ -229,8 +228,7 @@ count-spec =
     μ-loop
     start-requires
     loop-holds
-    run-end-requires
-    sub-run-counted
+    run-from-requires
     run-counted-requires
     read-by-requires
     enum-told

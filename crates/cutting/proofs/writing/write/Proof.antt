@@ -1,6 +1,6 @@
 use Rattle.cutting.proofs.WriteTurns.{Writing, writing-first, room-to-copy, room-to-turn, writing-run, writing-on, writing-last, writing-same, room-same, made-same, area-same}
 use Rattle.cutting.proofs.WriteLaws.{area-length}
-use Rattle.cutting.proofs.PlainRuns.{run-ahead}
+use Rattle.cutting.proofs.IdleRuns.{run-ahead}
 use Rattle.cutting.proofs.Standing.{spot-small}
 use Rattle.cutting.proofs.Walks.{never-refused, inside}
 use Rattle.cutting.specs.Steps.{spotAfter, fateOf, formsOf, madeCopied, areaCopied, madeAfter, areaTurned, RoomToTurn}
@@ -32,7 +32,7 @@ use Rattle.cutting.proofs.writing.write.Lts as lts
 use Rattle.commands.proofs.kind_of.Reads as kind-of-reads
 use Rattle.commands.proofs.read_by.Reads as read-by-reads
 use Rattle.cutting.proofs.walking.fate_of.Reads as fate-of-reads
-use Rattle.cutting.proofs.walking.run_end.Reads as run-end-reads
+use Rattle.cutting.proofs.walking.run_from.Reads as run-from-reads
 use Rattle.cutting.proofs.walking.spot_after.Reads as spot-after-reads
 use Rattle.cutting.proofs.walking.start.Reads as start-reads
 use Rattle.cutting.proofs.writing.run_passed.Reads as run-passed-reads
@@ -55,8 +55,10 @@ loop-holds c =
     writing-same (now (s .args .file)) (now (s .args .list)) (s .args .counted) (now (s .args .out)) (s .pre .1) refl (c .start .ensures) refl refl (writing-first (now (s .args .file)) (now (s .args .list)) (s .args .counted) (now (s .args .out)) (s .pre .1))
 
 -- src/writing.rt:228:13
-run-end-requires : tie.Need-run-end-requires Inv-loop μ-loop
-run-end-requires c κs = c .before .before .before .before .before .pre .0
+run-from-requires : tie.Need-run-from-requires Inv-loop μ-loop
+run-from-requires c κs =
+    let s = c .before .before .before .before .before in
+    (s .pre .0, s .pre .1 .lawful .0, omega arith, omega arith)
 
 -- src/writing.rt:229:9
 run-passed-requires : tie.Need-run-passed-requires Inv-loop μ-loop
@@ -64,7 +66,7 @@ run-passed-requires c κs =
     let s = c .before .before .before .before .before .before .before in
     room-to-copy (now (s .args .file)) (now (s .args .list)) (s .args .counted) (now (s .args .out)) (s .pre .1) (c .before .before .loop .inv)
 
--- behind a run of plain commands
+-- behind a run
 module _ (c : tie.After-run-passed Inv-loop μ-loop) where
   abbrev looped : tie.At-loop Inv-loop μ-loop
   looped = c .before .before .before
@@ -82,7 +84,7 @@ module _ (c : tie.After-run-passed Inv-loop μ-loop) where
   at-entry = now (entered .args .out)
 
   abbrev run : ℕ
-  run = c .before .before .run-end .result
+  run = c .before .before .run-from .result .at
 
   abbrev made : Made
   made = c .run-passed .result
@@ -91,12 +93,12 @@ module _ (c : tie.After-run-passed Inv-loop μ-loop) where
   area = c .run-passed .last .1 .0
 
   ahead : looped .loop .at ≤ run
-  ahead = run-ahead in-file (looped .loop .p .on) (looped .loop .at) run (c .before .before .run-end .ensures)
+  ahead = run-ahead in-file (looped .loop .p .on) _ (c .before .before .run-from .result) (c .before .before .run-from .ensures)
 
   held : Writing in-file of-list at-entry run (looped .loop .p) made area
   held =
       writing-same in-file of-list (entered .args .counted) at-entry (entered .pre .1) refl refl (c .run-passed .ensures .0) (c .run-passed .ensures .1)
-      (writing-run in-file of-list (entered .args .counted) at-entry (entered .pre .1) (looped .loop .inv) (c .before .before .run-end .ensures))
+      (writing-run in-file of-list (entered .args .counted) at-entry (entered .pre .1) (looped .loop .inv) _ _ (c .before .before .run-from .result) (c .before .before .run-from .ensures))
 
 -- the command that was read there
 module _ (c : tie.After-known-told Inv-loop μ-loop) where
@@ -240,7 +242,7 @@ write-spec =
     μ-loop
     start-requires
     loop-holds
-    run-end-requires
+    run-from-requires
     run-passed-requires
     read-by-requires
     enum-told
