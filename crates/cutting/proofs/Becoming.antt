@@ -1,8 +1,8 @@
 -- What becomes of a command that keeps the rules, in the opening and behind it. Assumes nothing.
 use Prim.Native.Nat.{ℕ, _+_}
 use mathlib.Core.Path.{_≡_, refl, sym, ap, _∙_, subst}
-use mathlib.Core.Bool.{Bool, true, false, cond, not, _&&_, _||_}
-use mathlib.Core.List.{List, [], _∷_}
+use mathlib.Core.Bool.{Bool, true, false, cond, _||_}
+use mathlib.Core.List.{List, _∷_}
 use mathlib.Core.Logic.{_⊎_, inl, inr}
 use Rattle.commands.specs.declared.Kind.{Kind}
 use Rattle.commands.specs.declared.Kind.the-variants.{Bop, Eop, Define, Pre, Post, PostPost}
@@ -17,7 +17,7 @@ use Rattle.cutting.specs.declared.Fate.the-variants as Fate
 use Rattle.cutting.specs.Chosen.{isIn}
 use Rattle.cutting.specs.CutList.{opening, stays, mended, cutAfter}
 use Rattle.cutting.specs.Steps.{spotAfter, fateOf}
-use Rattle.cutting.proofs.Turning.{Outside, Inner, Turn, starts, idles, defines-early, begins, within, finishes, posts, idles-late, defines-again, ends, turn-of}
+use Rattle.cutting.proofs.Turning.{Turn, starts, idles, defines-early, begins, within, finishes, posts, idles-late, defines-again, ends, turn-of}
 use Rattle.cutting.proofs.Standing.{Stands, next-chosen}
 
 -- the kinds that are mended

@@ -1,14 +1,14 @@
 -- What the walk that counts holds, command by command. Assumes nothing.
-use Prim.Native.Nat.{ℕ, _+_, _-_, _≤_, _<_, _^_, max}
+use Prim.Native.Nat.{ℕ, _+_, _-_, _≤_, max}
 use mathlib.Core.Path.{_≡_, refl, sym, ap, _∙_, subst}
-use mathlib.Core.Bool.{Bool, true, false, cond, _&&_}
+use mathlib.Core.Bool.{Bool, true, false, cond}
 use mathlib.Core.List.{List, [], _∷_}
 use native.Mathlib.Omega.{arith}
 use lib.ListN.{length, drop, length-drop}
 use Rattle.commands.specs.declared.Kind.{Kind}
-use Rattle.commands.specs.declared.Kind.the-variants.{Bop, Eop, Post, PostPost}
+use Rattle.commands.specs.declared.Kind.the-variants.{PostPost}
 use Rattle.commands.specs.Kinds.{is}
-use Rattle.commands.specs.Commands.{Command, kindOfCommand, Whole, form, whole, front, place}
+use Rattle.commands.specs.Commands.{Command, kindOfCommand, Whole, whole, front, place}
 use Rattle.commands.proofs.Fronts.{front-length}
 use Rattle.list.specs.Past.{isA, depth, depthAfter, greatest}
 use Rattle.list.specs.Lawful.{Lawful}
@@ -24,7 +24,7 @@ use Rattle.cutting.specs.CutList.{opening, mended, cutAfter}
 use Rattle.cutting.specs.Steps.{atStart, spotAfter, fateOf, isIdle, runAt, runAfter, Runs, runs-none, runs-on, RunTo, runCounted, oneKept, countedAfter, CountsAll}
 use Rattle.cutting.proofs.Walks.{Walk, Met, starting, met}
 use Rattle.cutting.proofs.Standing.{Stands, stands-first, stands-on}
-use Rattle.cutting.proofs.Becoming.{IsMended, Becomes, becomes}
+use Rattle.cutting.proofs.Becoming.{Becomes, becomes}
 use Rattle.cutting.proofs.MendedForms.{mended-length}
 use Rattle.cutting.proofs.Growing.{opening-bare}
 use Rattle.cutting.proofs.IdleRuns.{Idle, idle, depth-after, runs-ahead}

@@ -1,11 +1,10 @@
 -- The new list grows with the old one and goes no deeper from post on; its opening has no page and no depth. Assumes nothing.
-use Prim.Native.Nat.{ℕ, _+_, _≤_, max}
-use mathlib.Core.Path.{_≡_, refl, sym, ap, _∙_}
+use Prim.Native.Nat.{ℕ, _≤_}
+use mathlib.Core.Path.{_≡_, refl, sym, _∙_}
 use mathlib.Core.Bool.{Bool, true, false, cond, not, _||_, true≢false}
 use mathlib.Core.List.{List, [], _∷_}
 use native.Mathlib.Omega.{arith}
-use lib.ListN.{length}
-use lib.IntN.{ℤ, negsuc}
+use lib.IntN.{negsuc}
 use Rattle.commands.specs.declared.Kind.{Kind}
 use Rattle.commands.specs.declared.Kind.the-variants.{Bop, Define, Pre, Push, Pop, Post}
 use Rattle.commands.specs.Kinds.{is}
@@ -99,7 +98,7 @@ module _ (first : List Command) (chosen : ℕ → Bool) where
 -- ---- the opening
 
 -- it has no push, no page, no bop and no post
-pub record Bare (first : List Command) : Type 0 where
+pub record Blank (first : List Command) : Type 0 where
   pub flat : depth first ≡ 0
   pub shallow : greatest first ≡ 0
   pub no-page : pages first ≡ 0
@@ -107,7 +106,7 @@ pub record Bare (first : List Command) : Type 0 where
   pub no-post : postPlace first ≡ 0
 
 -- one more command that is none of these
-bare-more : {first : List Command} (c : Command) (k : Kind) → kindOfCommand c ≡ k → (depthAfter k 0 ≡ 0) × (is k Bop ≡ false) × (is k Post ≡ false) → Bare first → Bare (c ∷ first)
+bare-more : {first : List Command} (c : Command) (k : Kind) → kindOfCommand c ≡ k → (depthAfter k 0 ≡ 0) × (is k Bop ≡ false) × (is k Post ≡ false) → Blank first → Blank (c ∷ first)
 bare-more c k same (flat, bop, post) b =
     record {
       flat = rw (same, b .flat) flat;
@@ -117,15 +116,15 @@ bare-more c k same (flat, bop, post) b =
       no-post = rw (same, post) (b .no-post);
     }
 
-pub opening-bare : (past : List Command) → Bare (opening past)
+pub opening-bare : (past : List Command) → Blank (opening past)
 opening-bare [] = record { flat = refl; shallow = refl; no-page = refl; no-bop = refl; no-post = refl }
 opening-bare (c ∷ past) = by (isA Pre c) refl (isA Define c) refl (opening-bare past)
   where
-    by : (pre : Bool) → isA Pre c ≡ pre → (define : Bool) → isA Define c ≡ define → Bare (opening past) → Bare (opening (c ∷ past))
+    by : (pre : Bool) → isA Pre c ≡ pre → (define : Bool) → isA Define c ≡ define → Blank (opening past) → Blank (opening (c ∷ past))
     by true p define d b = rw p (bare-more c Pre (is-kind (kindOfCommand c) Pre p) (refl, refl, refl) b)
     by false p true d b = rw (p, d) (late (not (isAfterPost (stage past))))
       where
-        late : (t : Bool) → Bare (cond t (c ∷ opening past) (opening past))
+        late : (t : Bool) → Blank (cond t (c ∷ opening past) (opening past))
         late true = bare-more c Define (is-kind (kindOfCommand c) Define d) (refl, refl, refl) b
         late false = b
     by false p false d b = rw (p, d) b

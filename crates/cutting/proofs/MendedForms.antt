@@ -1,5 +1,5 @@
 -- A mended command's bytes are the old ones with the bytes of its numbers written over them. Assumes nothing.
-use Prim.Native.Nat.{ℕ, suc, _+_, _<_, _^_, _%_, _≤_}
+use Prim.Native.Nat.{ℕ, suc, _+_, _<_, _^_, _≤_}
 use mathlib.Core.Path.{_≡_, refl, sym, ap, _∙_}
 use mathlib.Core.List.{List, _∷_, _++_, append-assoc}
 use mathlib.Core.Logic.{inl, inr}
@@ -11,7 +11,6 @@ use lib.Seq.{sets, sets-eq, length-sets}
 use Rattle.numbers.specs.Signs.{toTwos}
 use Rattle.numbers.specs.Bytes.{bytesOf}
 use Rattle.numbers.proofs.Bytes.{length-bytes}
-use Rattle.commands.specs.declared.Kind.the-variants.{Bop, Post, PostPost}
 use Rattle.commands.specs.Commands.{Command, kindOfCommand, Whole, form}
 use Rattle.commands.proofs.Lengths.{whole-plain}
 use Rattle.list.specs.Past.{greatest, pages, lastBop, postPlace}

@@ -5,7 +5,6 @@ use mathlib.Core.Bool.{Bool, true, false, not, _||_, true≢false}
 use mathlib.Core.List.{List, [], _∷_, _++_, append-assoc}
 use native.Mathlib.Nat.{mod-lt}
 use native.Mathlib.Omega.{arith}
-use lib.Dec.{ltb}
 use lib.ListN.{length, take, drop, replicate, length-append}
 use lib.Seq.{sets, sets-eq, length-take-le}
 use borrow.Author.Tests.{lt-ltb, le-ltb, not-false}

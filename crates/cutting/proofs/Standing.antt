@@ -1,22 +1,19 @@
 -- What the spot of a walk stands for, command by command. Assumes nothing.
 use Prim.Native.Nat.{ℕ, _+_, _≤_}
-use mathlib.Core.Path.{_≡_, refl, sym, ap, _∙_, subst}
-use mathlib.Core.Bool.{Bool, true, false, cond, true≢false}
+use mathlib.Core.Path.{_≡_, refl, sym, ap, _∙_}
+use mathlib.Core.Bool.{true, false, true≢false}
 use mathlib.Core.List.{List, [], _∷_}
 use native.Mathlib.Omega.{arith}
-use lib.Dec.{ltb, eqb}
-use Rattle.commands.specs.declared.Kind.{Kind}
-use Rattle.commands.specs.declared.Kind.the-variants.{Bop, PostPost}
+use Rattle.commands.specs.declared.Kind.the-variants.{PostPost}
 use Rattle.commands.specs.Kinds.{is}
 use Rattle.commands.specs.Commands.{Command, kindOfCommand, place}
-use Rattle.list.specs.declared.Stage.{Stage}
 use Rattle.list.specs.Past.{isA, stage, isOnPage, isAfterPost, pages}
 use Rattle.list.specs.Rules.{Allowed}
 use Rattle.volume.proofs.Bounds.{pages-small}
 use Rattle.cutting.specs.declared.Spot.{Spot}
 use Rattle.cutting.specs.Chosen.{isIn, risesFrom}
 use Rattle.cutting.specs.Steps.{nextChosen, atStart, spotAfter}
-use Rattle.cutting.proofs.Turning.{Outside, Inner, Turn, starts, idles, defines-early, begins, within, finishes, posts, idles-late, defines-again, ends, turn-of}
+use Rattle.cutting.proofs.Turning.{Turn, starts, idles, defines-early, begins, within, finishes, posts, idles-late, defines-again, ends, turn-of}
 use Rattle.cutting.proofs.Rising.{Ahead, none-met, not-below, next-page}
 
 -- a spot stands for the commands so far

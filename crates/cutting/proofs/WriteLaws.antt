@@ -1,34 +1,30 @@
 -- What the walk that writes holds, command by command: the opening at the area's start, the other commands behind its place. Assumes nothing.
 use Prim.Native.Nat.{ℕ, _+_, _-_, _≤_, _<_, _^_}
-use mathlib.Core.Path.{_≡_, refl, sym, ap, ap₂, _∙_, subst}
-use mathlib.Core.Bool.{Bool, true, false, cond, _&&_}
+use mathlib.Core.Path.{_≡_, refl, sym, ap, ap₂, _∙_}
+use mathlib.Core.Bool.{Bool, true, false, cond}
 use mathlib.Core.List.{List, [], _∷_, _++_, append-assoc, append-nil}
 use mathlib.Core.Logic.{inl, inr}
 use native.Mathlib.Nat.{mod-eq-of-lt}
 use native.Mathlib.Omega.{arith}
 use lib.ListN.{length, take, drop, length-append}
 use lib.Seq.{sets, length-sets, take-add, drop-drop, take-at}
-use lib.IntN.{pos, negsuc}
+use lib.IntN.{pos}
 use Rattle.numbers.specs.Signs.{toTwos}
-use Rattle.commands.specs.declared.Kind.{Kind}
-use Rattle.commands.specs.declared.Kind.the-variants.{Bop, Post, PostPost}
+use Rattle.commands.specs.declared.Kind.the-variants.{Bop, Post}
 use Rattle.commands.specs.Kinds.{is}
 use Rattle.commands.specs.Commands.{Command, kindOfCommand, Whole, form, whole, front, place}
 use Rattle.commands.proofs.Fronts.{front-sound}
-use Rattle.list.specs.Past.{isA, greatest, pages, lastBop, postPlace}
-use Rattle.list.specs.Lawful.{Lawful, Follows, ends, goes}
-use Rattle.volume.specs.History.{history}
-use Rattle.volume.specs.OfList.{upToLast}
+use Rattle.list.specs.Past.{greatest, pages, lastBop, postPlace}
+use Rattle.list.specs.Lawful.{goes}
 use Rattle.areas.proofs.Pasting.{sets-behind, sets-apart}
-use Rattle.cutting.specs.declared.Spot.{Spot}
 use Rattle.cutting.specs.declared.Fate.{Fate}
 use Rattle.cutting.specs.declared.Fate.the-variants as Fate
 use Rattle.cutting.specs.declared.Made.{Made}
 use Rattle.cutting.specs.Chosen.{isIn}
 use Rattle.cutting.specs.CutList.{opening, mended, cutAfter}
-use Rattle.cutting.specs.Steps.{formsOf, between, madeCopied, areaCopied, mendedForm, mendedSize, madeMended, madeAfter, areaTurned}
+use Rattle.cutting.specs.Steps.{formsOf, between, madeCopied, areaCopied, mendedForm, madeAfter, areaTurned}
 use Rattle.cutting.proofs.Pasted.{between-length}
-use Rattle.cutting.proofs.Becoming.{IsMended, Becomes}
+use Rattle.cutting.proofs.Becoming.{IsMended}
 use Rattle.cutting.proofs.MendedForms.{pointer, mended-form, mended-length}
 
 -- the written forms of a list have as many bytes as the place behind it

@@ -3,14 +3,13 @@ use Prim.Native.Nat.{ℕ, _+_, _-_, _≤_, _<_, _^_}
 use mathlib.Core.Path.{_≡_, refl, sym, ap, ap₂, _∙_, subst}
 use mathlib.Core.Bool.{Bool, true, false, cond, _&&_, true≢false}
 use mathlib.Core.List.{List, [], _∷_, _++_, append-assoc, append-nil}
-use mathlib.Core.Logic.{inl, inr}
 use native.Mathlib.Omega.{arith}
 use lib.ListN.{length, drop, length-drop}
 use lib.Seq.{sets}
 use Rattle.commands.specs.declared.Kind.{Kind}
 use Rattle.commands.specs.declared.Kind.the-variants.{Bop, Eop, Post, PostPost}
 use Rattle.commands.specs.Kinds.{is}
-use Rattle.commands.specs.Commands.{Command, kindOfCommand, Whole, form, whole, front, place}
+use Rattle.commands.specs.Commands.{Command, kindOfCommand, whole, front, place}
 use Rattle.commands.proofs.Fronts.{front-length}
 use Rattle.list.specs.Past.{isA, greatest, pages, lastBop, postPlace}
 use Rattle.volume.specs.History.{history}
@@ -24,10 +23,10 @@ use Rattle.cutting.specs.declared.Counted.{Counted}
 use Rattle.cutting.specs.declared.Made.{Made}
 use Rattle.cutting.specs.Chosen.{isIn}
 use Rattle.cutting.specs.CutList.{opening, stays, mended, cutAfter, cutPast}
-use Rattle.cutting.specs.Steps.{nextChosen, atStart, spotAfter, fateOf, isIdle, runAt, Runs, runs-none, runs-on, RunTo, formsOf, between, madeCopied, areaCopied, mendedSize, madeAfter, areaTurned, RoomToCopy, RoomToTurn, Writable}
+use Rattle.cutting.specs.Steps.{nextChosen, atStart, spotAfter, fateOf, isIdle, runAt, Runs, runs-none, runs-on, RunTo, formsOf, between, madeCopied, areaCopied, madeAfter, areaTurned, RoomToCopy, RoomToTurn, Writable}
 use Rattle.cutting.proofs.Walks.{Walk, Met, starting, met, inside}
 use Rattle.cutting.proofs.Standing.{Stands, stands-first, stands-on, next-chosen}
-use Rattle.cutting.proofs.Becoming.{IsMended, Becomes, becomes}
+use Rattle.cutting.proofs.Becoming.{Becomes, becomes}
 use Rattle.cutting.proofs.MendedForms.{mended-size, mended-length}
 use Rattle.cutting.proofs.Growing.{opening-grows, cut-grows, post-greatest, opening-bare}
 use Rattle.cutting.proofs.IdleRuns.{Idle, idle, runs-ahead}

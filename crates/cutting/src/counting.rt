@@ -56,7 +56,7 @@ fn counted_after(fate: Fate, kind: Kind, size: usize, m: Counted) -> Counted
     }
 }
 
-// After a run from a place.
+// After a run from a place: on a chosen page its commands stay, elsewhere they go.
 fn run_counted(p: Spot, at: usize, run: Run, m: Counted) -> Counted
     requires { ⌜ (at ≤ run .at) × (m .kept + (run .at - at) < 2 ^ 32) ⌝ }
     ensures { λ r. ⌜ r ≡ runCounted (p .here) at run m ⌝ }

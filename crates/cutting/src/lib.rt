@@ -7,7 +7,8 @@ pub mod pages;
 pub mod walking;
 pub mod writing;
 
-// Where a walk over the commands stands: how many pages have begun, how many of them are chosen, whether it is on a page, whether that one is chosen, whether post has passed
+// Where a walk over the commands stands: how many pages have begun, how many of them are chosen, whether it is on a page, whether the last page that began is chosen, whether
+// post has passed
 pub struct Spot {
     pub pages: usize,
     pub met: usize,
@@ -31,6 +32,7 @@ pub enum Fate {
     Copied,
     // it stays with other numbers in it
     Mended,
+    // it goes
     Dropped,
 }
 

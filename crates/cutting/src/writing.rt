@@ -1,4 +1,4 @@
-// The second walk: the new file's bytes. Definitions go to the opening, all that stays behind it; what stands together in the old file is copied at once.
+// The second walk: the new file's bytes. What opens it goes to the area's front, all that stays behind the opening; what stands together in the old file is copied at once.
 use crate::Counted;
 use crate::Fate;
 use crate::Made;
@@ -69,7 +69,7 @@ fn put_count(out: &mut [u8], at: usize, n: usize)
     areas::paste(out, at, &bytes);
 }
 
-// A bop, a post or a post_post with its numbers mended, at the place that was made.
+// A bop, a post or a post_post with its numbers mended, where the commands that stay go on.
 fn mended(
     out: &mut [u8],
     kind: Kind,
@@ -158,7 +158,7 @@ fn run_passed(file: &[u8], out: &mut [u8], at: usize, run: usize, here: bool, m:
     copied(file, out, at, run, m)
 }
 
-// A command of the opening, at the place that was made.
+// A command of the opening, where the opening goes on.
 fn opened(file: &[u8], out: &mut [u8], at: usize, next: usize, m: Made) -> Made
     requires { ⌜ (at ≤ next) × (next ≤ length (now file)) × (m .opened + (next - at) ≤ length (now out)) ⌝ }
     ensures { λ r. ⌜ r ≡ madeOpened (next - at) m ⌝ }

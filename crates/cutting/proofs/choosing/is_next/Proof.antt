@@ -1,35 +1,27 @@
+-- `cutting::choosing::is_next` meets its contract. Assumes nothing.
 use lib.Dec.{eqb}
 use Prim.Native.Nat.{ℕ, _+_}
-use mathlib.Core.Path.{_≡_, ap}
+use mathlib.Core.Path.{ap}
 use borrow.Author.Tests.{lt-ltb, le-ltb}
 use borrow.Author.Needs.{needs}
 use Rattle.cutting.proofs.choosing.is_next.Statement.{statement}
 use Rattle.cutting.proofs.choosing.is_next.Tie as tie
-use Rattle.cutting.proofs.choosing.is_next.Reads as reads
-use Rattle.cutting.proofs.choosing.is_next.Lts as lts
-use Rattle.cutting.proofs.choosing.widened.Reads as widened-reads
 
--- src/choosing.rt:40:9
 returns : tie.Need-returns
 returns c = rw (le-ltb _ _ (c .if1 .taken))
 
--- src/choosing.rt:42:13
 mul-widened : tie.Need-mul-widened
 mul-widened c = search needs
 
--- src/choosing.rt:42:13
 shared-slice-read-widened : tie.Need-shared-slice-read-widened
 shared-slice-read-widened c = search needs
 
--- src/choosing.rt:42:5
 widened-requires : tie.Need-widened-requires
 widened-requires c κs = search needs
 
--- src/choosing.rt:42:27
 add-result : tie.Need-add-result
 add-result c = search needs
 
--- src/choosing.rt:35:1
 returns-2 : tie.Need-returns-2
 returns-2 c = rw (lt-ltb _ _ (c .before .before .if1 .left)) (ap (λ (n : ℕ). eqb n (c .before .before .before .before .args .pages + 1)) (c .widened .ensures))
 

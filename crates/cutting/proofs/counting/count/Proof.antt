@@ -1,3 +1,4 @@
+-- `cutting::counting::count` meets its contract. Assumes nothing.
 use mathlib.Core.List.{List, [], _∷_}
 use Rattle.commands.specs.Kinds.{is}
 use Rattle.cutting.proofs.Standing.{spot-small}
@@ -6,7 +7,6 @@ use Rattle.cutting.proofs.CountLaws.{Counting, counting-first, counting
 use Rattle.list.proofs.Arms.{kind-others}
 use Rattle.cutting.proofs.IdleRuns.{run-ahead}
 use Rattle.cutting.specs.Steps.{spotAfter, fateOf, runCounted, countedAfter, CountsAll}
-use Rattle.cutting.specs.declared.Counted.{Counted}
 use Rattle.cutting.specs.declared.Spot.{Spot}
 use Rattle.volume.specs.History.{history}
 use Rattle.list.specs.Past.{isA, pages}
@@ -20,21 +20,11 @@ use lib.ListN.{length}
 use denote.Ref.{now}
 use borrow.Author.Needs.{needs}
 use native.Mathlib.Omega.{arith}
-use mathlib.Core.Bool.{Bool, true, false}
+use mathlib.Core.Bool.{true, false}
 use mathlib.Core.Path.{_≡_, refl, sym, ap, _∙_, subst}
-use Prim.Native.Nat.{ℕ, _-_, _+_, _≤_, _<_}
+use Prim.Native.Nat.{ℕ, _-_, _+_, _≤_}
 use Rattle.cutting.proofs.counting.count.Statement.{statement}
 use Rattle.cutting.proofs.counting.count.Tie as tie
-use Rattle.cutting.proofs.counting.count.Reads as reads
-use Rattle.cutting.proofs.counting.count.Lts as lts
-use Rattle.commands.proofs.kind_of.Reads as kind-of-reads
-use Rattle.commands.proofs.read_by.Reads as read-by-reads
-use Rattle.cutting.proofs.counting.counted_after.Reads as counted-after-reads
-use Rattle.cutting.proofs.counting.run_counted.Reads as run-counted-reads
-use Rattle.cutting.proofs.walking.fate_of.Reads as fate-of-reads
-use Rattle.cutting.proofs.walking.run_from.Reads as run-from-reads
-use Rattle.cutting.proofs.walking.spot_after.Reads as spot-after-reads
-use Rattle.cutting.proofs.walking.start.Reads as start-reads
 
 abbrev Inv-loop : tie.InvT-loop
 Inv-loop table file list at₀ p₀ m₀ at p m = Counting file list at p m
@@ -42,17 +32,14 @@ Inv-loop table file list at₀ p₀ m₀ at p m = Counting file list at p m
 abbrev μ-loop : tie.MeasureT-loop
 μ-loop table file list at₀ p₀ m₀ at p m = length file - at
 
--- src/counting.rt:75:9
 start-requires : tie.Need-start-requires Inv-loop μ-loop
 start-requires c κs = tt
 
--- src/counting.rt:82:5
 loop-holds : tie.Need-loop-holds Inv-loop μ-loop
 loop-holds c =
     let s = c .before .before .before in
     subst (λ (q : Spot). Counting (now (s .args .file)) (now (s .args .list)) 0 q (record { opened = 0; kept = 0; depth = 0; greatest = 0 })) (sym (c .start .ensures)) (counting-first (now (s .args .file)) (now (s .args .list)) (s .pre .1) (pages (history (now (s .args .file)))) (s .pre .2))
 
--- src/counting.rt:83:13
 run-from-requires : tie.Need-run-from-requires Inv-loop μ-loop
 run-from-requires c κs =
     let s = c .before .before .before .before in
@@ -111,33 +98,26 @@ module _ (c : tie.After-known-told Inv-loop μ-loop) where
   ends-there : reading .next ≡ there + (1 + length (command .params))
   ends-there = omega (arith, read .starts, read .nexts)
 
--- src/counting.rt:84:9
 run-counted-requires : tie.Need-run-counted-requires Inv-loop μ-loop
 run-counted-requires c κs = (ahead c, omega (arith, ahead c, looped c .loop .inv .counts .short, inside (ran c .walk), entered c .pre .1 .0))
 
--- src/counting.rt:85:15
 read-by-requires : tie.Need-read-by-requires Inv-loop μ-loop
 read-by-requires c κs = c .before .before .before .before .before .before .pre .0
 
--- src/counting.rt:86:33
 enum-told : tie.Need-enum-told Inv-loop μ-loop
 enum-told c = search needs
 
--- src/counting.rt:86:33
 returns : tie.Need-returns Inv-loop μ-loop
 returns c =
     let refusal = c .enum-told .given .0 .0 in
     absurd (never-refused (held (c .before .before .before) .walk) (refusal .number) (refusal .place) (sym (c .before .before .read-by .ensures) ∙ ap readAnswer (c .enum-told .given .1)))
 
--- src/counting.rt:87:27
 enum-known-reading : tie.Need-enum-known-reading Inv-loop μ-loop
 enum-known-reading c = search needs
 
--- src/counting.rt:89:21
 kind-of-requires : tie.Need-kind-of-requires Inv-loop μ-loop
 kind-of-requires c κs = tt
 
--- src/counting.rt:90:21
 spot-after-requires : tie.Need-spot-after-requires Inv-loop μ-loop
 spot-after-requires c κs =
     let h = held (counted-run (c .before)) in
@@ -145,15 +125,12 @@ spot-after-requires c κs =
     let s = entered (counted-run (c .before) .before) in
     (omega (arith, small .0, h .walk .at-is, inside (h .walk), s .pre .1 .0), omega (arith, small .1, h .walk .at-is, inside (h .walk), s .pre .1 .0))
 
--- src/counting.rt:91:21
 fate-of-requires : tie.Need-fate-of-requires Inv-loop μ-loop
 fate-of-requires c κs = tt
 
--- src/counting.rt:92:47
 sub-counted-after : tie.Need-sub-counted-after Inv-loop μ-loop
 sub-counted-after c = omega (arith, ends-there (c .before .before .before))
 
--- src/counting.rt:92:17
 counted-after-requires : tie.Need-counted-after-requires Inv-loop μ-loop
 counted-after-requires c κs =
     let k = c .before .before .before in
@@ -198,23 +175,19 @@ module _ (c : tie.After-counted-after Inv-loop μ-loop) where
       counting-same (in-file before) (of-list before) (ends-there known) spot-is counted
       (counting-on (in-file before) (of-list before) (held (counted-run known)) (command known) _ (read known .ahead) not-last)
 
--- src/counting.rt:94:21
 enum-told-2 : tie.Need-enum-told-2 Inv-loop μ-loop
 enum-told-2 c = search needs
 
--- src/counting.rt:94:21
 returns-2 : tie.Need-returns-2 Inv-loop μ-loop
 returns-2 c =
     let n = c .before .before in
     at-last n (ap (λ (k : Kind). is k PostPost) (sym (n .before .before .before .kind-of .ensures) ∙ c .enum-told2 .given .1))
 
--- src/counting.rt:82:5
 loop-less : tie.Need-loop-less Inv-loop μ-loop
 loop-less c =
     let n = c .before in
     omega (arith, ahead (before n), ends-there (known n), read (known n) .inside)
 
--- src/counting.rt:82:5
 loop-again : tie.Need-loop-again Inv-loop μ-loop
 loop-again c =
     let n = c .before in

@@ -1,44 +1,33 @@
+-- `cutting::pages::cut_pages` meets its contract. Assumes nothing.
 use Rattle.cutting.proofs.NewFiles.{cut-refused, cut-wrong, cut-right}
 use mathlib.Core.Bool.{Bool, true, false, not, true≢false}
-use Rattle.cutting.specs.CutFile.{cutAccepted, cutPages, bytesCut, cutArea}
+use Rattle.cutting.specs.CutFile.{bytesCut, cutArea}
 use Rattle.cutting.specs.Chosen.{wrongList}
 use Rattle.volume.proofs.History.{history-counts}
 use Rattle.volume.proofs.Accepts.{accepts-lawful}
 use Rattle.volume.specs.Steps.{checkAnswer}
 use Rattle.volume.specs.History.{history}
 use Rattle.volume.specs.Judged.{judged}
-use Rattle.volume.specs.declared.Checked.{Checked}
 use Rattle.volume.specs.declared.Summary.{Summary}
 use Rattle.list.specs.Past.{pages}
-use Rattle.refusals.specs.Answer.{Answer, refused, given, refuseIf, andThen}
-use borrow.Author.Tests.{not-true, not-false}
+use Rattle.refusals.specs.Answer.{given}
 use lib.ListN.{length}
 use denote.Ref.{now}
-use mathlib.Core.List.{List}
-use mathlib.Core.Path.{_≡_, refl, sym, ap, _∙_, subst}
+use mathlib.Core.Path.{_≡_, refl, sym, ap, _∙_}
 use Prim.Native.Nat.{ℕ}
 use borrow.Author.Needs.{needs}
 use Rattle.cutting.proofs.pages.cut_pages.Statement.{statement}
 use Rattle.cutting.proofs.pages.cut_pages.Tie as tie
-use Rattle.cutting.proofs.pages.cut_pages.Reads as reads
-use Rattle.cutting.proofs.pages.cut_pages.Lts as lts
-use Rattle.cutting.proofs.choosing.right_list.Reads as right-list-reads
-use Rattle.cutting.proofs.pages.cut_accepted.Reads as cut-accepted-reads
-use Rattle.volume.proofs.scanning.check_file.Reads as check-file-reads
 
--- src/pages.rt:58:11
 check-file-requires : tie.Need-check-file-requires
 check-file-requires c κs = search needs
 
--- src/pages.rt:59:26
 enum-known-refusal : tie.Need-enum-known-refusal
 enum-known-refusal c = search needs
 
--- src/pages.rt:60:27
 enum-known-summary : tie.Need-enum-known-summary
 enum-known-summary c = search needs
 
--- src/pages.rt:61:17
 right-list-requires : tie.Need-right-list-requires
 right-list-requires c κs = search needs
 
@@ -62,7 +51,6 @@ module _ (c : tie.After-right-list) where
   accepted : judged (now (start .args .file)) ≡ given found
   accepted = sym (c .before .before .before .before .check-file .ensures) ∙ ap checkAnswer (c .before .before .summary .given .1)
 
--- src/pages.rt:62:17
 returns : tie.Need-returns
 returns c =
     let r = c .before in
@@ -71,7 +59,6 @@ returns c =
     let made = cut-wrong (now (a .file)) (now (a .list)) (length (now (a .out))) (found r) (accepted r) wrong in
     (sym (ap bytesCut made), sym (ap (cutArea (now (a .out))) made))
 
--- src/pages.rt:67:13
 cut-accepted-requires : tie.Need-cut-accepted-requires
 cut-accepted-requires c κs =
     let r = c .before .before in
@@ -80,7 +67,6 @@ cut-accepted-requires c κs =
     let same : pages (history (now (a .file))) ≡ found r .pages = ap (λ (s : Summary). s .pages) (history-counts (now (a .file)) (found r) (accepted r)) in
     (accepts-lawful (now (a .file)) (found r) (accepted r), ap (λ (n : ℕ). wrongList n (now (a .list))) same ∙ right)
 
--- src/pages.rt:54:1
 returns-2 : tie.Need-returns-2
 returns-2 c =
     let a = c .before .before .before .before .before .before .before .args in
@@ -88,11 +74,9 @@ returns-2 c =
     let made = cut-refused (now (a .file)) (now (a .list)) (length (now (a .out))) (refusal .number) (refusal .place) (sym (c .before .before .before .check-file .ensures) ∙ ap checkAnswer (c .before .refusal .given .1)) in
     (sym (ap bytesCut made), sym (ap (cutArea (now (a .out))) made))
 
--- src/pages.rt:54:1
 same-length : tie.Need-same-length
 same-length c = search needs
 
--- src/pages.rt:54:1
 returns-3 : tie.Need-returns-3
 returns-3 c =
     let r = c .before .before .before .before .before in

@@ -1,102 +1,81 @@
+-- `cutting::writing::mended` meets its contract. Assumes nothing.
 use Rattle.cutting.proofs.Pasted.{pasted-sets, written-within}
 use Rattle.cutting.specs.Steps.{mendedSize, madeMended, mendedForm}
 use Rattle.list.proofs.Arms.{kind-others}
 use Rattle.commands.specs.declared.Kind.the-variants.{Bop, Post}
-use Rattle.commands.specs.declared.Kind.{Kind}
 use Rattle.numbers.proofs.Bytes.{length-bytes}
 use Rattle.numbers.specs.Bytes.{bytesOf}
 use lib.Seq.{sets, length-sets}
 use lib.ListN.{length}
 use denote.Ref.{now}
 use native.Mathlib.Omega.{arith}
-use mathlib.Core.List.{List, [], _∷_}
-use mathlib.Core.Path.{_≡_, refl, sym, ap, _∙_}
+use mathlib.Core.List.{[], _∷_}
+use mathlib.Core.Path.{_≡_, refl, ap, _∙_}
 use Prim.Native.Nat.{ℕ, _+_, _≤_}
 use borrow.Author.Needs.{needs}
 use Rattle.cutting.proofs.writing.mended.Statement.{statement}
 use Rattle.cutting.proofs.writing.mended.Tie as tie
-use Rattle.cutting.proofs.writing.mended.Reads as reads
-use Rattle.cutting.proofs.writing.mended.Lts as lts
-use Rattle.areas.proofs.paste.Reads as paste-reads
-use Rattle.cutting.proofs.writing.put_count.Reads as put-count-reads
-use Rattle.cutting.proofs.writing.put_pointer.Reads as put-pointer-reads
 
--- src/writing.rt:89:5
 paste-requires : tie.Need-paste-requires
 paste-requires c κs = search needs
 
--- src/writing.rt:90:15
 add-end : tie.Need-add-end
 add-end c = search needs
 
--- src/writing.rt:93:25
 enum-told : tie.Need-enum-told
 enum-told c = search needs
 
--- src/writing.rt:93:30
 add-put-pointer : tie.Need-add-put-pointer
 add-put-pointer c = search needs
 
--- src/writing.rt:93:13
 put-pointer-requires : tie.Need-put-pointer-requires
 put-pointer-requires c κs =
     let s = c .before .before .before .before .before .before .before .before .before in
     let fits : s .args .m .size + 45 ≤ length (now (s .args .out)) = rw (c .before .enum-told .given .1) at (s .pre .1) in
     omega (arith, fits, c .before .before .before .before .before .paste .kept .0)
 
--- src/writing.rt:103:25
 enum-told-2 : tie.Need-enum-told-2
 enum-told-2 c = search needs
 
--- src/writing.rt:103:30
 add-put-pointer-2 : tie.Need-add-put-pointer-2
 add-put-pointer-2 c = search needs
 
--- src/writing.rt:103:13
 put-pointer-requires-2 : tie.Need-put-pointer-requires-2
 put-pointer-requires-2 c κs =
     let s = c .before .before .before .before .before .before .before .before .before in
     let fits : s .args .m .size + 29 ≤ length (now (s .args .out)) = rw (c .before .enum-told2 .given .1) at (s .pre .1) in
     omega (arith, fits, c .before .before .before .before .before .paste .kept .0)
 
--- src/writing.rt:104:28
 add-put-count : tie.Need-add-put-count
 add-put-count c = search needs
 
--- src/writing.rt:104:13
 put-count-requires : tie.Need-put-count-requires
 put-count-requires c κs =
     let s = c .before .before .before .before .before .before .before .before .before .before .before .before .before in
     let fits : s .args .m .size + 29 ≤ length (now (s .args .out)) = rw (c .before .before .before .before .before .enum-told2 .given .1) at (s .pre .1) in
     omega (arith, fits, c .before .before .before .before .before .before .before .before .before .paste .kept .0, c .before .before .before .put-pointer2 .kept .0)
 
--- src/writing.rt:105:28
 add-put-count-2 : tie.Need-add-put-count-2
 add-put-count-2 c = search needs
 
--- src/writing.rt:105:13
 put-count-requires-2 : tie.Need-put-count-requires-2
 put-count-requires-2 c κs =
     let s = c .before .before .before .before .before .before .before .before .before .before .before .before .before .before .before .before .before in
     let fits : s .args .m .size + 29 ≤ length (now (s .args .out)) = rw (c .before .before .before .before .before .before .before .before .before .enum-told2 .given .1) at (s .pre .1) in
     omega (arith, fits, c .before .before .before .before .before .before .before .before .before .before .before .before .before .paste .kept .0, c .before .before .before .before .before .before .before .put-pointer2 .kept .0, c .before .before .before .put-count .kept .0)
 
--- src/writing.rt:115:30
 add-put-pointer-3 : tie.Need-add-put-pointer-3
 add-put-pointer-3 c = search needs
 
--- src/writing.rt:115:13
 put-pointer-requires-3 : tie.Need-put-pointer-requires-3
 put-pointer-requires-3 c κs =
     let s = c .before .before .before .before .before .before .before .before in
     let small : 6 ≡ mendedSize (s .args .kind) = kind-others (λ k. 6) mendedSize (Bop ∷ Post ∷ []) refl (s .args .kind) (c .before .match .keys3) in
     omega (arith, s .pre .1, small, c .before .before .before .before .paste .kept .0)
 
--- src/writing.rt:72:1
 same-length : tie.Need-same-length
 same-length c = search needs
 
--- src/writing.rt:72:1
 returns : tie.Need-returns
 returns c =
     let s = c .before .before .before .before .before .before .before .before .before .before .before .before in
@@ -108,11 +87,9 @@ returns c =
     let copied = pasted-sets (now (s .args .out)) (m .size) command _ (omega (arith, fits, long)) (c .before .before .before .before .before .before .before .before .paste .ensures) in
     (rw (k, long) refl, rw k (written-within (now (s .args .out)) (m .size) command 41 (bytesOf 4 (m .bop)) _ _ copied (c .before .before .put-pointer .ensures) (omega (arith, long, length-bytes 4 (m .bop)))))
 
--- src/writing.rt:72:1
 same-length-2 : tie.Need-same-length-2
 same-length-2 c = search needs
 
--- src/writing.rt:72:1
 returns-2 : tie.Need-returns-2
 returns-2 c =
     let s = c .before .before .before .before .before .before .before .before .before .before .before .before .before .before .before .before .before .before .before .before in
@@ -129,11 +106,9 @@ returns-2 c =
     let long-deep : length (sets (sets command 1 (bytesOf 4 (m .bop))) 25 (bytesOf 2 (s .args .greatest))) ≡ 29 = length-sets (sets command 1 (bytesOf 4 (m .bop))) 25 (bytesOf 2 (s .args .greatest)) ∙ long-pointed in
     (rw (k, long) refl, rw k (written-within out (m .size) (sets (sets command 1 (bytesOf 4 (m .bop))) 25 (bytesOf 2 (s .args .greatest))) 27 (bytesOf 2 (s .args .pages)) _ _ deep (c .before .before .put-count2 .ensures) (omega (arith, long-deep, length-bytes 2 (s .args .pages)))))
 
--- src/writing.rt:72:1
 same-length-3 : tie.Need-same-length-3
 same-length-3 c = search needs
 
--- src/writing.rt:72:1
 returns-3 : tie.Need-returns-3
 returns-3 c =
     let s = c .before .before .before .before .before .before .before .before .before .before .before in

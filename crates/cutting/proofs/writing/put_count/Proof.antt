@@ -1,37 +1,27 @@
+-- `cutting::writing::put_count` meets its contract. Assumes nothing.
 use Rattle.cutting.proofs.Pasted.{pasted-sets}
 use Rattle.numbers.proofs.Bytes.{length-bytes}
 use lib.Seq.{sets}
 use lib.ListN.{length}
 use denote.Ref.{now}
-use mathlib.Core.List.{List}
-use mathlib.Core.Path.{_≡_, ap, _∙_}
+use mathlib.Core.Path.{ap, _∙_}
 use native.Mathlib.Omega.{arith}
-use Prim.Native.Nat.{ℕ}
 use borrow.Author.Needs.{needs}
 use Rattle.cutting.proofs.writing.put_count.Statement.{statement}
 use Rattle.cutting.proofs.writing.put_count.Tie as tie
-use Rattle.cutting.proofs.writing.put_count.Reads as reads
-use Rattle.cutting.proofs.writing.put_count.Lts as lts
-use Rattle.areas.proofs.paste.Reads as paste-reads
-use Rattle.cutting.proofs.writing.two_bytes.Reads as two-bytes-reads
 
--- src/writing.rt:67:17
 two-bytes-requires : tie.Need-two-bytes-requires
 two-bytes-requires c κs = search needs
 
--- src/writing.rt:68:27
 slice-aggregate-paste : tie.Need-slice-aggregate-paste
 slice-aggregate-paste c = search needs
 
--- src/writing.rt:68:5
 paste-requires : tie.Need-paste-requires
 paste-requires c κs = search needs
 
--- src/writing.rt:63:1
 same-length : tie.Need-same-length
 same-length c = search needs
 
--- src/writing.rt:63:1
 returns : tie.Need-returns
 returns c =
     let a = c .before .before .before .before .before .before .before .args in

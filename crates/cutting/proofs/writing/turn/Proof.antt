@@ -1,6 +1,7 @@
+-- `cutting::writing::turn` meets its contract. Assumes nothing.
 use lib.Seq.{sets}
 use Rattle.commands.specs.declared.Kind.{Kind}
-use Rattle.cutting.specs.Steps.{between, mendedSize, mendedForm, madeCopied, areaCopied, madeOpened, madeMended, madeAfter, areaTurned, RoomToCopy, RoomToTurn}
+use Rattle.cutting.specs.Steps.{between, mendedSize, mendedForm, madeCopied, areaCopied, madeOpened, madeMended, RoomToTurn}
 use Rattle.cutting.proofs.Pasted.{between-length}
 use Rattle.cutting.specs.declared.Made.{Made}
 use Rattle.cutting.specs.declared.Fate.the-variants as Fate
@@ -9,16 +10,11 @@ use lib.ListN.{length}
 use denote.Ref.{now}
 use native.Mathlib.Omega.{arith}
 use mathlib.Core.List.{List}
-use mathlib.Core.Path.{_≡_, refl, sym, ap, _∙_, subst}
-use Prim.Native.Nat.{ℕ, _+_, _-_, _≤_}
+use mathlib.Core.Path.{_≡_, refl, ap, _∙_, subst}
+use Prim.Native.Nat.{ℕ, _+_, _-_}
 use borrow.Author.Needs.{needs}
 use Rattle.cutting.proofs.writing.turn.Statement.{statement}
 use Rattle.cutting.proofs.writing.turn.Tie as tie
-use Rattle.cutting.proofs.writing.turn.Reads as reads
-use Rattle.cutting.proofs.writing.turn.Lts as lts
-use Rattle.cutting.proofs.writing.copied.Reads as copied-reads
-use Rattle.cutting.proofs.writing.mended.Reads as mended-reads
-use Rattle.cutting.proofs.writing.opened.Reads as opened-reads
 
 -- the room that a fate asks
 room : (s : tie.Start) → (fate : Fate) → s .args .fate ≡ fate
@@ -42,54 +38,42 @@ mended-there : (file : List ℕ) (kind : Kind) (greatest pages at next : ℕ) (m
     ≡ sets (areaCopied file at m out) (m .size + (at - m .from)) (mendedForm kind (m .bop) (m .post) greatest pages (between at next file))
 mended-there file kind greatest pages at next m copied out between-calls made area = rw (made, area) refl
 
--- src/writing.rt:186:25
 enum-told : tie.Need-enum-told
 enum-told c = search needs
 
--- src/writing.rt:187:39
 enum-told-2 : tie.Need-enum-told-2
 enum-told-2 c = search needs
 
--- src/writing.rt:187:26
 copied-requires : tie.Need-copied-requires
 copied-requires c κs = room (c .before .before .before .before .before) Fate.Dropped (c .before .enum-told2 .given .1)
 
--- src/writing.rt:189:38
 enum-told-3 : tie.Need-enum-told-3
 enum-told-3 c = search needs
 
--- src/writing.rt:189:17
 copied-requires-2 : tie.Need-copied-requires-2
 copied-requires-2 c κs = room (c .before .before .before .before .before) Fate.Opening (c .before .enum-told3 .given .1) .0
 
--- src/writing.rt:190:13
 opened-requires : tie.Need-opened-requires
 opened-requires c κs =
     let r = room (c .before .before .before .before .before .before .before .before .before) Fate.Opening (c .before .before .before .before .before .enum-told3 .given .1) in
     let same = ap (λ (m : Made). m .opened) (c .before .before .before .copied2 .ensures .0) in
     (r .1, r .2, omega (arith, r .3, same, c .before .before .before .copied2 .kept .1 .0))
 
--- src/writing.rt:193:38
 enum-told-4 : tie.Need-enum-told-4
 enum-told-4 c = search needs
 
--- src/writing.rt:193:17
 copied-requires-3 : tie.Need-copied-requires-3
 copied-requires-3 c κs = room (c .before .before .before .before .before) Fate.Mended (c .before .enum-told4 .given .1) .0
 
--- src/writing.rt:194:31
 sub-mended : tie.Need-sub-mended
 sub-mended c = let r = room (c .before .before .before .before .before .before .before .before .before) Fate.Mended (c .before .before .before .before .before .enum-told4 .given .1) in omega (arith, r .2)
 
--- src/writing.rt:194:31
 part-mended-start : tie.Need-part-mended-start
 part-mended-start c = let r = room (c .before .before .before .before .before .before .before .before .before) Fate.Mended (c .before .before .before .before .before .enum-told4 .given .1) in omega (arith, r .2)
 
--- src/writing.rt:194:31
 part-mended-end : tie.Need-part-mended-end
 part-mended-end c = let r = room (c .before .before .before .before .before .before .before .before .before) Fate.Mended (c .before .before .before .before .before .enum-told4 .given .1) in omega (arith, r .1)
 
--- src/writing.rt:194:13
 mended-requires : tie.Need-mended-requires
 mended-requires c κs =
     let s = c .before .before .before .before .before .before .before .before .before .before in
@@ -98,23 +82,18 @@ mended-requires c κs =
     let same = ap (λ (m : Made). m .size) (c .before .before .before .before .copied3 .ensures .0) in
     (omega (arith, long, r .2), omega (arith, r .3, same, c .before .before .before .before .copied3 .kept .1 .0))
 
--- src/writing.rt:170:1
 returns : tie.Need-returns
 returns c = (rw (c .enum-told .given .1) refl, rw (c .enum-told .given .1) refl)
 
--- src/writing.rt:170:1
 same-length : tie.Need-same-length
 same-length c = search needs
 
--- src/writing.rt:170:1
 returns-2 : tie.Need-returns-2
 returns-2 c = let fate = c .before .before .before .before .enum-told2 .given .1 in (rw fate (c .before .before .copied .ensures .0), rw fate (c .before .before .copied .ensures .1))
 
--- src/writing.rt:170:1
 same-length-2 : tie.Need-same-length-2
 same-length-2 c = search needs
 
--- src/writing.rt:170:1
 returns-3 : tie.Need-returns-3
 returns-3 c =
     let s = c .before .before .before .before .before .before .before .before .before .before .before .before in
@@ -122,11 +101,9 @@ returns-3 c =
     let made = c .before .before .before .before .before .before .copied2 .ensures .0 in
     (rw fate (c .before .before .opened .ensures .0 ∙ ap (λ (m : Made). madeOpened (s .args .next - s .args .at) m) made), rw fate (c .before .before .opened .ensures .1 ∙ opened-there (now (s .args .file)) (s .args .at) (s .args .next) (s .args .m) (c .before .before .before .before .before .before .copied2 .result) (now (s .args .out)) _ made (c .before .before .before .before .before .before .copied2 .ensures .1)))
 
--- src/writing.rt:170:1
 same-length-3 : tie.Need-same-length-3
 same-length-3 c = search needs
 
--- src/writing.rt:170:1
 returns-4 : tie.Need-returns-4
 returns-4 c =
     let s = c .before .before .before .before .before .before .before .before .before .before .before .before .before in

@@ -1,20 +1,16 @@
+-- `cutting::writing::two_bytes` meets its contract. Assumes nothing.
 use Rattle.numbers.specs.Bytes as Bytes
 use mathlib.Core.Path.{refl}
 use borrow.Author.Needs.{needs}
 use Rattle.cutting.proofs.writing.two_bytes.Statement.{statement}
 use Rattle.cutting.proofs.writing.two_bytes.Tie as tie
-use Rattle.cutting.proofs.writing.two_bytes.Reads as reads
-use Rattle.cutting.proofs.writing.two_bytes.Lts as lts
 
--- src/writing.rt:50:6
 cast-t4 : tie.Need-cast-t4
 cast-t4 c = search needs
 
--- src/writing.rt:50:29
 cast-t6 : tie.Need-cast-t6
 cast-t6 c = search needs
 
--- src/writing.rt:47:1
 returns : tie.Need-returns
 unfolding Bytes.bytesOf
 returns c = refl

@@ -1,14 +1,14 @@
+-- `cutting::writing::write` meets its contract. Assumes nothing.
 use Rattle.cutting.proofs.WriteTurns.{Writing, writing-first, room-to-copy, room-to-turn, writing-run, writing-on, writing-last, writing-same, room-same, made-same, area-same}
 use Rattle.cutting.proofs.WriteLaws.{area-length}
 use Rattle.cutting.proofs.IdleRuns.{run-ahead}
 use Rattle.cutting.proofs.Standing.{spot-small}
 use Rattle.cutting.proofs.Walks.{never-refused, inside}
-use Rattle.cutting.specs.Steps.{spotAfter, fateOf, formsOf, madeCopied, areaCopied, madeAfter, areaTurned, RoomToTurn}
+use Rattle.cutting.specs.Steps.{spotAfter, fateOf, madeAfter, areaTurned}
 use Rattle.cutting.specs.declared.Fate.{Fate}
 use Rattle.cutting.specs.declared.Made.{Made}
 use Rattle.cutting.specs.declared.Spot.{Spot}
 use Rattle.list.proofs.Arms.{kind-others}
-use Rattle.list.specs.Past.{isA}
 use Rattle.commands.proofs.Readings.{commandAt, Reads, given-reads}
 use Rattle.commands.specs.Steps.{readAnswer}
 use Rattle.commands.specs.Commands.{Command, kindOfCommand}
@@ -16,27 +16,16 @@ use Rattle.commands.specs.Kinds.{is}
 use Rattle.commands.specs.declared.Reading.{Reading}
 use Rattle.commands.specs.declared.Kind.the-variants.{PostPost}
 use Rattle.commands.specs.declared.Kind.{Kind}
-use lib.Seq.{sets}
 use lib.ListN.{length}
 use denote.Ref.{now}
 use borrow.Author.Needs.{needs}
 use native.Mathlib.Omega.{arith}
 use mathlib.Core.List.{List, [], _∷_}
-use mathlib.Core.Bool.{Bool, true, false, cond}
-use mathlib.Core.Path.{_≡_, refl, sym, ap, ap₂, _∙_, subst}
-use Prim.Native.Nat.{ℕ, _-_, _+_, _≤_, _<_}
+use mathlib.Core.Bool.{false}
+use mathlib.Core.Path.{_≡_, refl, sym, ap, _∙_}
+use Prim.Native.Nat.{ℕ, _-_, _+_, _≤_}
 use Rattle.cutting.proofs.writing.write.Statement.{statement}
 use Rattle.cutting.proofs.writing.write.Tie as tie
-use Rattle.cutting.proofs.writing.write.Reads as reads
-use Rattle.cutting.proofs.writing.write.Lts as lts
-use Rattle.commands.proofs.kind_of.Reads as kind-of-reads
-use Rattle.commands.proofs.read_by.Reads as read-by-reads
-use Rattle.cutting.proofs.walking.fate_of.Reads as fate-of-reads
-use Rattle.cutting.proofs.walking.run_from.Reads as run-from-reads
-use Rattle.cutting.proofs.walking.spot_after.Reads as spot-after-reads
-use Rattle.cutting.proofs.walking.start.Reads as start-reads
-use Rattle.cutting.proofs.writing.run_passed.Reads as run-passed-reads
-use Rattle.cutting.proofs.writing.turn.Reads as turn-reads
 
 abbrev Inv-loop : tie.InvT-loop
 Inv-loop table file list out₀ greatest at₀ p₀ m₀ out at p m = Writing file list out₀ at p m out
@@ -44,23 +33,19 @@ Inv-loop table file list out₀ greatest at₀ p₀ m₀ out at p m = Writing fi
 abbrev μ-loop : tie.MeasureT-loop
 μ-loop table file list out₀ greatest at₀ p₀ m₀ out at p m = length file - at
 
--- src/writing.rt:219:9
 start-requires : tie.Need-start-requires Inv-loop μ-loop
 start-requires c κs = tt
 
--- src/writing.rt:227:5
 loop-holds : tie.Need-loop-holds Inv-loop μ-loop
 loop-holds c =
     let s = c .before .before .before .before in
     writing-same (now (s .args .file)) (now (s .args .list)) (s .args .counted) (now (s .args .out)) (s .pre .1) refl (c .start .ensures) refl refl (writing-first (now (s .args .file)) (now (s .args .list)) (s .args .counted) (now (s .args .out)) (s .pre .1))
 
--- src/writing.rt:228:13
 run-from-requires : tie.Need-run-from-requires Inv-loop μ-loop
 run-from-requires c κs =
     let s = c .before .before .before .before .before in
     (s .pre .0, s .pre .1 .lawful .0, omega arith, omega arith)
 
--- src/writing.rt:229:9
 run-passed-requires : tie.Need-run-passed-requires Inv-loop μ-loop
 run-passed-requires c κs =
     let s = c .before .before .before .before .before .before .before in
@@ -118,33 +103,26 @@ module _ (c : tie.After-known-told Inv-loop μ-loop) where
   ends-there : reading .next ≡ run passed + (1 + length (command .params))
   ends-there = omega (arith, read .starts, read .nexts)
 
--- src/writing.rt:230:15
 read-by-requires : tie.Need-read-by-requires Inv-loop μ-loop
 read-by-requires c κs = c .before .before .before .before .before .before .before .before .before .before .pre .0
 
--- src/writing.rt:231:33
 enum-told : tie.Need-enum-told Inv-loop μ-loop
 enum-told c = search needs
 
--- src/writing.rt:231:33
 same-length : tie.Need-same-length Inv-loop μ-loop
 same-length c = area-length _ _ _ _ (held (c .before .before .before .before .before) .done)
 
--- src/writing.rt:231:33
 returns : tie.Need-returns Inv-loop μ-loop
 returns c =
     let refusal = c .enum-told .given .0 .0 in
     absurd (never-refused (held (c .before .before .before .before .before) .walk) (refusal .number) (refusal .place) (sym (c .before .before .read-by .ensures) ∙ ap readAnswer (c .enum-told .given .1)))
 
--- src/writing.rt:232:27
 enum-known-reading : tie.Need-enum-known-reading Inv-loop μ-loop
 enum-known-reading c = search needs
 
--- src/writing.rt:234:21
 kind-of-requires : tie.Need-kind-of-requires Inv-loop μ-loop
 kind-of-requires c κs = tt
 
--- src/writing.rt:235:21
 spot-after-requires : tie.Need-spot-after-requires Inv-loop μ-loop
 spot-after-requires c κs =
     let h = held (passed (c .before)) in
@@ -152,11 +130,9 @@ spot-after-requires c κs =
     let s = entered (passed (c .before)) in
     (omega (arith, small .0, h .walk .at-is, inside (h .walk), s .pre .1 .lawful .0), omega (arith, small .1, h .walk .at-is, inside (h .walk), s .pre .1 .lawful .0))
 
--- src/writing.rt:236:21
 fate-of-requires : tie.Need-fate-of-requires Inv-loop μ-loop
 fate-of-requires c κs = tt
 
--- src/writing.rt:237:17
 turn-requires : tie.Need-turn-requires Inv-loop μ-loop
 turn-requires c κs =
     let f = c .before in
@@ -206,15 +182,12 @@ module _ (c : tie.After-turn Inv-loop μ-loop) where
       (run before) (reading known .next) next (made before) kind-is (read-there .before .spot-after .ensures) (read-there .fate-of .ensures) (ends-there known)
       (entered before .args .counted .greatest) (spot .met) (area before) (c .turn .last .1 .0) (c .turn .ensures .1)
 
--- src/writing.rt:239:21
 enum-told-2 : tie.Need-enum-told-2 Inv-loop μ-loop
 enum-told-2 c = search needs
 
--- src/writing.rt:239:21
 same-length-2 : tie.Need-same-length-2 Inv-loop μ-loop
 same-length-2 c = let n = c .before .before .before .before in n .turn .kept .1 .0 ∙ area-length _ _ _ _ (held (before n) .done)
 
--- src/writing.rt:239:21
 returns-2 : tie.Need-returns-2 Inv-loop μ-loop
 returns-2 c =
     let n = c .before .before .before .before in
@@ -222,11 +195,9 @@ returns-2 c =
     let s = entered b in
     area-is n ∙ writing-last (in-file b) (of-list b) (s .args .counted) (at-entry b) (s .pre .1) (held b) (command (known n)) _ (read (known n) .ahead) (sym (kind-is n) ∙ c .enum-told2 .given .1)
 
--- src/writing.rt:227:5
 loop-less : tie.Need-loop-less Inv-loop μ-loop
 loop-less c = let n = c .before .before .before in omega (arith, ahead (before n), ends-there (known n), read (known n) .inside)
 
--- src/writing.rt:227:5
 loop-again : tie.Need-loop-again Inv-loop μ-loop
 loop-again c =
     let n = c .before .before .before in
