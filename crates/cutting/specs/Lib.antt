@@ -2,3 +2,4 @@ pub mod Chosen
 pub mod CutList
 pub mod CutFile
 pub mod Steps
+pub mod Starred
