@@ -1,4 +1,4 @@
--- When a call cuts pages, and what it gives; a call that is worked out by hand. Assumes nothing.
+-- When a call cuts pages, and what it gives; calls that are worked out by hand. Assumes nothing.
 use Prim.Native.Nat.{ℕ, _≤_}
 use mathlib.Core.Path.{_≡_}
 use mathlib.Core.Bool.{false}
@@ -10,6 +10,7 @@ use Rattle.volume.specs.Judged.{judged}
 use Rattle.volume.specs.Starred.{M}
 use Rattle.cutting.specs.Chosen.{wrongList}
 use Rattle.cutting.specs.CutFile.{cutFile}
+use Rattle.cutting.specs.Starred.{threePages}
 
 -- of a file and a list a call with an area gave so many bytes and left the area so (rules 9.1, 9.10)
 pub record Gives (file list area : List ℕ) (bytes : ℕ) (after : List ℕ) : Type 0 where
@@ -26,3 +27,9 @@ pub record IsSmallest (file list area : List ℕ) : Type 0 where
   pub file-is : file ≡ M
   pub list-is : list ≡ 1 ∷ []
   pub area-is : area ≡ replicate 100 0
+
+-- the file of three pages, one of them, and an area of as many bytes as the file (rule 9.10)
+pub record IsOneOfThree (file list area : List ℕ) (page : ℕ) : Type 0 where
+  pub file-is : file ≡ threePages
+  pub list-is : list ≡ page ∷ []
+  pub room-is : length area ≡ 297
