@@ -1,4 +1,4 @@
--- What the file of chosen pages is to the other entries, over their contracts: it is accepted, its pages place as before, its fonts have their names, and cut again it is the same. Assumes nothing.
+-- What the file of chosen pages is to the other entries, over their contracts: it is accepted, its pages place as before, and its fonts have their names. Assumes nothing.
 use Prim.Native.Nat.{ℕ, _+_}
 use mathlib.Core.Path.{_≡_, refl, sym, ap, _∙_}
 use mathlib.Core.Bool.{Bool, true, false}
@@ -24,10 +24,10 @@ use Rattle.page.proofs.Traces.{accepted-trace}
 use Rattle.cutting.specs.Chosen.{isIn, wrongList}
 use Rattle.cutting.specs.CutList.{cutPast}
 use Rattle.cutting.specs.CutFile.{cutFile, cutAccepted, cutPages, bytesCut, cutArea}
-use Rattle.rewritten.specs.OldWords.{deepestOn, newPlace, pagesUpTo}
+use Rattle.rewritten.specs.OldWords.{deepestOn, newPlace}
 use Rattle.rewritten.specs.Renumbered.{renumbered}
 use Rattle.rewritten.specs.Unplaced.{unplaced}
-use Rattle.rewritten.proofs.CutAccepted.{cut-accepted, cut-definitions, cut-again}
+use Rattle.rewritten.proofs.CutAccepted.{cut-accepted, cut-definitions}
 use Rattle.rewritten.proofs.CutPlaces.{cut-places}
 use Rattle.reader.specs.declared.FileChecked.{FileChecked}
 use Rattle.reader.specs.declared.PagesCut.{PagesCut}
@@ -127,7 +127,3 @@ module _ (file list : List ℕ) (s : Summary) (accepted : judged file ≡ given 
 
   pub new-font-named : (κs : Lfts 3) → (again : _) → (font : ℤ) → (n p r x : _) → now again ≡ new → font-name.Post κs (again, (font, (n, (p, tt)))) r x → now r ≡ nameOf file font
   new-font-named κs again font n p r x is post = post .0 ∙ ap (λ (f : List ℕ). nameOf f font) is ∙ same-name font
-
-  -- all its pages, cut again, are the same bytes
-  pub new-file-again : cutFile new (pagesUpTo (length list)) ≡ new
-  new-file-again = cut-again file s accepted bytes list right
