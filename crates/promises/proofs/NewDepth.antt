@@ -48,6 +48,10 @@ deepest-there : {past : List Command} → PastKeeps past → greatest past ≤ 1
 deepest-there no-more = omega arith
 deepest-there (and-one keeps allowed) = omega (arith, deepest-there keeps, deep (and-one keeps allowed))
 
+-- and a command at which the depth stays goes no deeper than those before it
+no-deeper : (past : List Command) → greatest past ≡ max (greatest past) (depth past)
+no-deeper past = omega (arith, depth-reached past)
+
 -- ---- stages
 
 -- what opens the new list is before post
@@ -79,17 +83,13 @@ module _ (new : List ℕ) (first : List Command) (chosen : ℕ → Bool) (early 
       ap (unsignedIn postDepth) (there ∙ bytes)
       ∙ unsigned-front (mended before c .params) rest 24 2 (omega (arith, size))
       ∙ post-depth before c w k (omega (arith, deepest-there (kept t))) in
-      let no-deeper : greatest before ≡ max (greatest before) (depth before) = omega (arith, depth-reached before) in
-      rw k (stated ∙ no-deeper)
+      rw k (stated ∙ no-deeper before)
 
-  -- a later command
+  -- so do the commands with one more that is a post or stands behind it
   later-states : (before : List Command) (c : Command) → Allowed before c → (isA Post c ≡ true → States (c ∷ before)) → (isAfterPost (stage before) ≡ true → States before)
       → isAfterPost (stage (c ∷ before)) ≡ true → States (c ∷ before)
   later-states before c allowed here earlier late = by (turn-of allowed)
     where
-      no-deeper : greatest before ≡ max (greatest before) (depth before)
-      no-deeper = omega (arith, depth-reached before)
-
       by : Turn (stage before) (kindOfCommand c) → States (c ∷ before)
       by (starts at k) = absurd (false≢true (rw k at late))
       by (idles out k) = absurd (true≢false (sym (rw k at late) ∙ out .early))
@@ -98,10 +98,11 @@ module _ (new : List ℕ) (first : List Command) (chosen : ℕ → Bool) (early 
       by (within at inner) = absurd (false≢true (rw (inner-stage (kindOfCommand c) inner (stage before), at) at late))
       by (finishes at k) = absurd (false≢true (rw k at late))
       by (posts at k) = here (rw k)
-      by (idles-late at k) = rw k (earlier (rw at) ∙ no-deeper)
-      by (defines-again at k) = rw k (earlier (rw at) ∙ no-deeper)
-      by (ends at k) = rw k (earlier (rw at) ∙ no-deeper)
+      by (idles-late at k) = rw k (earlier (rw at) ∙ no-deeper before)
+      by (defines-again at k) = rw k (earlier (rw at) ∙ no-deeper before)
+      by (ends at k) = rw k (earlier (rw at) ∙ no-deeper before)
 
+  -- so does the new list once post has passed
   states : {file : List ℕ} {past : List Command} → Trace file past → Trace new (cutAfter first chosen past) → isAfterPost (stage (cutAfter first chosen past)) ≡ true
       → States (cutAfter first chosen past)
   states start new-trace late = absurd (true≢false (sym late ∙ early))
