@@ -1,8 +1,9 @@
--- What the file of chosen pages is to the other entries, over their contracts: it is accepted, its pages place as before, its fonts have their names, and cut again it is the same. Assumes nothing.
-use Prim.Native.Nat.{ℕ, _+_}
+-- What the file of chosen pages is to the other entries, over their contracts: it is accepted, its pages place as before, and its fonts have their names. Assumes nothing.
+use Prim.Native.Nat.{ℕ, zero, suc, _+_}
 use mathlib.Core.Path.{_≡_, refl, sym, ap, _∙_}
 use mathlib.Core.Bool.{Bool, true, false}
 use mathlib.Core.List.{List, _∷_, _++_}
+use mathlib.Core.Logic.{_↔_}
 use native.Mathlib.Omega.{arith}
 use contract.Lifetimes.{Lfts}
 use denote.Ref.{now}
@@ -18,28 +19,29 @@ use Rattle.volume.specs.declared.Summary.{Summary}
 use Rattle.list.specs.Past.{Definition, none, stands, definitionOf, postPlace}
 use Rattle.volume.specs.Judged.{judged}
 use Rattle.volume.specs.History.{history}
-use Rattle.volume.specs.Names.{partOf, namedBy, nameOf}
+use Rattle.volume.specs.Names.{namePart, namedBy, namePlace, partOf, nameOf}
 use Rattle.page.specs.Answers.{placedPage, placedCounts, areaAfter}
 use Rattle.page.proofs.Traces.{accepted-trace}
 use Rattle.cutting.specs.Chosen.{isIn, wrongList}
 use Rattle.cutting.specs.CutList.{cutPast}
 use Rattle.cutting.specs.CutFile.{cutFile, cutAccepted, cutPages, bytesCut, cutArea}
-use Rattle.rewritten.specs.OldWords.{deepestOn, newPlace, pagesUpTo}
+use Rattle.rewritten.specs.OldWords.{deepestOn, newPlace}
 use Rattle.rewritten.specs.Renumbered.{renumbered}
 use Rattle.rewritten.specs.Unplaced.{unplaced}
-use Rattle.rewritten.proofs.CutAccepted.{cut-accepted, cut-definitions, cut-again}
+use Rattle.rewritten.proofs.CutAccepted.{cut-accepted, cut-definitions}
 use Rattle.rewritten.proofs.CutPlaces.{cut-places}
 use Rattle.reader.specs.declared.FileChecked.{FileChecked}
 use Rattle.reader.specs.declared.PagesCut.{PagesCut}
 use Rattle.reader.specs.declared.PagesCut.the-variants as PagesCut
 use Rattle.reader.specs.declared.Placed.{Placed}
-use Rattle.reader.specs.Answers.{fileAnswer, placedAnswer}
+use Rattle.reader.specs.Answers.{fileAnswer, nameAnswer, placedAnswer}
 use Rattle.reader.proofs.check_file.Reads as check-file
 use Rattle.reader.proofs.font_name.Reads as font-name
 use Rattle.reader.proofs.cut_pages.Reads as cut-pages
 use Rattle.reader.proofs.place_page.Reads as place-page
 use Rattle.promises.specs.Cuts.{Gives}
 use Rattle.promises.proofs.NameBytes.{nameIn, named-bytes}
+use Rattle.promises.proofs.OneToOne.{name-one-to-one}
 
 -- ---- what a call gives
 
@@ -79,6 +81,10 @@ cut-pages-gives κs file pages area bytes x post = gives (now file) (now pages) 
 
 -- ---- the new file and the other entries
 
+-- a font's name is where its definition has it
+named : (file : List ℕ) (s : Summary) → judged file ≡ given s → (font : ℤ) → namePlace file font ≡ namedBy (definitionOf false font (history file))
+named file s e font = ap (λ (x : Answer Summary). andThen x (λ _. namedBy (definitionOf false font (history file)))) e
+
 module _ (file list : List ℕ) (s : Summary) (accepted : judged file ≡ given s) (bytes : Bytes file) (right : wrongList (s .pages) list ≡ false) where
   abbrev new : List ℕ
   new = cutFile file list
@@ -107,27 +113,54 @@ module _ (file list : List ℕ) (s : Summary) (accepted : judged file ≡ given 
       (post .0 ∙ ap placedCounts same, post .1 .0 ∙ ap (areaAfter (now area)) same)
 
   -- a font's name is the same
-  pub same-name : (number : ℤ) → nameOf new number ≡ nameOf file number
-  same-name number =
+  pub same-name : (font : ℤ) → nameOf new font ≡ nameOf file font
+  same-name font =
       let again = cut-accepted file s accepted bytes list right in
-      named new _ again
-      ∙ plain (definitionOf false number (history new))
-      ∙ ap nameIn (cut-definitions file s accepted bytes list right number)
-      ∙ sym (plain (definitionOf false number (history file)))
-      ∙ sym (named file s accepted)
+      spelled new _ again
+      ∙ plain (definitionOf false font (history new))
+      ∙ ap nameIn (cut-definitions file s accepted bytes list right font)
+      ∙ sym (plain (definitionOf false font (history file)))
+      ∙ sym (spelled file s accepted)
     where
-      named : (f : List ℕ) (found : Summary) → judged f ≡ given found → nameOf f number ≡ nameIn (definitionOf false number (history f))
-      named f found e =
-          ap (λ (x : Answer Summary). partOf f (andThen x (λ _. namedBy (definitionOf false number (history f))))) e
-          ∙ named-bytes f (history f) (accepted-trace f found e) false number
+      spelled : (f : List ℕ) (found : Summary) → judged f ≡ given found → nameOf f font ≡ nameIn (definitionOf false font (history f))
+      spelled f found e = ap (partOf f) (named f found e font) ∙ named-bytes f (history f) (accepted-trace f found e) false font
 
       plain : (d : Definition) → nameIn d ≡ nameIn (unplaced d)
       plain none = refl
       plain (stands at c) = refl
 
-  pub new-font-named : (κs : Lfts 3) → (again : _) → (font : ℤ) → (n p r x : _) → now again ≡ new → font-name.Post κs (again, (font, (n, (p, tt)))) r x → now r ≡ nameOf file font
-  new-font-named κs again font n p r x is post = post .0 ∙ ap (λ (f : List ℕ). nameOf f font) is ∙ same-name font
+  -- a name is refused in the new file exactly where it is refused in the old one, with the same number and place
+  pub name-refused-same : (font : ℤ) (number place : ℕ) → (namePlace file font ≡ refused number place) ↔ (namePlace new font ≡ refused number place)
+  name-refused-same font number place =
+      let of-old = named file s accepted font in
+      let of-new = named new _ (cut-accepted file s accepted bytes list right) font in
+      let same = cut-definitions file s accepted bytes list right font in (
+        λ e. of-new ∙ refused-too (definitionOf false font (history file)) (definitionOf false font (history new)) (sym same) (sym of-old ∙ e),
+        λ e. of-old ∙ refused-too (definitionOf false font (history new)) (definitionOf false font (history file)) same (sym of-new ∙ e),
+      )
+    where
+      refused-too : (d e : Definition) → unplaced d ≡ unplaced e → namedBy d ≡ refused number place → namedBy e ≡ refused number place
+      refused-too none none same q = q
+      refused-too none (stands at c) same q = absurd (let z : _≡_ {A = ℕ} 0 1 = cc in omega arith)
+      refused-too (stands at c) e same q = absurd (given-not-refused (namePart at c) number place q)
 
-  -- all its pages, cut again, are the same bytes
-  pub new-file-again : cutFile new (pagesUpTo (length list)) ≡ new
-  new-file-again = cut-again file s accepted bytes list right
+  -- font_name, of the old file and of the new one: the same bytes and the same number, and where it is refused the same place
+  pub new-font-named : (κs κs′ : Lfts 3) → (lent again : _) → (font : ℤ) → (n p n′ p′ r r′ x y : _) → now lent ≡ file → now again ≡ new
+      → font-name.Post κs (lent, (font, (n, (p, tt)))) r x → font-name.Post κs′ (again, (font, (n′, (p′, tt)))) r′ y
+      → (now r′ ≡ now r) × (now (y .1 .1 .0) ≡ now (x .1 .1 .0)) × ((now (x .1 .1 .0) ≡ 0 → ⊥) → now (y .1 .1 .1 .0) ≡ now (x .1 .1 .1 .0))
+  new-font-named κs κs′ lent again font n p n′ p′ r r′ x y is-old is-new post post′ =
+      let refusal =
+      told (now (x .1 .1 .0)) (now (x .1 .1 .1 .0)) (length (now r)) (now (y .1 .1 .0)) (now (y .1 .1 .1 .0)) (length (now r′))
+      (post .1 .1 .0 ∙ ap (λ (f : List ℕ). namePlace f font) is-old) (post′ .1 .1 .0 ∙ ap (λ (f : List ℕ). namePlace f font) is-new) in (
+        post′ .0 ∙ ap (λ (f : List ℕ). nameOf f font) is-new ∙ same-name font ∙ sym (post .0 ∙ ap (λ (f : List ℕ). nameOf f font) is-old),
+        refusal .0,
+        refusal .1,
+      )
+    where
+      told : (number place long number′ place′ long′ : ℕ) → nameAnswer number place long ≡ namePlace file font → nameAnswer number′ place′ long′ ≡ namePlace new font
+          → (number′ ≡ number) × ((number ≡ 0 → ⊥) → place′ ≡ place)
+      told zero place long zero place′ long′ e q = (refl, λ some. absurd (some refl))
+      told zero place long (suc less) place′ long′ e q = absurd (given-not-refused _ (suc less) place′ (e ∙ name-refused-same font (suc less) place′ .1 (sym q)))
+      told (suc less) place long number′ place′ long′ e q =
+          let same = name-one-to-one number′ place′ long′ (suc less) place long (q ∙ name-refused-same font (suc less) place .0 (sym e)) in
+          (same .0, λ _. same .1)

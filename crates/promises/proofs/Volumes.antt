@@ -96,7 +96,7 @@ standing-kept kept (goes w allowed not-last follows) (later _ there) = standing-
 -- ---- the depth
 
 -- at most 100, whatever commands keep the rules
-deep : {past : List Command} → PastKeeps past → depth past ≤ 100
+pub deep : {past : List Command} → PastKeeps past → depth past ≤ 100
 deep no-more = omega arith
 deep (and-one {past = past} {c = c} kept allowed) = by (isA Push c) refl (isA Pop c) (deep kept)
   where

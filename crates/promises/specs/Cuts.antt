@@ -11,6 +11,8 @@ use Rattle.volume.specs.Starred.{M}
 use Rattle.cutting.specs.Chosen.{wrongList}
 use Rattle.cutting.specs.CutFile.{cutFile}
 use Rattle.cutting.specs.Starred.{threePages}
+use Rattle.reader.specs.declared.PagesCut.{PagesCut}
+use Rattle.reader.specs.declared.PagesCut.the-variants as PagesCut
 
 -- of a file and a list a call with an area gave so many bytes and left the area so (rules 9.1, 9.10)
 pub record Gives (file list area : List ℕ) (bytes : ℕ) (after : List ℕ) : Type 0 where
@@ -21,6 +23,18 @@ pub record Gives (file list area : List ℕ) (bytes : ℕ) (after : List ℕ) : 
   pub room : bytes ≤ length area
   pub front : take bytes after ≡ cutFile file list
   pub rest : drop bytes after ≡ drop bytes area
+
+-- a call that is not refused (rule 9.10)
+abbrev pub IsCut : PagesCut → Type 0
+IsCut (PagesCut.Bytes bytes) = Unit {0}
+IsCut (PagesCut.Refused number place) = ⊥
+
+-- when a call is not refused: the file is accepted, the list is right for its pages, and the area has room for the new file (rules 9.10, 12.1)
+pub record MayCut (file list : List ℕ) (room : ℕ) : Type 0 where
+  pub summary : Summary
+  pub accepted : judged file ≡ given summary
+  pub right : wrongList (summary .pages) list ≡ false
+  pub enough : length (cutFile file list) ≤ room
 
 -- the smallest file, its one page, and an area of a hundred zeros (rule 9.10)
 pub record IsSmallest (file list area : List ℕ) : Type 0 where

@@ -18,3 +18,4 @@ pub mod Standing
 pub mod CutPages
 pub mod RangeRefusal
 pub mod CutPlaces
+pub mod RecordBytes
