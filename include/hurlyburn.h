@@ -148,7 +148,8 @@ uint32_t hurlyburn_width_table(const uint8_t *pk, size_t pk_length, uint32_t sca
 
    The new file has the preamble; every font definition that stands before post, in their order; the chosen pages, without the
    definitions that stood on them; post, the definitions behind it and post_post; and four to seven 223s, up to a multiple of four
-   bytes. Its pointers, number of pages and greatest depth are its own. nops outside pages are left out. */
+   bytes. Its pointers, number of pages and greatest depth are its own; l and u of post are the old file's. nops outside pages are
+   left out. It has no more bytes than a file may have, whatever the list. */
 uint32_t hurlyburn_cut_pages(const uint8_t *file, size_t file_length, const uint32_t *pages, size_t count, uint8_t *area,
                              size_t area_length, int64_t *answer, size_t answer_length);
 

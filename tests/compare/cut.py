@@ -100,7 +100,7 @@ def ask_page(group, old_file, file, table, resolution, old_number, number):
 
 
 def same_page(number, old_number, new, old):
-    """Where a page places otherwise than the old one, but for the page field and a refusal's place."""
+    """Where a page places otherwise than the old one; page numbers in records, and where a refusal is, may differ."""
     for at, rows in enumerate(itertools.zip_longest(new.split(b"\n"), old.split(b"\n"), fillvalue=b"")):
         fields, others = (row.split(b" ") for row in rows)
         if others[0] in (b"c", b"r"):
