@@ -9,7 +9,6 @@ use volume::scanning;
 ghost use mathlib.Core.Path.{_≡_};
 ghost use mathlib.Core.Bool.{false};
 ghost use lib.ListN.{length};
-ghost use Prim.Native.Nat.{_<_, _^_};
 ghost use Rattle.list.specs.Past.{pages};
 ghost use Rattle.list.specs.Lawful.{Lawful};
 ghost use Rattle.volume.specs.History.{history};

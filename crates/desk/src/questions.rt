@@ -7,7 +7,6 @@ use crate::numbers_asked;
 use crate::pages_asked;
 use crate::tables_asked;
 use printing::line::Line;
-ghost use Prim.Native.Nat.{_≤_};
 
 enum Question {
     Read,
