@@ -2,7 +2,7 @@
 
 use crate::check::check;
 use crate::cutting::cut;
-use crate::examples::{changed, checked, m, parts, placed, width_record, written, Parts};
+use crate::examples::{changed, checked, m, named_record, parts, placed, width_record, written, Parts};
 use crate::lines::{answer, DESK, LONG};
 
 // ---- a file with a bit of everything, and its parts ----
@@ -276,8 +276,14 @@ fn files() {
 
 // ---- the new pages are the old ones ----
 
+/// Font 2 has no name but an area; font 1 has a name, under which its character stands.
 fn table() -> Vec<u8> {
-    [width_record(8, 200, 65, 61, [0, 16, 0, 0]), width_record(9, 100, 66, 31, [0, 16, 0, 0])].concat()
+    [
+        width_record(8, 200, 65, 61, [0, 16, 0, 0]),
+        width_record(9, 100, 66, 30, [0, 16, 0, 0]),
+        named_record(9, 100, b"a", 66, 31, [0, 16, 0, 0]),
+    ]
+    .concat()
 }
 
 /// A placed page's lines without the page's number, or a refusal without its place.

@@ -15,7 +15,7 @@ fn four(number: i64) -> [u8; 4] {
 }
 
 /// A font definition; the number in `bytes` bytes.
-fn font(bytes: u8, number: i64, check_sum: u32, s: i64, d: i64, area: &str, name: &str) -> Vec<u8> {
+pub fn font(bytes: u8, number: i64, check_sum: u32, s: i64, d: i64, area: &str, name: &str) -> Vec<u8> {
     let mut out = vec![242 + bytes];
     out.extend(&four(number)[4 - usize::from(bytes)..]);
     out.extend(check_sum.to_be_bytes());
@@ -71,7 +71,7 @@ impl Parts {
         out
     }
 
-    fn with_font(definition: Vec<u8>, page: Vec<u8>) -> Parts {
+    pub fn with_font(definition: Vec<u8>, page: Vec<u8>) -> Parts {
         Parts { first: definition.clone(), pages: vec![page], last: definition, ..parts() }
     }
 }
@@ -104,9 +104,23 @@ pub fn placed(file: &[u8], table: &[u8], resolution: u32, page: u32, area: u64) 
     }
 }
 
+/// A width record for any name.
 pub fn width_record(check_sum: u32, scale: i64, code: u8, escapement: i16, width: [u8; 4]) -> Vec<u8> {
+    named_record(check_sum, scale, b"", code, escapement, width)
+}
+
+pub fn named_record(
+    check_sum: u32,
+    scale: i64,
+    name: &[u8],
+    code: u8,
+    escapement: i16,
+    width: [u8; 4],
+) -> Vec<u8> {
     let mut out = check_sum.to_be_bytes().to_vec();
     out.extend(four(scale));
+    out.extend(name);
+    out.resize(24, 0);
     out.extend([code, 0]);
     out.extend(escapement.to_be_bytes());
     out.extend(width);
@@ -542,13 +556,13 @@ fn tables() {
     assert_eq!(tabled(&[]), "right 0");
     assert_eq!(tabled(&good(1)), "right 1");
     assert_eq!(tabled(&[good(1), good(2)].concat()), "right 2");
-    assert_eq!(tabled(&[good(1), good(1)].concat()), "refused 14 at 16");
-    assert_eq!(tabled(&[good(2), good(1)].concat()), "refused 14 at 16");
-    assert_eq!(tabled(&good(1)[..15]), "refused 14 at 0");
-    assert_eq!(tabled(&[good(1), vec![0]].concat()), "refused 14 at 16");
-    assert_eq!(tabled(&changed(good(1), 9, 1)), "refused 14 at 0");
-    assert_eq!(tabled(&changed(good(1), 12, 1)), "refused 14 at 0");
-    assert_eq!(tabled(&changed(good(1), 12, 255)), "right 1");
+    assert_eq!(tabled(&[good(1), good(1)].concat()), "refused 14 at 32");
+    assert_eq!(tabled(&[good(2), good(1)].concat()), "refused 14 at 32");
+    assert_eq!(tabled(&good(1)[..31]), "refused 14 at 0");
+    assert_eq!(tabled(&[good(1), vec![0]].concat()), "refused 14 at 32");
+    assert_eq!(tabled(&changed(good(1), 25, 1)), "refused 14 at 0");
+    assert_eq!(tabled(&changed(good(1), 28, 1)), "refused 14 at 0");
+    assert_eq!(tabled(&changed(good(1), 28, 255)), "right 1");
     assert_eq!(tabled(&width_record(1, 0, 1, 0, [0; 4])), "refused 14 at 0");
     assert_eq!(tabled(&width_record(1, 134_217_728, 1, 0, [0; 4])), "refused 14 at 0");
     // As bytes: a check sum of 255... is above 127...
@@ -557,13 +571,13 @@ fn tables() {
 
     let table = [good(1), good(255), width_record(2, 100, 1, 7, [255, 1, 2, 3])].concat();
     let table = Table::check(&table).unwrap();
-    assert_eq!(table.look_up(1, 100, 1).unwrap().escapement, -3);
-    assert_eq!(table.look_up(1, 100, -1).unwrap().width, [0, 16, 0, 0]);
-    assert_eq!(table.look_up(2, 100, 257).unwrap().width, [255, 1, 2, 3]);
-    assert_eq!(table.look_up(2, 100, -255).unwrap().escapement, 7);
-    assert_eq!(table.look_up(1, 100, 2), None);
-    assert_eq!(table.look_up(1, 101, 1), None);
-    assert_eq!(table.look_up(3, 100, 1), None);
+    assert_eq!(table.look_up(1, 100, b"", 1).unwrap().escapement, -3);
+    assert_eq!(table.look_up(1, 100, b"", -1).unwrap().width, [0, 16, 0, 0]);
+    assert_eq!(table.look_up(2, 100, b"", 257).unwrap().width, [255, 1, 2, 3]);
+    assert_eq!(table.look_up(2, 100, b"", -255).unwrap().escapement, 7);
+    assert_eq!(table.look_up(1, 100, b"", 2), None);
+    assert_eq!(table.look_up(1, 101, b"", 1), None);
+    assert_eq!(table.look_up(3, 100, b"", 1), None);
 }
 
 fn character_table() -> Vec<u8> {
@@ -1248,13 +1262,13 @@ fn lines_answered() {
         ("scale 1 0 0 0", "no input"),
         ("table TABLE", "right 3"),
         ("table M.DVI", "refused 14 at 0"),
-        ("look TABLE 9 100 65", "found 31 0 16 0 0"),
-        ("look TABLE 9 100 -191", "found 31 0 16 0 0"),
-        ("look TABLE 9 100 66", "found -30 255 240 0 0"),
-        ("look TABLE 9 0 66", "absent"),
-        ("look TABLE 9 100 67", "absent"),
-        ("look TABLE -9 100 67", "no input"),
-        ("look M.DVI 9 100 67", "refused 14 at 0"),
+        ("look TABLE 9 100 - 65", "found 31 0 16 0 0"),
+        ("look TABLE 9 100 - -191", "found 31 0 16 0 0"),
+        ("look TABLE 9 100 - 66", "found -30 255 240 0 0"),
+        ("look TABLE 9 0 - 66", "absent"),
+        ("look TABLE 9 100 - 67", "absent"),
+        ("look TABLE -9 100 - 67", "no input"),
+        ("look M.DVI 9 100 - 67", "refused 14 at 0"),
         ("place FONT.DVI TABLE 300 1 20", "c 1 3 0 0 65 31\nend 1 0 0"),
         ("place FONT.DVI TABLE 300 1 19", "refused 17 at 0"),
         ("place FONT.DVI TABLE 300 1 60000", "c 1 3 0 0 65 31\nend 1 0 0"),

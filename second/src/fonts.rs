@@ -39,6 +39,12 @@ impl FontDefinition {
         }
     }
 
+    /// The name alone, by which the width table tells apart fonts of one check sum and scale. The
+    /// area says where a font was kept, which is no part of what it is.
+    pub fn name_without_area<'a>(&self, file: &'a [u8]) -> &'a [u8] {
+        &file[self.name.start + usize::from(self.area_length)..self.name.end]
+    }
+
     /// Whether the number fits one byte and both sizes are above zero and within their bound.
     pub fn in_range(&self) -> bool {
         (0..=255).contains(&self.number)

@@ -8,6 +8,7 @@ use crate::packed::width_table;
 use crate::placing::{place, record_line};
 use crate::refusal::Refusal;
 use crate::units::round_distance;
+use crate::widening::{narrow, widen};
 use crate::widths::{scale_width, Table};
 use std::ffi::OsStr;
 use std::fs::File;
@@ -17,7 +18,7 @@ use std::os::unix::ffi::OsStrExt;
 const NO_INPUT: &str = "no input";
 
 /// How long the files may be, none when any length will do; the output area, and that for a new
-/// file; the line itself, and the list of pages on it.
+/// file; the line itself, and on it the list of pages and a font's name.
 #[derive(Clone, Copy)]
 pub struct Limits {
     pub dvi: Option<u64>,
@@ -27,6 +28,7 @@ pub struct Limits {
     pub file_area: u64,
     pub line: usize,
     pub pages: usize,
+    pub name: usize,
 }
 
 pub const DESK: Limits = Limits {
@@ -37,6 +39,7 @@ pub const DESK: Limits = Limits {
     file_area: 262_144,
     line: 16_384,
     pages: 1_000,
+    name: 255,
 };
 pub const LONG: Limits = Limits {
     dvi: None,
@@ -46,6 +49,7 @@ pub const LONG: Limits = Limits {
     file_area: u64::MAX,
     line: usize::MAX,
     pages: usize::MAX,
+    name: usize::MAX,
 };
 
 /// How many bytes of a new file a line of the answer has.
@@ -108,11 +112,11 @@ fn asked(line: &[u8], limits: Limits) -> Result<Result<String, Refusal>, NoInput
             let file = table(file)?;
             Ok(Table::check(&file).map(|table| format!("right {}", table.count())))
         }
-        [b"look", file, check_sum, scale, code] => {
+        [b"look", file, check_sum, scale, name, code] => {
             let (check_sum, scale) = (unsigned_word(check_sum)?, unsigned_word(scale)?);
-            let code = signed_word(code)?;
+            let (name, code) = (spelled(name, limits.name)?, signed_word(code)?);
             let file = table(file)?;
-            Ok(Table::check(&file).map(|table| match table.look_up(check_sum, scale, code) {
+            Ok(Table::check(&file).map(|table| match table.look_up(check_sum, scale, &name, code) {
                 Some(found) => {
                     let [b0, b1, b2, b3] = found.width;
                     format!("found {} {b0} {b1} {b2} {b3}", found.escapement)
@@ -136,11 +140,17 @@ fn asked(line: &[u8], limits: Limits) -> Result<Result<String, Refusal>, NoInput
             let scale = unsigned_word(scale)?;
             let area = plain(area, limits.area)?;
             let file = pk(file)?;
-            Ok(width_table(&file, scale, area).map(|records| {
-                let mut lines: Vec<String> = records.iter().map(|record| hexadecimal(record)).collect();
-                lines.push(format!("end {}", records.len()));
-                lines.join("\n")
-            }))
+            Ok(width_table(&file, scale, area).map(|records| width_lines(&records)))
+        }
+        [b"widen", file, area] => {
+            let area = plain(area, limits.area)?;
+            let file = table(file)?;
+            Ok(widen(&file, area).map(|records| width_lines(&records)))
+        }
+        [b"narrow", file, area] => {
+            let area = plain(area, limits.area)?;
+            let file = table(file)?;
+            Ok(narrow(&file, area).map(|records| width_lines(&records)))
         }
         [b"cut", file, area, ref pages @ ..] if pages.len() <= limits.pages => {
             let area = plain(area, limits.file_area)?;
@@ -157,12 +167,39 @@ fn asked(line: &[u8], limits: Limits) -> Result<Result<String, Refusal>, NoInput
     }
 }
 
+/// Width records, one a line, and how many there are.
+fn width_lines<R: AsRef<[u8]>>(records: &[R]) -> String {
+    let mut lines: Vec<String> = records.iter().map(|record| hexadecimal(record.as_ref())).collect();
+    lines.push(format!("end {}", records.len()));
+    lines.join("\n")
+}
+
 /// Two digits for each byte; a dash stands for none, so that an answer never lacks a word.
 fn hexadecimal(bytes: &[u8]) -> String {
     if bytes.is_empty() {
         return "-".to_string();
     }
     bytes.iter().map(|byte| format!("{byte:02x}")).collect()
+}
+
+/// The bytes that `hexadecimal` writes in this way, if there are no more than `most`.
+fn spelled(word: &[u8], most: usize) -> Result<Vec<u8>, NoInput> {
+    if word == b"-" {
+        return Ok(Vec::new());
+    }
+    if word.is_empty() || word.len() % 2 != 0 || word.len() / 2 > most {
+        return Err(NoInput);
+    }
+    word.chunks(2).map(|pair| Ok(16 * digit(pair[0])? + digit(pair[1])?)).collect()
+}
+
+/// A capital letter is none of the sixteen digits.
+fn digit(sign: u8) -> Result<u8, NoInput> {
+    match sign {
+        b'0'..=b'9' => Ok(sign - b'0'),
+        b'a'..=b'f' => Ok(sign - b'a' + 10),
+        _ => Err(NoInput),
+    }
 }
 
 /// The bytes of a file, if it can be read and is not longer than the limit.

@@ -12,12 +12,15 @@ mod packed;
 mod placing;
 mod refusal;
 mod units;
+mod widening;
 mod widths;
 
 #[cfg(test)]
 mod cutting_examples;
 #[cfg(test)]
 mod examples;
+#[cfg(test)]
+mod named_examples;
 #[cfg(test)]
 mod packed_examples;
 

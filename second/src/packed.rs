@@ -3,7 +3,7 @@
 use crate::fonts::GREATEST_SCALE;
 use crate::numbers::{signed, unsigned};
 use crate::refusal::{refusal, Refusal};
-use crate::widths::{right_first_byte, RECORD};
+use crate::widths::{record_for_any_name, right_first_byte, Found, RECORD};
 use std::collections::BTreeMap;
 
 /// The identification of the PK files that are read here.
@@ -17,18 +17,11 @@ pub fn width_table(file: &[u8], scale: u32, area: u64) -> Result<Vec<[u8; RECORD
         return Err(refusal(22, 0));
     }
     let font = judge(file)?;
+    // A PK file does not say its font's name.
     let records: Vec<[u8; RECORD]> = font
         .characters
         .iter()
-        .map(|(code, character)| {
-            let mut record = [0; RECORD];
-            record[0..4].copy_from_slice(&font.check_sum);
-            record[4..8].copy_from_slice(&scale.to_be_bytes());
-            record[8] = *code;
-            record[10..12].copy_from_slice(&character.escapement.to_be_bytes());
-            record[12..16].copy_from_slice(&character.width);
-            record
-        })
+        .map(|(code, character)| record_for_any_name(font.check_sum, scale, *code, *character))
         .collect();
     if area < (RECORD * records.len()) as u64 {
         return Err(refusal(17, 0));
@@ -39,14 +32,7 @@ pub fn width_table(file: &[u8], scale: u32, area: u64) -> Result<Vec<[u8; RECORD
 /// What a right file says of its font.
 struct Font {
     check_sum: [u8; 4],
-    characters: BTreeMap<u8, Character>,
-}
-
-struct Character {
-    /// In pixels.
-    escapement: i16,
-    /// The fix word.
-    width: [u8; 4],
+    characters: BTreeMap<u8, Found>,
 }
 
 /// One command after the other, from the file's front: the preamble; packets and what may stand
@@ -186,7 +172,7 @@ fn take_four(left: &mut &[u8]) -> Option<[u8; 4]> {
 // ---- packets ----
 
 /// A packet's code, escapement and width, or the number by which it is refused.
-fn character(packet: &Packet) -> Result<(u8, Character), u8> {
+fn character(packet: &Packet) -> Result<(u8, Found), u8> {
     let fields = match packet.form {
         // tfm width; dm; w, h, hoff, voff
         Form::Short => 3 + 1 + 4,
@@ -210,7 +196,7 @@ fn character(packet: &Packet) -> Result<(u8, Character), u8> {
     if !right_first_byte(width[0]) {
         return Err(21);
     }
-    Ok((code, Character { escapement, width }))
+    Ok((code, Found { escapement, width }))
 }
 
 /// The nearest whole number to dx / 65536, of two the higher.

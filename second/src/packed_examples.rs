@@ -58,11 +58,14 @@ fn font(commands: &[u8]) -> Vec<u8> {
     [&PREAMBLE, commands, &[POSTAMBLE]].concat()
 }
 
+/// Each record without its name, which has to be sixteen zeros.
 fn tried(file: &[u8], scale: u32, area: u64) -> String {
     match width_table(file, scale, area) {
         Ok(records) => {
             let lines = records.iter().map(|record| {
-                let digits: String = record.iter().map(|byte| format!("{byte:02x}")).collect();
+                assert_eq!(record[8..24], [0; 16]);
+                let rest = record[..8].iter().chain(&record[24..]);
+                let digits: String = rest.map(|byte| format!("{byte:02x}")).collect();
                 digits + "\n"
             });
             lines.collect::<String>() + &format!("end {}", records.len())
@@ -73,7 +76,7 @@ fn tried(file: &[u8], scale: u32, area: u64) -> String {
 
 /// At scale 100, with room for every record that a font can have.
 fn made(file: &[u8]) -> String {
-    tried(file, 100, 4096)
+    tried(file, 100, 8192)
 }
 
 /// The escapement and the width in a font's only record.
@@ -97,7 +100,7 @@ fn the_character_of_the_appendix() {
     assert_eq!(xi.len(), 29);
     let file = font(&xi);
     // Width 640,796 and 25 pixels.
-    assert_eq!(tried(&file, 655_360, 16), "c55a1234000a0000040000190009c71c\nend 1");
+    assert_eq!(tried(&file, 655_360, 32), "c55a1234000a0000040000190009c71c\nend 1");
     assert_eq!(made(&file), "c55a123400000064040000190009c71c\nend 1");
     // The packet cut, or longer than it says.
     assert_eq!(made(&file[..START + 28]), "refused 18 at 19");
@@ -172,10 +175,10 @@ fn all_codes() {
                 width_record(0xc55a_1234, 134_217_727, code, escapement, [0, 0, code, 1])
             })
             .collect();
-        let table = width_table(&file, 134_217_727, 4096).unwrap();
+        let table = width_table(&file, 134_217_727, 8192).unwrap();
         assert_eq!(table.concat(), wanted.concat());
         assert_eq!(tabled(&table.concat()), "right 256");
-        assert_eq!(tried(&file, 134_217_727, 4095), "refused 17 at 0");
+        assert_eq!(tried(&file, 134_217_727, 8191), "refused 17 at 0");
         // Whatever the code of one more packet, it was met.
         let one_more = font(&[commands, plain(7)].concat());
         assert_eq!(made(&one_more), format!("refused 21 at {}", file.len() - 1));
@@ -192,11 +195,11 @@ fn the_scale() {
     for scale in [0, 134_217_728, 2_147_483_648, u32::MAX] {
         for file in wrong {
             assert_eq!(tried(file, scale, 0), "refused 22 at 0");
-            assert_eq!(tried(file, scale, 4096), "refused 22 at 0");
+            assert_eq!(tried(file, scale, 8192), "refused 22 at 0");
         }
     }
-    assert_eq!(tried(&file, 1, 16), "c55a1234000000010900000000000000\nend 1");
-    assert_eq!(tried(&file, 134_217_727, 16), "c55a123407ffffff0900000000000000\nend 1");
+    assert_eq!(tried(&file, 1, 32), "c55a1234000000010900000000000000\nend 1");
+    assert_eq!(tried(&file, 134_217_727, 32), "c55a123407ffffff0900000000000000\nend 1");
 }
 
 // The area goes after all that is wrong with the file.
@@ -204,15 +207,15 @@ fn the_scale() {
 fn the_area() {
     let one = font(&plain(9));
     let two = font(&[plain(9), plain(8)].concat());
-    for area in [0, 1, 15] {
+    for area in [0, 1, 16, 31] {
         assert_eq!(tried(&one, 100, area), "refused 17 at 0");
         assert_eq!(tried(&two, 100, area), "refused 17 at 0");
     }
-    for area in [16, 17, 31] {
+    for area in [32, 33, 63] {
         assert_eq!(tried(&one, 100, area), "c55a1234000000640900000000000000\nend 1");
         assert_eq!(tried(&two, 100, area), "refused 17 at 0");
     }
-    for area in [32, 33, u64::MAX] {
+    for area in [64, 65, u64::MAX] {
         assert!(tried(&two, 100, area).ends_with("\nend 2"));
     }
     assert_eq!(tried(&two[..two.len() - 1], 100, 0), "refused 18 at 41");
@@ -654,12 +657,14 @@ fn lines_answered() {
         let line = line.replace("RIGHT", &right).replace("WITHOUT", &without).replace("EMPTY", &empty);
         answer(line.as_bytes(), limits)
     };
-    let both = "c55a1234000000644100001f00100000\nc55a123400000064c800fffdfff00001\nend 2";
+    let both = "c55a123400000064000000000000000000000000000000004100001f00100000\n\
+                c55a12340000006400000000000000000000000000000000c800fffdfff00001\n\
+                end 2";
     for (line, wanted) in [
-        ("widths RIGHT 100 32", both),
-        ("widths RIGHT 0100 000032", both),
+        ("widths RIGHT 100 64", both),
+        ("widths RIGHT 0100 000064", both),
         ("widths RIGHT 100 60000", both),
-        ("widths RIGHT 100 31", "refused 17 at 0"),
+        ("widths RIGHT 100 63", "refused 17 at 0"),
         ("widths RIGHT 0 0", "refused 22 at 0"),
         ("widths RIGHT 134217728 0", "refused 22 at 0"),
         ("widths RIGHT 134217727 0", "refused 17 at 0"),
@@ -700,15 +705,15 @@ fn lengths_of_files() {
     let mut file = font(&plain(9));
     file.resize(262_144, NO_OP);
     let path = written("desk.pk", &file);
-    let line = format!("widths {path} 100 16");
-    let wanted = "c55a1234000000640900000000000000\nend 1";
+    let line = format!("widths {path} 100 32");
+    let wanted = "c55a123400000064000000000000000000000000000000000900000000000000\nend 1";
     assert_eq!(answer(line.as_bytes(), DESK), wanted);
     file.push(NO_OP);
     std::fs::write(&path, &file).unwrap();
     assert_eq!(answer(line.as_bytes(), DESK), "no input");
     assert_eq!(answer(line.as_bytes(), LONG), wanted);
     // A scale out of range does not make up for a file too long.
-    assert_eq!(answer(format!("widths {path} 0 16").as_bytes(), DESK), "no input");
+    assert_eq!(answer(format!("widths {path} 0 32").as_bytes(), DESK), "no input");
     // Document 01's bound on DVI files is none on PK files: a special of 16 MiB.
     let mut file = open(&[243, 1, 0, 0, 0]);
     file.resize(file.len() + 16_777_216, 0);
@@ -749,7 +754,7 @@ fn changed_by_chance() {
         if chance(10) == 0 {
             file.truncate(chance(file.len()));
         }
-        match width_table(&file, 100, 4096) {
+        match width_table(&file, 100, 8192) {
             Ok(records) => assert_eq!(tabled(&records.concat()), format!("right {}", records.len())),
             Err(refusal) => {
                 assert!((18..=21).contains(&refusal.number) && refusal.place <= file.len() as u64);

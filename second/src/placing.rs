@@ -151,6 +151,7 @@ impl Registers {
 
 /// One page while it is walked.
 struct Page<'a> {
+    file: &'a [u8],
     number: u32,
     measure: Measure,
     table: Table<'a>,
@@ -183,6 +184,7 @@ pub fn place(
         return Err(refusal(15, 0));
     }
     let mut walked = Page {
+        file,
         number: page,
         measure: Measure::new(unit, resolution),
         table,
@@ -286,7 +288,8 @@ impl Page<'_> {
     fn character(&mut self, code: i32, moves: bool) -> Result<(), Leaves> {
         let font = self.font.expect("the check refuses a character before a selection");
         // The font's number has no part in this: the table serves many files.
-        let Some(found) = self.table.look_up(font.check_sum, font.scale, code) else {
+        let name = font.name_without_area(self.file);
+        let Some(found) = self.table.look_up(font.check_sum, font.scale, name, code) else {
             // Without metrics it can neither be placed nor passed.
             self.placed.missing += 1;
             return Ok(());
