@@ -3,8 +3,7 @@ use mathlib.Core.Path.{_≡_, refl, sym, ap, ap₂, _∙_}
 use mathlib.Core.Bool.{Bool, true, false, cond}
 use mathlib.Core.List.{List, [], _∷_}
 use Prim.Native.Nat.{ℕ, zero, suc, _+_, _*_, _^_, _≤_, _<_}
-use native.Mathlib.Nat.{zero-add, pow-suc, mul-assoc, mul-le-mul-right}
-use native.Mathlib.Numerals.{lt-of-le-of-ne}
+use native.Mathlib.Nat.{zero-add, pow-suc, mul-assoc}
 use native.Mathlib.Omega.{arith}
 use lib.Dec.{ltb, eqb}
 use lib.ListN.{length, getD, take, drop, length-drop}
@@ -12,9 +11,10 @@ use lib.Seq.{length-take-le, getD-take, getD-drop}
 use borrow.Author.Tests.{eqb-true, eqb-false}
 use Rattle.numbers.specs.Bytes.{unsignedAt}
 use Rattle.numbers.proofs.Bytes.{unsigned-below}
-use Rattle.widths.specs.Table.{widthRecordSize, recordOf, rises}
+use Rattle.names.specs.Names.{nameSize}
+use Rattle.widths.specs.Table.{widthRecordSize, recordIn, recordOf, risesIn}
 use Rattle.widths.specs.AsBytes.{Bytes, risesAsBytes, keyBytes}
-use Rattle.widths.proofs.Keys.{same-less}
+use Rattle.numbers.proofs.Radix.{first-decides, second-decides, first-same, second-same}
 
 -- ---- a number by its first byte
 
@@ -29,20 +29,9 @@ first-byte x xs (suc count) =
 -- ---- the order
 
 module _ (x y high low-x low-y : ℕ) (x-in : low-x < high) (y-in : low-y < high) where
-  first-decides : (x ≡ y → ⊥) → ltb x y ≡ ltb (x * high + low-x) (y * high + low-y)
-  first-decides differ =
-      same-less x y (x * high + low-x) (y * high + low-y)
-      (λ h. let more : suc x * high ≤ y * high = mul-le-mul-right high h in omega arith)
-      (λ h. let past : y < x = lt-of-le-of-ne h (λ e. differ (sym e)) in let more : suc y * high ≤ x * high = mul-le-mul-right high past in omega arith)
-
-  rest-decides : x ≡ y → ltb low-x low-y ≡ ltb (x * high + low-x) (y * high + low-y)
-  rest-decides e =
-      let same : x * high ≡ y * high = ap (λ (n : ℕ). n * high) e in
-      same-less low-x low-y (x * high + low-x) (y * high + low-y) (λ h. omega arith) (λ h. omega arith)
-
   decided : (outcome : Bool) → eqb x y ≡ outcome → cond outcome (ltb low-x low-y) (ltb x y) ≡ ltb (x * high + low-x) (y * high + low-y)
-  decided true e = rest-decides (eqb-true x y e)
-  decided false e = first-decides (eqb-false x y e)
+  decided true e = second-decides x y high low-x low-y x-in (eqb-true x y e)
+  decided false e = first-decides x y high low-x low-y x-in (omega arith) (eqb-false x y e)
 
 none : (ys : List ℕ) → false ≡ ltb (unsignedAt [] 0 0) (unsignedAt ys 0 0)
 unfolding unsignedAt
@@ -63,6 +52,22 @@ rises-by (x ∷ xs) (y ∷ ys) (suc count) a b p q =
 pub as-bytes : (xs ys : List ℕ) → length xs ≡ length ys → Bytes xs → Bytes ys → risesAsBytes xs ys ≡ ltb (unsignedAt xs 0 (length xs)) (unsignedAt ys 0 (length ys))
 as-bytes xs ys e p q = rises-by xs ys (length xs) refl (sym e) p q ∙ ap (λ (n : ℕ). ltb (unsignedAt xs 0 (length xs)) (unsignedAt ys 0 n)) e
 
+-- ---- equal numbers of equally many bytes are equal bytes
+
+pub bytes-same : (xs ys : List ℕ) (count : ℕ) → length xs ≡ count → length ys ≡ count → Bytes xs → Bytes ys → unsignedAt xs 0 count ≡ unsignedAt ys 0 count → xs ≡ ys
+bytes-same [] [] count a b p q e = refl
+bytes-same [] (y ∷ ys) count a b p q e = absurd (omega arith)
+bytes-same (x ∷ xs) [] count a b p q e = absurd (omega arith)
+bytes-same (x ∷ xs) (y ∷ ys) zero a b p q e = absurd (omega arith)
+bytes-same (x ∷ xs) (y ∷ ys) (suc count) a b p q e =
+    let p-rest : Bytes xs = λ i h. p (suc i) (omega arith) in
+    let q-rest : Bytes ys = λ i h. q (suc i) (omega arith) in
+    let split : x * 256 ^ count + unsignedAt xs 0 count ≡ y * 256 ^ count + unsignedAt ys 0 count = sym (first-byte x xs count) ∙ e ∙ first-byte y ys count in
+    let x-in = unsigned-below xs 0 count (λ i h. p-rest (0 + i) (omega arith)) in
+    let y-in = unsigned-below ys 0 count (λ i h. q-rest (0 + i) (omega arith)) in
+    ap₂ (λ (b : ℕ) (l : List ℕ). b ∷ l) (first-same x y (256 ^ count) (unsignedAt xs 0 count) (unsignedAt ys 0 count) x-in y-in split)
+    (bytes-same xs ys count (omega arith) (omega arith) p-rest q-rest (second-same x y (256 ^ count) (unsignedAt xs 0 count) (unsignedAt ys 0 count) x-in y-in split))
+
 -- ---- the table's keys
 
 part-byte : (table : List ℕ) (at count i : ℕ) → i < count → getD (take count (drop at table)) i 0 ≡ getD table (at + i) 0
@@ -76,22 +81,33 @@ unsigned-part table at count (suc upto) h =
     (ap (λ (n : ℕ). getD (take count (drop at table)) n 0) (zero-add upto) ∙ part-byte table at count upto h)
 
 module _ (table : List ℕ) (bytes : Bytes table) where
+  module _ (at count : ℕ) (inside : at + count ≤ length table) where
+    part-length : length (take count (drop at table)) ≡ count
+    part-length = length-take-le count (drop at table) (omega (arith, length-drop at table))
+
+    part-bytes : Bytes (take count (drop at table))
+    part-bytes i h = let short : i < count = omega (arith, part-length) in rw (part-byte table at count i short) (bytes (at + i) (omega arith))
+
+  -- equal numbers at two places are equal bytes there
+  pub parts-same : (at other count : ℕ) → at + count ≤ length table → other + count ≤ length table → unsignedAt table at count ≡ unsignedAt table other count
+      → take count (drop at table) ≡ take count (drop other table)
+  parts-same at other count here there e =
+      bytes-same (take count (drop at table)) (take count (drop other table)) count (part-length at count here) (part-length other count there) (part-bytes at count here) (part-bytes other count there)
+      (unsigned-part table at count count (omega arith) ∙ e ∙ sym (unsigned-part table other count count (omega arith)))
+
   module _ (index : ℕ) (inside : index * widthRecordSize + widthRecordSize ≤ length table) where
-    key-length : length (keyBytes table index) ≡ 9
-    key-length = length-take-le 9 (drop (index * widthRecordSize) table) (omega (arith, length-drop (index * widthRecordSize) table))
+    key-number : unsignedAt (keyBytes table index) 0 25 ≡ recordOf table index .key
+    unfolding recordIn
+    key-number = unsigned-part table (index * widthRecordSize) 25 25 (omega arith)
 
-    key-bytes : Bytes (keyBytes table index)
-    key-bytes i h =
-        let short : i < 9 = omega (arith, key-length) in
-        rw (part-byte table (index * widthRecordSize) 9 i short) (bytes (index * widthRecordSize + i) (omega arith))
-
-    key-number : unsignedAt (keyBytes table index) 0 9 ≡ recordOf table index .key
-    unfolding recordOf
-    key-number = unsigned-part table (index * widthRecordSize) 9 9 (omega arith)
+    within : index * widthRecordSize + 25 ≤ length table
+    within = omega arith
 
   -- to rise from record to record is to rise as bytes
-  pub rises-as-bytes : (index : ℕ) → suc index * widthRecordSize + widthRecordSize ≤ length table → rises table (suc index) ≡ risesAsBytes (keyBytes table index) (keyBytes table (suc index))
+  pub rises-as-bytes : (index : ℕ) → suc index * widthRecordSize + widthRecordSize ≤ length table → risesIn nameSize table (suc index) ≡ risesAsBytes (keyBytes table index) (keyBytes table (suc index))
   rises-as-bytes index inside =
       let before : index * widthRecordSize + widthRecordSize ≤ length table = omega arith in
-      sym (rises-by (keyBytes table index) (keyBytes table (suc index)) 9 (key-length index before) (key-length (suc index) inside) (key-bytes index before) (key-bytes (suc index) inside)
+      let first = index * widthRecordSize in
+      let second = suc index * widthRecordSize in
+      sym (rises-by (keyBytes table index) (keyBytes table (suc index)) 25 (part-length first 25 (within index before)) (part-length second 25 (within (suc index) inside)) (part-bytes first 25 (within index before)) (part-bytes second 25 (within (suc index) inside))
       ∙ ap₂ ltb (key-number index before) (key-number (suc index) inside))

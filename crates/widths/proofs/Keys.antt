@@ -1,78 +1,123 @@
--- Keys as numbers: nine bytes are check sum, scale and code joined, and a record is for a character just where its key is the character's. Assumes nothing.
+-- Keys as numbers: a key's bytes are check sum, scale, name and code joined, and a record is for a character just where its key is the character's. Assumes nothing.
 use mathlib.Core.Path.{_≡_, refl, sym, ap, ap₂, _∙_}
-use mathlib.Core.Logic.{_⊎_, inl, inr}
-use mathlib.Core.Bool.{Bool, true, false, _&&_, and-eq-true-iff}
+use mathlib.Core.Bool.{true, _&&_, and-eq-true-iff}
 use mathlib.Core.List.{List}
-use Prim.Native.Nat.{ℕ, _+_, _*_, _^_, _≤_, _<_}
+use Prim.Native.Nat.{ℕ, zero, suc, _+_, _*_, _^_, _≤_, _<_}
+use native.Mathlib.Nat.{suc-mul}
 use native.Mathlib.Omega.{arith}
-use lib.Dec.{ltb, eqb}
+use lib.Dec.{eqb}
 use lib.ListN.{getD}
-use borrow.Author.Tests.{ltb-true, ltb-false, eqb-true, eqb-false, lt-ltb, le-ltb, eq-eqb, ne-eqb}
+use borrow.Author.Tests.{eqb-true, eq-eqb}
 use Rattle.numbers.specs.Bytes.{unsignedAt}
-use Rattle.numbers.proofs.Bytes.{unsigned-more, unsigned-join}
+use Rattle.numbers.proofs.Bytes.{unsigned-more, unsigned-join, power-le}
+use Rattle.numbers.proofs.Radix.{joined-twice, first-same, second-same}
 use Rattle.widths.specs.declared.table.Key.{Key}
-use Rattle.widths.specs.Table.{widthRecordSize, recordOf}
+use Rattle.widths.specs.Table.{WidthRecord, widthRecordSize, recordAt, recordIn, recordOf}
 use Rattle.widths.specs.LookUp.{isFor}
-use Rattle.widths.specs.Steps.{keyNumber, KeyAt}
+use Rattle.widths.specs.Steps.{blockNumber, keyNumber, InKey, KeyIs, KeyAt}
 
--- ---- tests
+-- ---- a key's bytes as one number
 
-less-or-not-by : (a b : ℕ) (outcome : Bool) → ltb a b ≡ outcome → (a < b) ⊎ (b ≤ a)
-less-or-not-by a b true e = inl (ltb-true a b e)
-less-or-not-by a b false e = inr (ltb-false a b e)
+-- check sum, scale, name and code as one number
+abbrev pub characterKey : ℕ → ℕ → ℕ → ℕ → ℕ
+characterKey checksum scale name code = ((checksum * 2 ^ 32 + scale) * 2 ^ 128 + name) * 256 + code
 
-pub less-or-not : (a b : ℕ) → (a < b) ⊎ (b ≤ a)
-less-or-not a b = less-or-not-by a b (ltb a b) refl
+-- by the fields of the record
+abbrev pub fieldsKey : WidthRecord → ℕ
+fieldsKey r = characterKey (r .checksum) (r .scale) (r .name) (r .code)
 
--- two tests with one outcome
+pub key-joined : (table : List ℕ) (at : ℕ) → recordAt table at .key ≡ fieldsKey (recordAt table at)
+key-joined table at =
+    unsigned-more table at 24
+    ∙ ap (λ (n : ℕ). n * 256 + getD table (at + 24) 0) (unsigned-join table at 8 16 ∙ ap (λ (n : ℕ). n * 256 ^ 16 + unsignedAt table (at + 8) 16) (unsigned-join table at 4 4))
 
-module _ (a b c d : ℕ) where
-  less-by : (outcome : Bool) → ltb a b ≡ outcome → (a < b → c < d) → (b ≤ a → d ≤ c) → outcome ≡ ltb c d
-  less-by true e below above = sym (lt-ltb c d (below (ltb-true a b e)))
-  less-by false e below above = sym (le-ltb c d (above (ltb-false a b e)))
+-- a key of a code alone has scale 0, however many bytes a name has
+pub low-key : (named : ℕ) (table : List ℕ) (at : ℕ) → unsignedAt table at (named + 9) < 256 → unsignedAt table (at + 4) 4 ≡ 0
+low-key named table at low = by (unsignedAt table at 8) refl
+  where
+    split : unsignedAt table at (named + 9) ≡ unsignedAt table at 8 * 256 ^ (named + 1) + unsignedAt table (at + 8) (named + 1)
+    split = let same : named + 9 ≡ 8 + (named + 1) = omega arith in ap (unsignedAt table at) same ∙ unsigned-join table at 8 (named + 1)
 
-  pub same-less : (a < b → c < d) → (b ≤ a → d ≤ c) → ltb a b ≡ ltb c d
-  same-less below above = less-by (ltb a b) refl below above
+    power : 256 ≤ 256 ^ (named + 1)
+    power = power-le 1 (named + 1) (omega arith)
 
-  equal-by : (outcome : Bool) → eqb a b ≡ outcome → (a ≡ b → c ≡ d) → (c ≡ d → a ≡ b) → outcome ≡ eqb c d
-  equal-by true e forth back = sym (eq-eqb c d (forth (eqb-true a b e)))
-  equal-by false e forth back = sym (ne-eqb c d (λ f. eqb-false a b e (back f)))
+    by : (head : ℕ) → unsignedAt table at 8 ≡ head → unsignedAt table (at + 4) 4 ≡ 0
+    by zero e = omega (arith, unsigned-join table at 4 4)
+    by (suc head) e = absurd (omega (arith, split, power, ap (λ (n : ℕ). n * 256 ^ (named + 1)) e, suc-mul head (256 ^ (named + 1))))
 
-  pub same-equal : (a ≡ b → c ≡ d) → (c ≡ d → a ≡ b) → eqb a b ≡ eqb c d
-  same-equal forth back = equal-by (eqb a b) refl forth back
+-- ---- keys as the code has them
 
--- ---- nine bytes as one number
+pub key-number : (checksum scale name code : ℕ) (k : Key) → KeyIs checksum scale name code k → keyNumber k ≡ characterKey checksum scale name code
+key-number checksum scale name code k h =
+    ap₂ (λ (block byte : ℕ). block * 256 + byte) (joined-twice (k .head) (k .high) (k .low) (2 ^ 64) ∙ ap₂ (λ (head n : ℕ). head * 2 ^ 128 + n) (h .head-is) (h .name-is)) (h .code-is)
 
--- check sum, scale and code as one number
-abbrev pub characterKey : ℕ → ℕ → ℕ → ℕ
-characterKey checksum scale code = (checksum * 2 ^ 32 + scale) * 256 + code
+-- two keys with one number have the same parts
+pub record SameKey (a b : Key) : Type 0 where
+  pub head-same : a .head ≡ b .head
+  pub high-same : a .high ≡ b .high
+  pub low-same : a .low ≡ b .low
 
-pub nine : (table : List ℕ) (at : ℕ) → unsignedAt table at 9 ≡ characterKey (unsignedAt table at 4) (unsignedAt table (at + 4) 4) (getD table (at + 8) 0)
-nine table at = unsigned-more table at 8 ∙ ap (λ (n : ℕ). n * 256 + getD table (at + 8) 0) (unsigned-join table at 4 4)
+module _ (a b : Key) (a-in : InKey a) (b-in : InKey b) where
+  -- where check sum, scale and name are one number
+  pub same-parts : blockNumber a ≡ blockNumber b → SameKey a b
+  same-parts e =
+      let upper : a .head * 2 ^ 64 + a .high ≡ b .head * 2 ^ 64 + b .high = first-same (a .head * 2 ^ 64 + a .high) (b .head * 2 ^ 64 + b .high) (2 ^ 64) (a .low) (b .low) (a-in .1) (b-in .1) e in
+      record {
+        head-same = first-same (a .head) (b .head) (2 ^ 64) (a .high) (b .high) (a-in .0) (b-in .0) upper;
+        high-same = second-same (a .head) (b .head) (2 ^ 64) (a .high) (b .high) (a-in .0) (b-in .0) upper;
+        low-same = second-same (a .head * 2 ^ 64 + a .high) (b .head * 2 ^ 64 + b .high) (2 ^ 64) (a .low) (b .low) (a-in .1) (b-in .1) e;
+      }
 
--- a key of a code alone has scale 0
-pub low-key : (table : List ℕ) (at : ℕ) → unsignedAt table at 9 < 256 → unsignedAt table (at + 4) 4 ≡ 0
-low-key table at low = omega (arith, nine table at)
+-- the parts of a key keep to their bytes
+pub in-key : {checksum scale name code : ℕ} {k : Key} → KeyIs checksum scale name code k → InKey k
+in-key h = (h .high-below, h .low-below, omega (arith, h .code-below))
+
+-- two keys with one number for check sum, scale and name have the same
+pub record SameParts (checksum scale name checksum′ scale′ name′ : ℕ) : Type 0 where
+  pub checksums : checksum ≡ checksum′
+  pub scales : scale ≡ scale′
+  pub names : name ≡ name′
+
+module _ {checksum scale name code checksum′ scale′ name′ code′ : ℕ} {k k′ : Key} (h : KeyIs checksum scale name code k) (h′ : KeyIs checksum′ scale′ name′ code′ k′) where
+  pub same-blocks : blockNumber k ≡ blockNumber k′ → SameParts checksum scale name checksum′ scale′ name′
+  same-blocks e =
+      let s = same-parts k k′ (in-key h) (in-key h′) e in
+      let heads : checksum * 2 ^ 32 + scale ≡ checksum′ * 2 ^ 32 + scale′ = sym (h .head-is) ∙ s .head-same ∙ h′ .head-is in
+      record {
+        checksums = first-same checksum checksum′ (2 ^ 32) scale scale′ (h .scale-below) (h′ .scale-below) heads;
+        scales = second-same checksum checksum′ (2 ^ 32) scale scale′ (h .scale-below) (h′ .scale-below) heads;
+        names = sym (h .name-is) ∙ ap₂ (λ (high low : ℕ). high * 2 ^ 64 + low) (s .high-same) (s .low-same) ∙ h′ .name-is;
+      }
+
+  pub same-block-number : keyNumber k ≡ keyNumber k′ → blockNumber k ≡ blockNumber k′
+  same-block-number e = first-same (blockNumber k) (blockNumber k′) 256 (k .code) (k′ .code) (h .code-below) (h′ .code-below) e
+
+  pub same-codes : keyNumber k ≡ keyNumber k′ → code ≡ code′
+  same-codes e = sym (h .code-is) ∙ second-same (blockNumber k) (blockNumber k′) 256 (k .code) (k′ .code) (h .code-below) (h′ .code-below) e ∙ h′ .code-is
 
 module _ (table : List ℕ) (index : ℕ) where
   pub key-is : (k : Key) → KeyAt table (index * widthRecordSize) k → keyNumber k ≡ recordOf table index .key
-  unfolding recordOf
-  key-is k h = ap₂ (λ (head code : ℕ). head * 256 + code) (h .head-is) (h .code-is) ∙ sym (nine table (index * widthRecordSize))
+  unfolding recordIn
+  key-is k h = let r = recordAt table (index * widthRecordSize) in key-number (r .checksum) (r .scale) (r .name) (r .code) k h ∙ sym (key-joined table (index * widthRecordSize))
 
   -- a record for a character has its key
-  module _ (checksum scale byte : ℕ) where
-    pub for-key : isFor (recordOf table index) checksum scale byte ≡ true → recordOf table index .key ≡ characterKey checksum scale byte
-    unfolding recordOf
+  module _ (checksum scale name byte : ℕ) where
+    pub for-key : isFor (recordOf table index) checksum scale name byte ≡ true → recordOf table index .key ≡ characterKey checksum scale name byte
+    unfolding recordIn
     for-key e =
-        let r = recordOf table index in
-        let outer = and-eq-true-iff (eqb (r .checksum) checksum) (eqb (r .scale) scale && eqb (r .code) byte) .0 e in
-        let inner = and-eq-true-iff (eqb (r .scale) scale) (eqb (r .code) byte) .0 (outer .1) in
-        omega (arith, nine table (index * widthRecordSize), eqb-true (r .checksum) checksum (outer .0), eqb-true (r .scale) scale (inner .0), eqb-true (r .code) byte (inner .1))
+        let r = recordAt table (index * widthRecordSize) in
+        let outer = and-eq-true-iff (eqb (r .checksum) checksum) (eqb (r .scale) scale && (eqb (r .name) name && eqb (r .code) byte)) .0 e in
+        let middle = and-eq-true-iff (eqb (r .scale) scale) (eqb (r .name) name && eqb (r .code) byte) .0 (outer .1) in
+        let inner = and-eq-true-iff (eqb (r .name) name) (eqb (r .code) byte) .0 (middle .1) in
+        key-joined table (index * widthRecordSize)
+        ∙ ap₂ (λ (sum size : ℕ). characterKey sum size (r .name) (r .code)) (eqb-true (r .checksum) checksum (outer .0)) (eqb-true (r .scale) scale (middle .0))
+        ∙ ap₂ (λ (called code : ℕ). characterKey checksum scale called code) (eqb-true (r .name) name (inner .0)) (eqb-true (r .code) byte (inner .1))
 
-    -- and a record that has a character's key is for it
-    pub key-for : (k : Key) → KeyAt table (index * widthRecordSize) k → keyNumber k ≡ characterKey checksum scale byte → scale < 2 ^ 32 → byte < 256
-        → isFor (recordOf table index) checksum scale byte ≡ true
-    unfolding recordOf
-    key-for k h e s b =
-        let r = recordOf table index in
-        simp (eq-eqb (r .checksum) checksum (omega arith), eq-eqb (r .scale) scale (omega arith), eq-eqb (r .code) byte (omega arith))
+    -- and a record whose key is a character's is for it
+    pub key-for : (k sought : Key) → KeyAt table (index * widthRecordSize) k → KeyIs checksum scale name byte sought → keyNumber k ≡ keyNumber sought
+        → isFor (recordOf table index) checksum scale name byte ≡ true
+    unfolding recordIn
+    key-for k sought h is e =
+        let r = recordAt table (index * widthRecordSize) in
+        let s = same-blocks h is (same-block-number h is e) in
+        simp (eq-eqb (r .checksum) checksum (s .checksums), eq-eqb (r .scale) scale (s .scales), eq-eqb (r .name) name (s .names), eq-eqb (r .code) byte (same-codes h is e))

@@ -3,6 +3,5 @@ pub mod OneDivision
 pub mod Keys
 pub mod TableLaws
 pub mod Search
-pub mod Hint
 pub mod AsBytes
 pub mod RefusedWith

@@ -14,7 +14,8 @@ use Rattle.refusals.proofs.RefusedOnly.{if-only, then-only}
 use Rattle.numbers.specs.Sizes.{lawfulSize}
 use Rattle.widths.specs.declared.FixWord.{FixWord}
 use Rattle.widths.specs.Scaling.{lawfulFirst, scaledBy, scaledWidth}
-use Rattle.widths.specs.Table.{widthRecordSize, rightRecord, checkedFrom, checkedTable}
+use Rattle.names.specs.Names.{nameSize}
+use Rattle.widths.specs.Table.{sizeWith, widthRecordSize, rightIn, checkedFrom, checkedIn, checkedTable}
 use Rattle.widths.specs.LookUp.{lookedUp}
 
 -- 14 at 0
@@ -22,27 +23,34 @@ pub width-refused-with : (scale : ℕ) (w : FixWord) → RefusedOnly WidthRefusa
 width-refused-with scale w =
     if-only WidthRefusal (not (lawfulSize scale && lawfulFirst (w .b0))) wrongWidthTable 0 (given (scaledBy scale w)) (refl, refl) tt
 
-module _ (table : List ℕ) where
-  -- what may be of a table
-  abbrev pub May : ℕ → ℕ → Type 0
-  May = TableRefusal widthRecordSize table
+module _ (named : ℕ) (table : List ℕ) where
+  abbrev size : ℕ
+  size = sizeWith named
 
-  from-refused-with : (left index : ℕ) → RefusedOnly May (checkedFrom left table index)
+  -- what may be of a table, whatever the form of its records
+  abbrev May : ℕ → ℕ → Type 0
+  May = TableRefusal size table
+
+  from-refused-with : (left index : ℕ) → RefusedOnly May (checkedFrom named left table index)
   unfolding checkedFrom
   from-refused-with zero index = tt
-  from-refused-with (suc left) index = by (leb (length table) (index * widthRecordSize)) refl (from-refused-with left (suc index))
+  from-refused-with (suc left) index = by (leb (length table) (index * size)) refl (from-refused-with left (suc index))
     where
-      by : (over : Bool) → leb (length table) (index * widthRecordSize) ≡ over → RefusedOnly May (checkedFrom left table (suc index))
-          → RefusedOnly May (cond over (given index) (refuseIf (not (rightRecord table index)) wrongWidthTable (index * widthRecordSize) (checkedFrom left table (suc index))))
+      by : (over : Bool) → leb (length table) (index * size) ≡ over → RefusedOnly May (checkedFrom named left table (suc index))
+          → RefusedOnly May (cond over (given index) (refuseIf (not (rightIn named table index)) wrongWidthTable (index * size) (checkedFrom named left table (suc index))))
       by true e rest = tt
       by false e rest =
-          if-only May (not (rightRecord table index)) wrongWidthTable (index * widthRecordSize) (checkedFrom left table (suc index))
-          (refl, (index, refl), leb-false (length table) (index * widthRecordSize) e) rest
+          if-only May (not (rightIn named table index)) wrongWidthTable (index * size) (checkedFrom named left table (suc index))
+          (refl, (index, refl), leb-false (length table) (index * size) e) rest
 
+  pub checked-refused-with : RefusedOnly (TableRefusal (sizeWith named) table) (checkedIn named table)
+  checked-refused-with = from-refused-with (suc (length table)) 0
+
+module _ (table : List ℕ) where
   -- 14 at the first byte of a record that begins in the table
   pub table-refused-with : RefusedOnly (TableRefusal widthRecordSize table) (checkedTable table)
-  table-refused-with = from-refused-with (suc (length table)) 0
+  table-refused-with = checked-refused-with nameSize table
 
   -- as the table's check
-  pub look-up-refused-with : (checksum scale : ℕ) (code : ℤ) → RefusedOnly (TableRefusal widthRecordSize table) (lookedUp table checksum scale code)
-  look-up-refused-with checksum scale code = then-only May (checkedTable table) _ table-refused-with (λ records. tt)
+  pub look-up-refused-with : (checksum scale : ℕ) (name : List ℕ) (code : ℤ) → RefusedOnly (TableRefusal widthRecordSize table) (lookedUp table checksum scale name code)
+  look-up-refused-with checksum scale name code = then-only (TableRefusal widthRecordSize table) (checkedTable table) _ table-refused-with (λ records. tt)

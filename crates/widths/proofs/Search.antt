@@ -9,35 +9,45 @@ use native.Mathlib.Omega.{arith}
 use borrow.Author.Count.{below-more}
 use Rattle.refusals.specs.Answer.{given}
 use Rattle.widths.specs.declared.table.Key.{Key}
-use Rattle.widths.specs.Table.{widthRecordSize, recordOf, checkedTable}
+use Rattle.names.specs.Names.{nameSize}
+use Rattle.widths.specs.Table.{widthRecordSize, recordIn, recordOf, checkedTable}
 use Rattle.widths.specs.LookUp.{found, absent, metricOf, isFor, walkFrom, walk}
-use Rattle.widths.specs.Steps.{keyNumber, KeyAt, FirstNotBelow}
-use Rattle.widths.proofs.Keys.{less-or-not, characterKey, key-is, for-key, key-for}
+use Rattle.widths.specs.Steps.{keyNumber, KeyIs, KeyAt, FirstNotBelow}
+use Rattle.numbers.proofs.Radix.{less-or-not}
+use Rattle.widths.proofs.Keys.{characterKey, key-number, key-is, for-key, key-for}
 use Rattle.widths.proofs.TableLaws.{keys-rise}
+
+-- a number that is below another is not the same
+below-not-same : {a b : ℕ} → a < b → a ≡ b → ⊥
+below-not-same h e = omega arith
+
+-- nor is one that is above a number which reaches it
+past-not-same : {a b c : ℕ} → a ≤ b → b < c → c ≡ a → ⊥
+past-not-same reach h e = omega arith
 
 -- ---- the plain walk
 
-module _ (table : List ℕ) (checksum scale byte : ℕ) where
+module _ (table : List ℕ) (checksum scale name byte : ℕ) where
   -- the record of an index has not the character's key
   abbrev Other : ℕ → Type 0
-  Other index = recordOf table index .key ≡ characterKey checksum scale byte → ⊥
+  Other index = recordOf table index .key ≡ characterKey checksum scale name byte → ⊥
 
-  not-for-by : (index : ℕ) (outcome : Bool) → isFor (recordOf table index) checksum scale byte ≡ outcome → Other index → outcome ≡ false
-  not-for-by index true e other = absurd (other (for-key table index checksum scale byte e))
+  not-for-by : (index : ℕ) (outcome : Bool) → isFor (recordOf table index) checksum scale name byte ≡ outcome → Other index → outcome ≡ false
+  not-for-by index true e other = absurd (other (for-key table index checksum scale name byte e))
   not-for-by index false e other = refl
 
-  not-for : (index : ℕ) → Other index → isFor (recordOf table index) checksum scale byte ≡ false
-  not-for index other = not-for-by index (isFor (recordOf table index) checksum scale byte) refl other
+  not-for : (index : ℕ) → Other index → isFor (recordOf table index) checksum scale name byte ≡ false
+  not-for index other = not-for-by index (isFor (recordOf table index) checksum scale name byte) refl other
 
-  misses : (left index : ℕ) → ((j : ℕ) → index ≤ j → j < index + left → Other j) → walkFrom left table index checksum scale byte ≡ absent
+  misses : (left index : ℕ) → ((j : ℕ) → index ≤ j → j < index + left → Other j) → walkFrom nameSize left table index checksum scale name byte ≡ absent
   unfolding walkFrom
   misses zero index others = refl
   misses (suc left) index others =
       rw (not-for index (others index (omega arith) (omega arith)))
       (misses left (suc index) (λ j low high. others j (omega arith) (omega arith)))
 
-  hits : (left index hit : ℕ) → index ≤ hit → hit < index + left → ((j : ℕ) → index ≤ j → j < hit → Other j) → isFor (recordOf table hit) checksum scale byte ≡ true
-      → walkFrom left table index checksum scale byte ≡ found (metricOf (recordOf table hit))
+  hits : (left index hit : ℕ) → index ≤ hit → hit < index + left → ((j : ℕ) → index ≤ j → j < hit → Other j) → isFor (recordOf table hit) checksum scale name byte ≡ true
+      → walkFrom nameSize left table index checksum scale name byte ≡ found (metricOf (recordOf table hit))
   unfolding walkFrom
   hits zero index hit low high others e = absurd (omega arith)
   hits (suc left) index hit low high others e =
@@ -48,23 +58,24 @@ module _ (table : List ℕ) (checksum scale byte : ℕ) where
 -- ---- in a right table
 
 module _ (table : List ℕ) (records : ℕ) (judged : checkedTable table ≡ given records) where
-  module _ (checksum scale byte : ℕ) where
+  module _ (checksum scale name byte : ℕ) where
     -- a record with the character's key is the one that the walk finds
-    pub walk-finds : (index : ℕ) (k : Key) → index < records → KeyAt table (index * widthRecordSize) k → keyNumber k ≡ characterKey checksum scale byte → scale < 2 ^ 32 → byte < 256
-        → found (metricOf (recordOf table index)) ≡ walk records table checksum scale byte
-    walk-finds index k inside h e s b =
-        let here : recordOf table index .key ≡ characterKey checksum scale byte = sym (key-is table index k h) ∙ e in
-        sym (hits table checksum scale byte records 0 index (omega arith) (omega arith) (λ j low high same. absurd (omega (arith, keys-rise table records judged j index high inside)))
-        (key-for table index checksum scale byte k h e s b))
+    pub walk-finds : (index : ℕ) (k sought : Key) → index < records → KeyAt table (index * widthRecordSize) k → KeyIs checksum scale name byte sought → keyNumber k ≡ keyNumber sought
+        → found (metricOf (recordOf table index)) ≡ walk records table checksum scale name byte
+    walk-finds index k sought inside h is e =
+        let here : recordOf table index .key ≡ characterKey checksum scale name byte = sym (key-is table index k h) ∙ e ∙ key-number checksum scale name byte sought is in
+        sym (hits table checksum scale name byte records 0 index (omega arith) (omega arith)
+        (λ j low high same. absurd (below-not-same (keys-rise nameSize table records judged j index high inside) (same ∙ sym here)))
+        (key-for table index checksum scale name byte k sought h is e))
 
     -- no record has the character's key where it is not in the first whose key is not below it
-    pub walk-misses : (index : ℕ) → FirstNotBelow table records (characterKey checksum scale byte) index → (index < records → recordOf table index .key ≡ characterKey checksum scale byte → ⊥)
-        → absent ≡ walk records table checksum scale byte
+    pub walk-misses : (index : ℕ) → FirstNotBelow table records (characterKey checksum scale name byte) index → (index < records → recordOf table index .key ≡ characterKey checksum scale name byte → ⊥)
+        → absent ≡ walk records table checksum scale name byte
     walk-misses index first other =
-        sym (misses table checksum scale byte records 0 (λ j low high e.
-        ⊎-elim (λ (under : j < index). absurd (omega (arith, first .below j under)))
-        (λ (over : index ≤ j). ⊎-elim (λ (same : index ≡ j). other (omega arith) (subst (λ (n : ℕ). recordOf table n .key ≡ characterKey checksum scale byte) (sym same) e))
-        (λ (past : index < j). absurd (omega (arith, first .above index (omega arith) (omega arith), keys-rise table records judged index j past (omega arith))))
+        sym (misses table checksum scale name byte records 0 (λ j low high e.
+        ⊎-elim (λ (under : j < index). absurd (below-not-same (first .below j under) e))
+        (λ (over : index ≤ j). ⊎-elim (λ (same : index ≡ j). other (omega arith) (subst (λ (n : ℕ). recordOf table n .key ≡ characterKey checksum scale name byte) (sym same) e))
+        (λ (past : index < j). absurd (past-not-same (first .above index (omega arith) (omega arith)) (keys-rise nameSize table records judged index j past (omega arith)) e))
         (eq-or-lt-of-le over))
         (less-or-not j index)))
 
@@ -87,7 +98,7 @@ module _ (table : List ℕ) (records key : ℕ) where
         record {
           order = omega arith;
           top = b .top;
-          below = below-more (λ (j : ℕ). recordOf table j .key < key) middle (λ j l. lt-trans (keys-rise table records judged j middle l (omega (arith, b .top))) h) h;
+          below = below-more (λ (j : ℕ). recordOf table j .key < key) middle (λ j l. lt-trans (keys-rise nameSize table records judged j middle l (omega (arith, b .top))) h) h;
           above = b .above;
         }
 
@@ -97,7 +108,7 @@ module _ (table : List ℕ) (records key : ℕ) where
           order = from;
           top = omega (arith, b .top);
           below = b .below;
-          above = λ j l inside. ⊎-elim (λ (same : middle ≡ j). subst (λ (n : ℕ). key ≤ recordOf table n .key) same h) (λ (past : middle < j). omega (arith, keys-rise table records judged middle j past inside)) (eq-or-lt-of-le l);
+          above = λ j l inside. ⊎-elim (λ (same : middle ≡ j). subst (λ (n : ℕ). key ≤ recordOf table n .key) same h) (λ (past : middle < j). omega (arith, keys-rise nameSize table records judged middle j past inside)) (eq-or-lt-of-le l);
         }
 
   pub search-ends : (low high : ℕ) → Between low high → high ≤ low → FirstNotBelow table records key low

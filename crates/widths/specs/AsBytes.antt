@@ -4,6 +4,7 @@ use mathlib.Core.Bool.{Bool, false, cond}
 use mathlib.Core.List.{List, [], _∷_}
 use lib.Dec.{ltb, eqb}
 use lib.ListN.{length, getD, take, drop}
+use Rattle.names.specs.Names.{nameSize}
 use Rattle.widths.specs.declared.FixWord.{FixWord}
 use Rattle.widths.specs.Table.{widthRecordSize}
 
@@ -19,7 +20,7 @@ risesAsBytes (x ∷ xs) (y ∷ ys) = cond (eqb x y) (risesAsBytes xs ys) (ltb x 
 
 -- the bytes of a record's key (rule 6.1)
 abbrev pub keyBytes : List ℕ → ℕ → List ℕ
-keyBytes table index = take 9 (drop (index * widthRecordSize) table)
+keyBytes table index = take (nameSize + 9) (drop (index * widthRecordSize) table)
 
 -- the last three parts of a fix word are bytes (rule 6.1)
 pub record LastBytes (w : FixWord) : Type 0 where

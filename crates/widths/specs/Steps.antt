@@ -1,14 +1,15 @@
 -- What the code's own steps give and keep; no promise cites this. Assumes nothing.
-use Prim.Native.Nat.{ℕ, _+_, _*_, _/_, _%_, _^_, _≤_, _<_}
+use Prim.Native.Nat.{ℕ, _+_, _*_, _/_, _^_, _≤_, _<_}
 use mathlib.Core.Path.{_≡_}
 use mathlib.Core.Bool.{Bool, true, cond, not, _&&_}
 use mathlib.Core.List.{List}
 use lib.Dec.{ltb, eqb}
-use lib.ListN.{getD}
+use lib.ListN.{length}
 use lib.IntN.{ℤ, pos, _-ℤ_}
 use Rattle.refusals.specs.Numbers.{wrongWidthTable}
 use Rattle.refusals.specs.Answer.{Answer, refused, given}
-use Rattle.numbers.specs.Bytes.{unsignedAt}
+use Rattle.names.specs.declared.Name.{Name}
+use Rattle.names.specs.Names.{nameThenZeros, nameNumber}
 use Rattle.widths.specs.declared.FixWord.{FixWord}
 use Rattle.widths.specs.declared.table.Key.{Key}
 use Rattle.widths.specs.declared.table.Table.{Table}
@@ -18,8 +19,8 @@ use Rattle.widths.specs.declared.table.Place.the-variants.{At, Nowhere}
 use Rattle.numbers.specs.Sizes.{lawfulSize}
 use Rattle.widths.specs.Scaling.{halved, lawfulFirst}
 use Rattle.widths.specs.AsBytes.{fraction}
-use Rattle.widths.specs.Table.{WidthRecord, recordOf}
-use Rattle.widths.specs.LookUp.{LookUp, found, absent, metricOf}
+use Rattle.widths.specs.Table.{WidthRecord, recordAt, recordOf}
+use Rattle.widths.specs.LookUp.{LookUp, found, absent, metricOf, walk, lookedFor}
 
 -- sixteen times a scale, less the bits that halving loses
 unfoldable pub sixteenfoldOf : ℕ → ℕ
@@ -29,26 +30,47 @@ sixteenfoldOf scale = halved scale .alpha * halved scale .z
 abbrev pub widthFrom : ℕ → FixWord → ℤ
 widthFrom sixteenfold w = let positive = fraction w * sixteenfold / 16777216 in cond (eqb (w .b0) 255) (pos positive -ℤ pos sixteenfold) (pos positive)
 
--- a key as the number of its nine bytes
+-- check sum, scale and name as one number
+abbrev pub blockNumber : Key → ℕ
+blockNumber k = (k .head * 2 ^ 64 + k .high) * 2 ^ 64 + k .low
+
+-- a key as the number of its twenty-five bytes
 abbrev pub keyNumber : Key → ℕ
-keyNumber k = k .head * 256 + k .code
+keyNumber k = blockNumber k * 256 + k .code
+
+-- the parts of a key that others stand before have their bytes; a code may be one past the last
+abbrev pub InKey : Key → Type 0
+InKey k = (k .high < 2 ^ 64) × (k .low < 2 ^ 64) × (k .code ≤ 256)
+
+-- k is the key of a check sum, a scale, a name and a code
+pub record KeyIs (checksum scale name code : ℕ) (k : Key) : Type 0 where
+  pub head-is : k .head ≡ checksum * 2 ^ 32 + scale
+  pub scale-below : scale < 2 ^ 32
+  pub name-is : k .high * 2 ^ 64 + k .low ≡ name
+  pub high-below : k .high < 2 ^ 64
+  pub low-below : k .low < 2 ^ 64
+  pub code-is : k .code ≡ code
+  pub code-below : k .code < 256
 
 -- k is the key of the record at a place
-pub record KeyAt (table : List ℕ) (at : ℕ) (k : Key) : Type 0 where
-  pub head-is : k .head ≡ unsignedAt table at 4 * 2 ^ 32 + unsignedAt table (at + 4) 4
-  pub scale-below : unsignedAt table (at + 4) 4 < 2 ^ 32
-  pub code-is : k .code ≡ getD table (at + 8) 0
-  pub code-below : k .code < 256
+abbrev pub KeyAt : List ℕ → ℕ → Key → Type 0
+KeyAt table at k = let r = recordAt table at in KeyIs (r .checksum) (r .scale) (r .name) (r .code) k
 
 -- a key reaches another: it is not below it
 abbrev pub reaches : Key → Key → Bool
 reaches key least = not (ltb (keyNumber key) (keyNumber least))
 
--- what a next key must reach: where a key of its head can have its code, its scale is lawful
-abbrev pub LeastKey : Key → Type 0
-LeastKey least = (least .code ≤ 256) × (least .code < 256 → lawfulSize (least .head % 2 ^ 32) ≡ true)
+-- scale and name of a record are right
+abbrev pub lawfulBlock : WidthRecord → Bool
+lawfulBlock r = lawfulSize (r .scale) && nameThenZeros (r .name-bytes)
 
--- the fields beside the key are right
+-- what a next key must reach: where a key of its check sum, scale and name can have its code, those of the record are lawful
+abbrev pub LeastKey : List ℕ → Key → Type 0
+LeastKey table least =
+    InKey least
+    × (least .code < 256 → (at : ℕ) (key : Key) → at + 32 ≤ length table → KeyAt table at key → blockNumber key ≡ blockNumber least → lawfulBlock (recordAt table at) ≡ true)
+
+-- the fields behind the key are right
 abbrev pub lawfulRest : WidthRecord → Bool
 lawfulRest r = eqb (r .zero-byte) 0 && lawfulFirst (r .width .b0)
 
@@ -62,6 +84,10 @@ abbrev pub foundAt : List ℕ → Place → LookUp
 foundAt table (At index) = found (metricOf (recordOf table index))
 foundAt table Nowhere = absent
 
+-- the search for a key found what the walk finds for the character whose key it is
+abbrev pub KeyFound : List ℕ → ℕ → Key → Place → Type 0
+KeyFound table records key r = (checksum scale name byte : ℕ) → KeyIs checksum scale name byte key → foundAt table r ≡ walk records table checksum scale name byte
+
 -- a place that a search found is one of the records
 abbrev pub Among : ℕ → Place → Type 0
 Among records (At index) = index < records
@@ -72,3 +98,8 @@ pub record FirstNotBelow (table : List ℕ) (records key index : ℕ) : Type 0 w
   pub bound : index ≤ records
   pub below : (j : ℕ) → j < index → recordOf table j .key < key
   pub above : (j : ℕ) → index ≤ j → j < records → key ≤ recordOf table j .key
+
+-- characters of a font that seeks a name are found by another one just so
+abbrev pub SeeksFor : List ℕ → ℕ → ℕ → ℕ → Name → Name → Type 0
+SeeksFor table records checksum scale name other =
+    (byte : ℕ) → byte < 256 → lookedFor records table checksum scale (nameNumber other) byte ≡ lookedFor records table checksum scale (nameNumber name) byte

@@ -2,34 +2,40 @@
 use crate::FixWord;
 use crate::Metric;
 use crate::scaling;
+use names::Name;
 ghost use mathlib.Core.Path.{_≡_};
-ghost use mathlib.Core.Bool.{_&&_};
-ghost use Prim.Native.Nat.{_+_, _*_, _%_, _≤_, _<_, _^_};
+ghost use mathlib.Core.Bool.{true, _&&_};
+ghost use Prim.Native.Nat.{_+_, _*_, _≤_, _<_, _^_};
 ghost use lib.Dec.{ltb, eqb};
 ghost use lib.ListN.{length};
 ghost use Rattle.refusals.specs.Answer.{given};
-ghost use Rattle.numbers.specs.Sizes.{lawfulSize};
+ghost use Rattle.names.specs.Names.{nameNumber};
+ghost use Rattle.names.specs.Steps.{InEights};
 ghost use Rattle.widths.specs.Table.{recordAt, recordOf, checkedTable};
-ghost use Rattle.widths.specs.LookUp.{metricOf, walk};
-ghost use Rattle.widths.specs.Steps.{keyNumber, KeyAt, reaches, LeastKey, lawfulRest, tableSays, foundAt, Among, FirstNotBelow};
+ghost use Rattle.widths.specs.LookUp.{metricOf, lookedFor};
+ghost use Rattle.widths.specs.Steps.{blockNumber, keyNumber, InKey, KeyIs, KeyAt, reaches, LeastKey, lawfulBlock, lawfulRest, tableSays, foundAt, KeyFound, Among, FirstNotBelow, SeeksFor};
 
-// The layout of a width record: its size, and where the fields after check sum and scale start.
-pub const RECORD_SIZE: usize = 16;
+// The layout of a width record: where the name and the fields after it start, and the size.
+const NAME_AT: usize = 8;
 
-const CODE_AT: usize = 8;
+const CODE_AT: usize = NAME_AT + names::NAME_SIZE;
 
-const ZERO_AT: usize = 9;
+const ZERO_AT: usize = CODE_AT + 1;
 
-const ESCAPEMENT_AT: usize = 10;
+const ESCAPEMENT_AT: usize = CODE_AT + 2;
 
-const WIDTH_AT: usize = 12;
+const WIDTH_AT: usize = CODE_AT + 4;
+
+pub const RECORD_SIZE: usize = CODE_AT + 8;
 
 // How many values the four bytes of a scale have. In a key's head the check sum counts so many.
 const SCALE_SPAN: u64 = 4294967296;
 
-// A record's key: check sum and scale as one number, and the code
+// A record's key: check sum and scale as one number, the two numbers of the name, and the code
 pub struct Key {
     pub head: u64,
+    pub high: u64,
+    pub low: u64,
     pub code: u64,
 }
 
@@ -45,72 +51,103 @@ pub enum Place {
     Nowhere,
 }
 
-// The key of a check sum, a scale and a code.
-fn key_of(checksum: u64, scale: u64, code: u64) -> Key
-    requires { ⌜ (checksum < 2 ^ 32) × (scale < 2 ^ 32) ⌝ }
-    ensures { λ r. ⌜ (r .head ≡ checksum * 2 ^ 32 + scale) × (r .code ≡ code) ⌝ }
+// The name by which a font's characters are sought in a table, and where its records start there
+pub struct Block {
+    pub name: Name,
+    pub start: usize,
+}
+
+// The key of a check sum, a scale, a name and a code.
+fn key_of(checksum: u64, scale: u64, name: Name, code: u64) -> Key
+    requires { ⌜ (checksum < 2 ^ 32) × (scale < 2 ^ 32) × InEights name × (code < 256) ⌝ }
+    ensures { λ r. ⌜ KeyIs checksum scale (nameNumber name) code r ⌝ }
 {
     Key {
         head: checksum * SCALE_SPAN + scale,
+        high: name.high,
+        low: name.low,
         code: code,
     }
 }
 
-// The key of the record at a place. Check sum and scale, the bytes before the code, are read as one number because that is one load.
+// The key of the record at a place. Check sum and scale are read as one number because that is one load.
 fn key_at(table: &[u8], at: usize) -> Key
-    requires { ⌜ at + 16 ≤ length (now table) ⌝ }
+    requires { ⌜ at + 32 ≤ length (now table) ⌝ }
     ensures { λ r. ⌜ KeyAt (now (table .entry)) at r ⌝ }
 {
     let code = numbers::wide(table[at + CODE_AT]);
+    let name = names::name_at(table, at + NAME_AT);
     Key {
-        head: numbers::unsigned_at(table, at, CODE_AT),
+        head: numbers::unsigned_at(table, at, NAME_AT),
+        high: name.high,
+        low: name.low,
         code: code,
     }
 }
 
-// Whether key a is below key b.
-fn below(a: Key, b: Key) -> bool
-    requires { ⌜ (a .code < 256) × (b .code < 256) ⌝ }
-    ensures { λ r. ⌜ r ≡ ltb (keyNumber a) (keyNumber b) ⌝ }
+// Whether two keys have the same check sum, scale and name.
+fn same_block(a: Key, b: Key) -> bool
+    requires { ⌜ InKey a × InKey b ⌝ }
+    ensures { λ r. ⌜ r ≡ eqb (blockNumber a) (blockNumber b) ⌝ }
 {
-    if a.head < b.head {
-        return true;
-    }
-    if b.head < a.head {
+    if a.head != b.head {
         return false;
     }
-    a.code < b.code
+    if a.high != b.high {
+        return false;
+    }
+    a.low == b.low
 }
 
 // Whether two keys are the same.
 fn same(a: Key, b: Key) -> bool
-    requires { ⌜ (a .code < 256) × (b .code < 256) ⌝ }
+    requires { ⌜ InKey a × InKey b × (a .code < 256) × (b .code < 256) ⌝ }
     ensures { λ r. ⌜ r ≡ eqb (keyNumber a) (keyNumber b) ⌝ }
 {
-    if a.head != b.head {
+    if !same_block(a, b) {
         return false;
     }
     a.code == b.code
 }
 
-// Whether a record's key reaches the least that it must, with a scale that is lawful. The scale is taken from the key: reading its
-// bytes again would keep the key from being one load. Where the head is that of the key before it, the scale was judged there.
-fn lawful_key(key: Key, least: Key) -> bool
-    requires { ⌜ (key .code < 256) × LeastKey least ⌝ }
-    ensures { λ r. ⌜ r ≡ reaches key least && lawfulSize (key .head % 2 ^ 32) ⌝ }
+// Whether key a is below key b.
+fn below(a: Key, b: Key) -> bool
+    requires { ⌜ InKey a × InKey b × (a .code < 256) ⌝ }
+    ensures { λ r. ⌜ r ≡ ltb (keyNumber a) (keyNumber b) ⌝ }
 {
-    if key.head == least.head {
+    if a.head != b.head {
+        return a.head < b.head;
+    }
+    if a.high != b.high {
+        return a.high < b.high;
+    }
+    if a.low != b.low {
+        return a.low < b.low;
+    }
+    a.code < b.code
+}
+
+// Whether a record's key reaches the least that it must, with a scale and a name that are lawful. The scale is taken from the key: reading its
+// bytes again would keep the key from being one load. Where check sum, scale and name are those of the key before it, they were judged there.
+fn lawful_key(table: &[u8], at: usize, key: Key, least: Key) -> bool
+    requires { ⌜ (at + 32 ≤ length (now table)) × KeyAt (now table) at key × LeastKey (now table) least ⌝ }
+    ensures { λ r. ⌜ r ≡ reaches key least && lawfulBlock (recordAt (now (table .entry)) at) ⌝ }
+{
+    if same_block(key, least) {
         return least.code <= key.code;
     }
-    if key.head < least.head {
+    if below(key, least) {
         return false;
     }
-    numbers::lawful_size(key.head % SCALE_SPAN)
+    if !numbers::lawful_size(key.head % SCALE_SPAN) {
+        return false;
+    }
+    names::lawful_name(&table[at + NAME_AT..at + CODE_AT])
 }
 
 // Whether the zero byte and the width's first byte of the record at a place are right.
 fn lawful_rest(table: &[u8], at: usize) -> bool
-    requires { ⌜ at + 16 ≤ length (now table) ⌝ }
+    requires { ⌜ at + 32 ≤ length (now table) ⌝ }
     ensures { λ r. ⌜ r ≡ lawfulRest (recordAt (now (table .entry)) at) ⌝ }
 {
     if table[at + ZERO_AT] != 0 {
@@ -119,17 +156,22 @@ fn lawful_rest(table: &[u8], at: usize) -> bool
     scaling::lawful_first(table[at + WIDTH_AT])
 }
 
-// The check of a whole table. A next record must reach `least`: one past the key before it. At first it is the least with a head above 0: scale 0 is
+// The check of a whole table. A next record must reach `least`: one past the key before it. At first it is the least with a head above 0 or a name: scale 0 is
 // not lawful. Bytes after the whole records are judged once, after the loop.
 pub fn check_table(table: &[u8]) -> Table
     ensures { λ r. ⌜ tableSays r ≡ checkedTable (now (table .entry)) ⌝ }
 {
     let mut at: usize = 0;
-    let mut least = Key { head: 0, code: 256 };
+    let mut least = Key {
+        head: 0,
+        high: 0,
+        low: 0,
+        code: 256,
+    };
     let whole = table.len() - table.len() % RECORD_SIZE;
     while at < whole {
         let key = key_at(table, at);
-        if !lawful_key(key, least) {
+        if !lawful_key(table, at, key, least) {
             return Table::Wrong(at);
         }
         if !lawful_rest(table, at) {
@@ -138,6 +180,8 @@ pub fn check_table(table: &[u8]) -> Table
         let next_code = key.code + 1;
         least = Key {
             head: key.head,
+            high: key.high,
+            low: key.low,
             code: next_code,
         };
         at += RECORD_SIZE;
@@ -148,10 +192,10 @@ pub fn check_table(table: &[u8]) -> Table
     Table::Right(at / RECORD_SIZE)
 }
 
-// The first of the records whose key is not below the character's, by binary search over a table that was judged right.
+// The first of the records whose key is not below a key, by binary search over a table that was judged right.
 fn first_not_below(table: &[u8], records: usize, key: Key) -> usize
     requires { ⌜ checkedTable (now table) ≡ given records ⌝ }
-    requires { ⌜ key .code < 256 ⌝ }
+    requires { ⌜ InKey key ⌝ }
     ensures { λ r. ⌜ FirstNotBelow (now (table .entry)) records (keyNumber key) r ⌝ }
 {
     let mut low: usize = 0;
@@ -167,13 +211,47 @@ fn first_not_below(table: &[u8], records: usize, key: Key) -> usize
     low
 }
 
-// A character's record in a table that was judged right, of so many records.
-pub fn find(table: &[u8], records: usize, checksum: u64, scale: u64, byte: u64) -> Place
-    requires { ⌜ checkedTable (now table) ≡ given records ⌝ }
-    requires { ⌜ (checksum < 2 ^ 32) × (scale < 2 ^ 32) × (byte < 256) ⌝ }
-    ensures { λ r. ⌜ (foundAt (now (table .entry)) r ≡ walk records (now (table .entry)) checksum scale byte) × Among records r ⌝ }
+// Whether an index is that of the first record whose key is not below a key: the one before it is below, and its own is not.
+fn is_first(table: &[u8], records: usize, key: Key, index: usize) -> bool
+    requires { ⌜ (checkedTable (now table) ≡ given records) × (index ≤ records) × InKey key ⌝ }
+    ensures { λ r. ⌜ (r ≡ true → FirstNotBelow (now (table .entry)) records (keyNumber key) index) ⌝ }
 {
-    let key = key_of(checksum, scale, byte);
+    if 0 < index {
+        if !below(key_at(table, (index - 1) * RECORD_SIZE), key) {
+            return false;
+        }
+    }
+    if index == records {
+        return true;
+    }
+    !below(key_at(table, index * RECORD_SIZE), key)
+}
+
+// The same first record, trying one index before the search: any hint gives the same answer.
+fn first_near(table: &[u8], records: usize, key: Key, hint: usize) -> usize
+    requires { ⌜ checkedTable (now table) ≡ given records ⌝ }
+    requires { ⌜ InKey key ⌝ }
+    ensures { λ r. ⌜ FirstNotBelow (now (table .entry)) records (keyNumber key) r ⌝ }
+{
+    if hint <= records {
+        if is_first(table, records, key, hint) {
+            return hint;
+        }
+    }
+    first_not_below(table, records, key)
+}
+
+// The record with a key, trying one record first: any hint gives the same answer, and a good one spares the search.
+fn find_key(table: &[u8], records: usize, key: Key, hint: usize) -> Place
+    requires { ⌜ checkedTable (now table) ≡ given records ⌝ }
+    requires { ⌜ InKey key × (key .code < 256) ⌝ }
+    ensures { λ r. ⌜ KeyFound (now (table .entry)) records key r × Among records r ⌝ }
+{
+    if hint < records {
+        if same(key_at(table, hint * RECORD_SIZE), key) {
+            return Place::At(hint);
+        }
+    }
     let index = first_not_below(table, records, key);
     if index < records {
         if same(key_at(table, index * RECORD_SIZE), key) {
@@ -183,28 +261,54 @@ pub fn find(table: &[u8], records: usize, checksum: u64, scale: u64, byte: u64) 
     Place::Nowhere
 }
 
-// The same, trying one record first: any hint gives the same answer, and a good one spares the search.
-pub fn find_near(
+// A character's record in a table that was judged right, of so many records: that of the name that is sought, or else that of any name.
+pub fn find(
     table: &[u8],
     records: usize,
     checksum: u64,
     scale: u64,
+    name: Name,
     byte: u64,
     hint: usize,
 ) -> Place
     requires { ⌜ checkedTable (now table) ≡ given records ⌝ }
-    requires { ⌜ (checksum < 2 ^ 32) × (scale < 2 ^ 32) × (byte < 256) ⌝ }
-    ensures { λ r. ⌜ (foundAt (now (table .entry)) r ≡ walk records (now (table .entry)) checksum scale byte) × Among records r ⌝ }
+    requires { ⌜ (checksum < 2 ^ 32) × (scale < 2 ^ 32) × InEights name × (byte < 256) ⌝ }
+    ensures { λ r. ⌜ (foundAt (now (table .entry)) r ≡ lookedFor records (now (table .entry)) checksum scale (nameNumber name) byte) × Among records r ⌝ }
 {
-    if hint < records {
-        if same(
-            key_at(table, hint * RECORD_SIZE),
-            key_of(checksum, scale, byte),
-        ) {
-            return Place::At(hint);
+    match find_key(table, records, key_of(checksum, scale, name, byte), hint) {
+        Place::At(index) => Place::At(index),
+        Place::Nowhere => {
+            let any = Name { high: 0, low: 0 };
+            find_key(table, records, key_of(checksum, scale, any, byte), hint)
         }
     }
-    find(table, records, checksum, scale, byte)
+}
+
+// The name by which a font's characters are found: its own where the table has a record of it, else sixteen zeros, so that a font which the table does not name is
+// sought once a character and not twice. The index that is tried first does not matter; the one where the font's records start spares the search.
+pub fn block_of(
+    table: &[u8],
+    records: usize,
+    checksum: u64,
+    scale: u64,
+    name: Name,
+    hint: usize,
+) -> Block
+    requires { ⌜ checkedTable (now table) ≡ given records ⌝ }
+    requires { ⌜ (checksum < 2 ^ 32) × (scale < 2 ^ 32) × InEights name ⌝ }
+    ensures { λ r. ⌜ InEights (r .name) × SeeksFor (now (table .entry)) records checksum scale name (r .name) ⌝ }
+{
+    let key = key_of(checksum, scale, name, 0);
+    let start = first_near(table, records, key, hint);
+    if start < records {
+        if same_block(key_at(table, start * RECORD_SIZE), key) {
+            return Block { name, start };
+        }
+    }
+    Block {
+        name: Name { high: 0, low: 0 },
+        start: start,
+    }
 }
 
 // Escapement and fix word of a record in a table that was judged right.
