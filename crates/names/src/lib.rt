@@ -1,8 +1,9 @@
 // A font's name as width records have it: sixteen bytes, held as two numbers so that names are compared as numbers.
 ghost use mathlib.Core.Path.{_≡_};
+ghost use mathlib.Core.Bool.{true};
 ghost use Prim.Native.Nat.{_+_, _≤_};
 ghost use lib.ListN.{length, drop};
-ghost use Rattle.names.specs.Names.{hasZero, allZeros, nameThenZeros, nameAt, soughtName};
+ghost use Rattle.names.specs.Names.{hasZero, allZeros, nameThenZeros, nameAt, anyName, soughtName};
 ghost use Rattle.names.specs.Steps.{InEights};
 
 // How many bytes of name a width record has.
@@ -81,4 +82,14 @@ pub fn lawful_name(bytes: &[u8]) -> bool
         index += 1;
     }
     true
+}
+
+// Whether a name is sixteen zeros.
+pub fn is_any(name: Name) -> bool
+    ensures { λ r. ⌜ (r ≡ true → name ≡ anyName) ⌝ }
+{
+    if name.high != 0 {
+        return false;
+    }
+    name.low == 0
 }

@@ -1,11 +1,11 @@
 -- Which refusals each entry may answer with: the numbers of the printed list, each at the place that the list gives it (the table of section 4 of the
--- rules, and rules 9.2 to 9.10). Assumes nothing.
+-- rules, and rules 9.2 to 9.12). Assumes nothing.
 use Prim.Native.Nat.{ℕ, _*_, _≤_, _<_}
 use mathlib.Core.Path.{_≡_}
 use mathlib.Core.List.{List}
 use mathlib.Core.Logic.{_⊎_}
 use lib.ListN.{length}
-use Rattle.refusals.specs.Numbers.{fileTooLong, fileEnds, undefinedOpcode, wrongPreamble, noFont, wrongPostamble, wrongTail, wrongResolution, unitOutOfRange, wrongWidthTable, noSuchPage, positionOutOfRange, areaTooShort, fontEnds, misplacedInFont, wrongPacket, wrongScale, wrongPages}
+use Rattle.refusals.specs.Numbers.{fileTooLong, fileEnds, undefinedOpcode, wrongPreamble, noFont, wrongPostamble, wrongTail, wrongResolution, unitOutOfRange, wrongWidthTable, noSuchPage, positionOutOfRange, areaTooShort, fontEnds, misplacedInFont, wrongPacket, wrongScale, wrongPages, namedRecord}
 use Rattle.refusals.specs.Answer.{Answer, refused, given}
 
 -- an answer is a result, or a refusal whose number and place may be (rule 4.3)
@@ -13,9 +13,9 @@ abbrev pub RefusedOnly : {A : Type 0} → (ℕ → ℕ → Type 0) → Answer A 
 RefusedOnly May (refused number place) = May number place
 RefusedOnly May (given a) = Unit {0}
 
--- an answer that is a result, or a refusal with any number of the list, which are 1 to 23 (the table of section 4 of the rules)
+-- an answer that is a result, or a refusal with any number of the list, which are 1 to 24 (the table of section 4 of the rules)
 abbrev pub Listed : {A : Type 0} → Answer A → Type 0
-Listed answer = RefusedOnly (λ number place. (1 ≤ number) × (number ≤ 23)) answer
+Listed answer = RefusedOnly (λ number place. (1 ≤ number) × (number ≤ 24)) answer
 
 -- of a file: 1 at 0; 2 in the file or at its end; 3 to 10 in the file; 11 in the file or at its end (rules 4.1, 4.2)
 abbrev pub FileRefusal : List ℕ → ℕ → ℕ → Type 0
@@ -69,3 +69,13 @@ MadeRefusal pk number place =
 -- of a file of chosen pages: as of the file; 23 or 17 at 0 (rule 9.10)
 abbrev pub CutRefusal : List ℕ → ℕ → ℕ → Type 0
 CutRefusal file number place = FileRefusal file number place ⊎ (((number ≡ wrongPages) ⊎ (number ≡ areaTooShort)) × (place ≡ 0))
+
+-- of a table in the new form: as of the table, whose records have so many bytes; 17 at 0 (rule 9.11)
+abbrev pub WidenRefusal : ℕ → List ℕ → ℕ → ℕ → Type 0
+WidenRefusal size table number place = TableRefusal size table number place ⊎ ((number ≡ areaTooShort) × (place ≡ 0))
+
+-- of a table in the old form: as of the table; 24 at the first byte of a record in the table; 17 at 0 (rule 9.12)
+abbrev pub NarrowRefusal : ℕ → List ℕ → ℕ → ℕ → Type 0
+NarrowRefusal size table number place =
+    TableRefusal size table number place
+    ⊎ (((number ≡ namedRecord) × ((index : ℕ) × (place ≡ index * size)) × (place < length table)) ⊎ ((number ≡ areaTooShort) × (place ≡ 0)))

@@ -5,12 +5,12 @@ use mathlib.Core.List.{List}
 use Prim.Native.Nat.{ℕ, zero, suc, _+_, _*_, _^_, _≤_, _<_}
 use native.Mathlib.Nat.{suc-mul}
 use native.Mathlib.Omega.{arith}
-use lib.Dec.{eqb}
+use lib.Dec.{ltb, eqb}
 use lib.ListN.{getD}
 use borrow.Author.Tests.{eqb-true, eq-eqb}
 use Rattle.numbers.specs.Bytes.{unsignedAt}
 use Rattle.numbers.proofs.Bytes.{unsigned-more, unsigned-join, power-le}
-use Rattle.numbers.proofs.Radix.{joined-twice, first-same, second-same}
+use Rattle.numbers.proofs.Radix.{joined-twice, first-decides, second-decides, first-same, second-same}
 use Rattle.widths.specs.declared.table.Key.{Key}
 use Rattle.widths.specs.Table.{WidthRecord, widthRecordSize, recordAt, recordIn, recordOf}
 use Rattle.widths.specs.LookUp.{isFor}
@@ -47,9 +47,14 @@ low-key named table at low = by (unsignedAt table at 8) refl
 
 -- ---- keys as the code has them
 
+lt-le : {m n : ℕ} → m < n → m ≤ n
+lt-le h = omega arith
+
+pub block-number : {checksum scale name code : ℕ} {k : Key} → KeyIs checksum scale name code k → blockNumber k ≡ (checksum * 2 ^ 32 + scale) * 2 ^ 128 + name
+block-number {k = k} h = joined-twice (k .head) (k .high) (k .low) (2 ^ 64) ∙ ap₂ (λ (head n : ℕ). head * 2 ^ 128 + n) (h .head-is) (h .name-is)
+
 pub key-number : (checksum scale name code : ℕ) (k : Key) → KeyIs checksum scale name code k → keyNumber k ≡ characterKey checksum scale name code
-key-number checksum scale name code k h =
-    ap₂ (λ (block byte : ℕ). block * 256 + byte) (joined-twice (k .head) (k .high) (k .low) (2 ^ 64) ∙ ap₂ (λ (head n : ℕ). head * 2 ^ 128 + n) (h .head-is) (h .name-is)) (h .code-is)
+key-number checksum scale name code k h = ap₂ (λ (block byte : ℕ). block * 256 + byte) (block-number h) (h .code-is)
 
 -- two keys with one number have the same parts
 pub record SameKey (a b : Key) : Type 0 where
@@ -67,6 +72,48 @@ module _ (a b : Key) (a-in : InKey a) (b-in : InKey b) where
         high-same = second-same (a .head) (b .head) (2 ^ 64) (a .high) (b .high) (a-in .0) (b-in .0) upper;
         low-same = second-same (a .head * 2 ^ 64 + a .high) (b .head * 2 ^ 64 + b .high) (2 ^ 64) (a .low) (b .low) (a-in .1) (b-in .1) e;
       }
+
+  -- ---- which of two keys is below the other: the first part in which they differ decides
+
+  abbrev upper : Key → ℕ
+  upper k = k .head * 2 ^ 64 + k .high
+
+  module _ (a-code : a .code < 256) where
+    by-block : (blockNumber a ≡ blockNumber b → ⊥) → ltb (blockNumber a) (blockNumber b) ≡ ltb (keyNumber a) (keyNumber b)
+    by-block differ = first-decides (blockNumber a) (blockNumber b) 256 (a .code) (b .code) a-code (b-in .2) differ
+
+    by-upper : (upper a ≡ upper b → ⊥) → ltb (upper a) (upper b) ≡ ltb (keyNumber a) (keyNumber b)
+    by-upper differ =
+        first-decides (upper a) (upper b) (2 ^ 64) (a .low) (b .low) (a-in .1) (lt-le (b-in .1)) differ
+        ∙ by-block (λ e. differ (first-same (upper a) (upper b) (2 ^ 64) (a .low) (b .low) (a-in .1) (b-in .1) e))
+
+    pub head-decides : (a .head ≡ b .head → ⊥) → ltb (a .head) (b .head) ≡ ltb (keyNumber a) (keyNumber b)
+    head-decides differ =
+        first-decides (a .head) (b .head) (2 ^ 64) (a .high) (b .high) (a-in .0) (lt-le (b-in .0)) differ
+        ∙ by-upper (λ e. differ (first-same (a .head) (b .head) (2 ^ 64) (a .high) (b .high) (a-in .0) (b-in .0) e))
+
+    module _ (heads : a .head ≡ b .head) where
+      pub high-decides : (a .high ≡ b .high → ⊥) → ltb (a .high) (b .high) ≡ ltb (keyNumber a) (keyNumber b)
+      high-decides differ =
+          second-decides (a .head) (b .head) (2 ^ 64) (a .high) (b .high) (a-in .0) heads
+          ∙ by-upper (λ e. differ (second-same (a .head) (b .head) (2 ^ 64) (a .high) (b .high) (a-in .0) (b-in .0) e))
+
+      module _ (highs : a .high ≡ b .high) where
+        uppers : upper a ≡ upper b
+        uppers = ap₂ (λ (head high : ℕ). head * 2 ^ 64 + high) heads highs
+
+        pub low-decides : (a .low ≡ b .low → ⊥) → ltb (a .low) (b .low) ≡ ltb (keyNumber a) (keyNumber b)
+        low-decides differ =
+            second-decides (upper a) (upper b) (2 ^ 64) (a .low) (b .low) (a-in .1) uppers
+            ∙ by-block (λ e. differ (same-parts e .low-same))
+
+        pub code-decides : a .low ≡ b .low → ltb (a .code) (b .code) ≡ ltb (keyNumber a) (keyNumber b)
+        code-decides lows =
+            second-decides (blockNumber a) (blockNumber b) 256 (a .code) (b .code) a-code (ap₂ (λ (top low : ℕ). top * 2 ^ 64 + low) uppers lows)
+
+    -- where check sum, scale and name are the same, the codes decide
+    pub code-reaches : blockNumber a ≡ blockNumber b → ltb (a .code) (b .code) ≡ ltb (keyNumber a) (keyNumber b)
+    code-reaches e = second-decides (blockNumber a) (blockNumber b) 256 (a .code) (b .code) a-code e
 
 -- the parts of a key keep to their bytes
 pub in-key : {checksum scale name code : ℕ} {k : Key} → KeyIs checksum scale name code k → InKey k

@@ -5,3 +5,5 @@ pub mod TableLaws
 pub mod Search
 pub mod AsBytes
 pub mod RefusedWith
+pub mod Blocks
+pub mod Hint

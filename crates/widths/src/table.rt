@@ -211,20 +211,32 @@ fn first_not_below(table: &[u8], records: usize, key: Key) -> usize
     low
 }
 
-// Whether an index is that of the first record whose key is not below a key: the one before it is below, and its own is not.
-fn is_first(table: &[u8], records: usize, key: Key, index: usize) -> bool
-    requires { ⌜ (checkedTable (now table) ≡ given records) × (index ≤ records) × InKey key ⌝ }
-    ensures { λ r. ⌜ (r ≡ true → FirstNotBelow (now (table .entry)) records (keyNumber key) index) ⌝ }
+// Whether the record of an index, where there is one, has a key that is not below a key.
+fn reached(table: &[u8], records: usize, key: Key, index: usize) -> bool
+    requires { ⌜ checkedTable (now table) ≡ given records ⌝ }
+    requires { ⌜ (index ≤ records) × InKey key ⌝ }
+    ensures { λ r. ⌜ (r ≡ true → index < records → keyNumber key ≤ recordOf (now (table .entry)) index .key) ⌝ }
 {
-    if 0 < index {
-        if !below(key_at(table, (index - 1) * RECORD_SIZE), key) {
-            return false;
-        }
-    }
     if index == records {
         return true;
     }
     !below(key_at(table, index * RECORD_SIZE), key)
+}
+
+// Whether an index is that of the first record whose key is not below a key: the one before it is below, and its own is not.
+fn is_first(table: &[u8], records: usize, key: Key, index: usize) -> bool
+    requires { ⌜ checkedTable (now table) ≡ given records ⌝ }
+    requires { ⌜ (index ≤ records) × InKey key ⌝ }
+    ensures { λ r. ⌜ (r ≡ true → FirstNotBelow (now (table .entry)) records (keyNumber key) index) ⌝ }
+{
+    if index == 0 {
+        return reached(table, records, key, index);
+    }
+    let before = index - 1;
+    if !below(key_at(table, before * RECORD_SIZE), key) {
+        return false;
+    }
+    reached(table, records, key, index)
 }
 
 // The same first record, trying one index before the search: any hint gives the same answer.
@@ -278,6 +290,9 @@ pub fn find(
     match find_key(table, records, key_of(checksum, scale, name, byte), hint) {
         Place::At(index) => Place::At(index),
         Place::Nowhere => {
+            if names::is_any(name) {
+                return Place::Nowhere;
+            }
             let any = Name { high: 0, low: 0 };
             find_key(table, records, key_of(checksum, scale, any, byte), hint)
         }

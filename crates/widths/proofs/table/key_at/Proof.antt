@@ -1,0 +1,66 @@
+use Rattle.names.proofs.NameLaws.{number-at}
+use Rattle.names.specs.Names.{nameNumber}
+use Rattle.numbers.proofs.Bytes.{unsigned-join, unsigned-below}
+use denote.Ref.{now}
+use native.Mathlib.Omega.{arith}
+use Prim.Native.Nat.{_+_}
+use mathlib.Core.Path.{ap, _∙_}
+use borrow.Author.Needs.{needs}
+use Rattle.widths.proofs.table.key_at.Statement.{statement}
+use Rattle.widths.proofs.table.key_at.Tie as tie
+use Rattle.widths.proofs.table.key_at.Reads as reads
+use Rattle.widths.proofs.table.key_at.Lts as lts
+use Rattle.names.proofs.name_at.Reads as name-at-reads
+use Rattle.numbers.proofs.unsigned_at.Reads as unsigned-at-reads
+use Rattle.numbers.proofs.wide.Reads as wide-reads
+
+-- src/table.rt:78:36
+add-wide : tie.Need-add-wide
+add-wide c = search needs
+
+-- src/table.rt:78:30
+shared-slice-read-wide : tie.Need-shared-slice-read-wide
+shared-slice-read-wide c = search needs
+
+-- src/table.rt:78:9
+wide-requires : tie.Need-wide-requires
+wide-requires c κs = search needs
+
+-- src/table.rt:79:38
+add-name-at : tie.Need-add-name-at
+add-name-at c = search needs
+
+-- src/table.rt:79:9
+name-at-requires : tie.Need-name-at-requires
+name-at-requires c κs = search needs
+
+-- src/table.rt:81:15
+unsigned-at-requires : tie.Need-unsigned-at-requires
+unsigned-at-requires c κs = search needs
+
+-- src/table.rt:74:1
+returns : tie.Need-returns
+returns c =
+    let table = now (c .before .before .before .before .before .args .table) in
+    let at = c .before .before .before .before .before .args .at in
+    record {
+      head-is = c .unsigned-at .ensures .0 ∙ unsigned-join table at 4 4;
+      scale-below = unsigned-below table (at + 4) 4 (λ i h. omega (arith, c .before .before .before .before .shared-slice-known .given (at + 4 + i)));
+      name-is = ap nameNumber (c .before .name-at .ensures .0) ∙ number-at table (at + 8);
+      high-below = c .before .name-at .ensures .1 .0;
+      low-below = c .before .name-at .ensures .1 .1;
+      code-is = c .before .before .wide .ensures .0;
+      code-below = c .before .before .wide .ensures .1;
+    }
+
+pub key-at-spec : {M : Type 1} → statement M
+key-at-spec =
+    tie.close
+    (tie.spec
+    add-wide
+    shared-slice-read-wide
+    wide-requires
+    add-name-at
+    name-at-requires
+    unsigned-at-requires
+    returns)
