@@ -1,12 +1,12 @@
 -- The numbers among a command's parameters, by appendix A's signs. Assumes nothing.
-use Prim.Native.Nat.{ℕ, _-_}
+use Prim.Native.Nat.{ℕ, _+_, _-_}
 use mathlib.Core.Bool.{cond}
 use mathlib.Core.List.{List}
 use lib.Dec.{ltb, eqb}
 use lib.ListN.{length, drop}
 use lib.IntN.{ℤ, pos}
 use Rattle.numbers.specs.Bytes.{unsignedAt, signedAt}
-use Rattle.commands.specs.Fields.{unsignedIn, signedIn, ruleHeightField, ruleWidthField, selectionNumberSize, definitionNumberSize, definitionChecksum, definitionScale, definitionDesignSize}
+use Rattle.commands.specs.Fields.{unsignedIn, signedIn, ruleHeightField, ruleWidthField, selectionNumberSize, definitionNumberSize, definitionChecksum, definitionScale, definitionDesignSize, definitionAreaLength, definitionName}
 
 -- a number of one to four bytes: of four bytes it has a sign, of fewer it has none (rule 2.6)
 abbrev pub numberAt : List ℕ → ℕ → ℕ → ℤ
@@ -51,3 +51,7 @@ fontScale definition = unsignedIn definitionScale definition
 -- its design size (rule 2.6)
 abbrev pub fontDesignSize : List ℕ → ℕ
 fontDesignSize definition = unsignedIn definitionDesignSize definition
+
+-- its name, which is what stands behind the area (rule 7.10)
+abbrev pub fontName : List ℕ → List ℕ
+fontName definition = drop (definitionName + unsignedIn definitionAreaLength definition) definition

@@ -24,7 +24,7 @@ use Rattle.state.specs.declared.registers.Register.the-variants as Register
 use Rattle.state.specs.Moving.{leaves}
 use Rattle.state.specs.Registers.{State, pushed, popped, poppedTo, spotOf, registerOf, directionOf}
 use Rattle.page.specs.PageList.{Located}
-use Rattle.page.specs.Placing.{Setting, fontOf, lookedFor, Added, nothing, Outcome, continues, leavesRange, withNumbers, movesTo, setCharacter, putCharacter, plainMove, distanceOr, registerMove, afterKind, after, Contents, adding, onOutcome, placing}
+use Rattle.page.specs.Placing.{Setting, fontOf, Added, nothing, Outcome, continues, leavesRange, withNumbers, movesTo, setCharacter, putCharacter, plainMove, distanceOr, registerMove, afterKind, after, Contents, adding, onOutcome, placing}
 use Rattle.page.specs.Counting.{fontAfter, codeOf}
 use Rattle.page.specs.Blocks.{opening, closing, inside, frameOf, frameOfCommand, Balanced, none, single, block, Led, to, out, leadOn, afterAll, lastFont, afterBlock}
 use Rattle.page.proofs.CountLaws.{and-given, AsCounted, as-counted}
@@ -73,9 +73,9 @@ module _ (setting : Setting) where
 
     -- only push and pop change them
     kind-keeps : (c : Command) (k : Kind) → frameOf k ≡ inside → Keeps s (afterKind k setting s c)
-    kind-keeps c Kind.SetCharacter e = set-keeps (codeOf c) (lookedFor setting (s .font) (codeOf c))
+    kind-keeps c Kind.SetCharacter e = set-keeps (codeOf c) (setting .look (s .font) (codeOf c))
     kind-keeps c Kind.SetRule e = moves-keep Direction.Sideways (ruleWidth (c .params)) _ _
-    kind-keeps c Kind.PutCharacter e = put-keeps (codeOf c) (lookedFor setting (s .font) (codeOf c))
+    kind-keeps c Kind.PutCharacter e = put-keeps (codeOf c) (setting .look (s .font) (codeOf c))
     kind-keeps c Kind.PutRule e = refl
     kind-keeps c Kind.Nop e = refl
     kind-keeps c Kind.Bop e = refl

@@ -6,7 +6,7 @@ use Prim.Native.Nat.{ℕ, _≤_, _^_}
 use lib.IntN.{ℤ, natAbs, _+ℤ_}
 use Rattle.widths.specs.declared.Metric.{Metric}
 use Rattle.widths.specs.Scaling.{scaledBy}
-use Rattle.widths.specs.LookUp.{LookUp, found, absent, codeByte, walk}
+use Rattle.widths.specs.LookUp.{LookUp, found, absent}
 use Rattle.state.specs.declared.Level.{Level}
 use Rattle.state.specs.declared.Font.{Font}
 use Rattle.state.specs.declared.moving.Direction.the-variants as Direction
@@ -19,6 +19,7 @@ use Rattle.page.specs.declared.Adds.the-variants as Adds
 use Rattle.page.specs.declared.Turn.{Turn}
 use Rattle.page.specs.declared.Turn.the-variants as Turn
 use Rattle.page.specs.Records.{characterRecord}
+use Rattle.page.specs.Placing.{lookIn}
 use Rattle.page.specs.Steps.{InWords, stateWith, unlessLeft, CharacterAsks}
 use Rattle.page.proofs.RecordWords.{ofBits, read-record}
 use Rattle.page.proofs.TurnLaws.{did-unless, safe-unless, inside-unless}
@@ -28,7 +29,7 @@ abbrev Asks : Terms → List ℕ → Level → Font → Bool → ℤ → Turn �
 Asks terms table level font sets code turn adds = CharacterAsks terms table level font sets code (record { turn = turn; adds = adds; hint = 0 })
 
 abbrev looked : Terms → List ℕ → Font → ℤ → LookUp
-looked terms table font code = walk (terms .rows) table (font .checksum) (font .scale) (codeByte code)
+looked terms table font code = lookIn table (terms .rows) font code
 
 -- a missing character asks the same, set or put
 pub absent-asks : (terms : Terms) (table : List ℕ) (level : Level) (font : Font) (sets : Bool) (code : ℤ) → looked terms table font code ≡ absent

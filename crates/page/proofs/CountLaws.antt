@@ -28,7 +28,7 @@ use Rattle.state.specs.Registers.{State, poppedTo, spotOf, registerOf, directio
 use Rattle.page.specs.declared.Record.{Record}
 use Rattle.page.specs.Records.{characterRecord, ruleRecord}
 use Rattle.page.specs.PageList.{Located}
-use Rattle.page.specs.Placing.{Setting, lookedFor, Added, nothing, placed, missing, special, Outcome, continues, leavesRange, movesTo, setCharacter, putCharacter, isVisible, plainMove, distanceOr, registerMove, afterKind, after, Contents, adding, onOutcome, placing}
+use Rattle.page.specs.Placing.{Setting, Added, nothing, placed, missing, special, Outcome, continues, leavesRange, movesTo, setCharacter, putCharacter, isVisible, plainMove, distanceOr, registerMove, afterKind, after, Contents, adding, onOutcome, placing}
 use Rattle.page.specs.Counting.{Seen, fontAfter, withFonts, isCharacter, isRule, codeOf, characterFound, characterMissing, ruleVisible, isSpecial, makesRecord, countOf, those, saidBy, saidOf, LeavesAt, now, later}
 
 -- what is given in the end was made from a result that was given
@@ -113,14 +113,14 @@ module _ (setting : Setting) where
     rules (rule, character, other, select) false e = (rw select, no-more (rw (rule, character, other, e) none))
 
     -- a character that is put adds its record where it is found, else it is missing
-    puts : Is false true false false → (l : LookUp) → lookedFor setting (s .font) (codeOf c) ≡ l → AsCounted this (putCharacter setting s (codeOf c) l)
+    puts : Is false true false false → (l : LookUp) → setting .look (s .font) (codeOf c) ≡ l → AsCounted this (putCharacter setting s (codeOf c) l)
     puts (rule, character, other, select) absent e = (rw select, a-missing (rw (rule, character, other, e) (refl, refl, refl, refl)))
     puts (rule, character, other, select) (found m) e =
         let r = characterRecord (setting .page) (s .level) (s .font) (codeOf c) (m .escapement) in
         (rw select, a-character r (rw (rule, character, other, e) (refl, refl, refl, refl)) (rw (rule, e)))
 
     -- so does one that is set
-    sets : Is false true false false → (l : LookUp) → lookedFor setting (s .font) (codeOf c) ≡ l → AsCounted this (setCharacter setting s (codeOf c) l)
+    sets : Is false true false false → (l : LookUp) → setting .look (s .font) (codeOf c) ≡ l → AsCounted this (setCharacter setting s (codeOf c) l)
     sets is absent e = puts is absent e
     sets is (found m) e = unless this _ (leaves (s .level .h +ℤ scaledBy (s .font .scale) (m .width))) (puts is (found m) e)
 
@@ -131,9 +131,9 @@ module _ (setting : Setting) where
 
     -- so it goes for each kind
     by-kind : (k : Kind) → kindOfCommand c ≡ k → AsCounted this (afterKind k setting s c)
-    by-kind Kind.SetCharacter e = sets (rw e (refl, refl, refl, refl)) (lookedFor setting (s .font) (codeOf c)) refl
+    by-kind Kind.SetCharacter e = sets (rw e (refl, refl, refl, refl)) (setting .look (s .font) (codeOf c)) refl
     by-kind Kind.SetRule e = unless this _ (leaves (s .level .h +ℤ width)) (rules (rw e (refl, refl, refl, refl)) (isVisible height width) refl)
-    by-kind Kind.PutCharacter e = puts (rw e (refl, refl, refl, refl)) (lookedFor setting (s .font) (codeOf c)) refl
+    by-kind Kind.PutCharacter e = puts (rw e (refl, refl, refl, refl)) (setting .look (s .font) (codeOf c)) refl
     by-kind Kind.PutRule e = rules (rw e (refl, refl, refl, refl)) (isVisible height width) refl
     by-kind Kind.Nop e = quiet (rw e none)
     by-kind Kind.Bop e = quiet (rw e none)

@@ -7,7 +7,8 @@ use native.Mathlib.Omega.{arith}
 use lib.ListN.{getD, take, drop}
 use lib.IntN.{ℤ, natAbs}
 use Rattle.commands.specs.Commands.{Command}
-use Rattle.commands.specs.Parameters.{fontChecksum, fontScale}
+use Rattle.names.specs.Names.{soughtName}
+use Rattle.commands.specs.Parameters.{fontChecksum, fontScale, fontName}
 use Rattle.list.specs.declared.Part.{Part}
 use Rattle.list.specs.Past.{body, Definition, definitionOf}
 use Rattle.list.specs.Rules.{lawfulFont}
@@ -21,7 +22,7 @@ use Rattle.page.specs.Steps.{Known, InScale, Told}
 
 -- no font is one that may be left
 pub unselected-known : Known unselected
-unselected-known = record { checksum-small = omega arith; scale-small = omega arith }
+unselected-known = record { checksum-small = omega arith; scale-small = omega arith; name-in = (omega arith, omega arith) }
 
 module _ {file fonts : List ℕ} {past : List Command} (told : Told file fonts past) (number : ℤ) where
   -- a number that no definition may have leaves no font
@@ -42,9 +43,9 @@ module _ {file fonts : List ℕ} {past : List Command} (told : Told file fonts p
 
       pub font-is :
           let said = take (r .end - r .start) (drop (r .start) file) in
-          record { number = natAbs number; checksum = fontChecksum said; scale = fontScale said } ≡ fontBy number (definitionOf false number past)
+          record { number = natAbs number; checksum = fontChecksum said; scale = fontScale said; name = soughtName (fontName said) } ≡ fontBy number (definitionOf false number past)
       font-is =
-          ap (λ (said : List ℕ). record { number = natAbs number; checksum = fontChecksum said; scale = fontScale said }) said-is
+          ap (λ (said : List ℕ). record { number = natAbs number; checksum = fontChecksum said; scale = fontScale said; name = soughtName (fontName said) }) said-is
           ∙ ap (fontBy number) (sym (leads .defined))
 
       pub scale-in : fontScale (take (r .end - r .start) (drop (r .start) file)) ≤ 134217727

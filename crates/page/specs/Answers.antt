@@ -17,7 +17,7 @@ use Rattle.state.specs.Registers.{freshState}
 use Rattle.page.specs.declared.Counts.{Counts}
 use Rattle.page.specs.Records.{placementRecordSize, allBytes}
 use Rattle.page.specs.PageList.{pageOf}
-use Rattle.page.specs.Placing.{Setting, Contents, placing}
+use Rattle.page.specs.Placing.{Setting, lookIn, Contents, placing}
 
 -- a page number that the file has not (rule 9.8)
 abbrev pub pageOutside : ℕ → ℕ → Bool
@@ -26,7 +26,7 @@ pageOutside page pages = not (leb 1 page && leb page pages)
 -- what the pages of a volume, by its commands, are placed by at a resolution (rule 8.3)
 abbrev pub settingIn : List Command → List ℕ → Ratio → ℕ → ℕ → ℕ → Setting
 settingIn past table k resolution rows page =
-    record { ruler = record { k = k; drift = drift resolution }; table = table; rows = rows; volume = past; page = page }
+    record { ruler = record { k = k; drift = drift resolution }; look = lookIn table rows; volume = past; page = page }
 
 -- those of a file (rule 8.3)
 abbrev pub settingOf : List ℕ → List ℕ → Ratio → ℕ → ℕ → ℕ → Setting

@@ -14,7 +14,7 @@ use Rattle.state.specs.declared.Font.{Font}
 use Rattle.state.specs.Registers.{State}
 use Rattle.page.specs.declared.Record.{Record}
 use Rattle.page.specs.PageList.{Located}
-use Rattle.page.specs.Placing.{Setting, fontOf, lookedFor, Added, continues, leavesRange, isVisible, after}
+use Rattle.page.specs.Placing.{Setting, fontOf, Added, continues, leavesRange, isVisible, after}
 
 -- a command and the font that is current at it (rule 7.10)
 pub record Seen : Type 0 where
@@ -51,11 +51,11 @@ isFound absent = false
 
 -- a character that the table has, and one that it has not (rule 7.6)
 abbrev pub characterFound : Setting → Seen → Bool
-characterFound setting c = isCharacter (c .command) && isFound (lookedFor setting (c .font) (codeOf (c .command)))
+characterFound setting c = isCharacter (c .command) && isFound (setting .look (c .font) (codeOf (c .command)))
 
 -- a character that the table has not (rule 7.7)
 abbrev pub characterMissing : Setting → Seen → Bool
-characterMissing setting c = isCharacter (c .command) && not (isFound (lookedFor setting (c .font) (codeOf (c .command))))
+characterMissing setting c = isCharacter (c .command) && not (isFound (setting .look (c .font) (codeOf (c .command))))
 
 -- a rule of which neither side is ≤ 0 (rule 7.8)
 abbrev pub ruleVisible : Seen → Bool
@@ -105,7 +105,7 @@ abbrev pub saidOf : Setting → Seen → Said
 saidOf setting c =
     cond (isRule (c .command))
     (record { kind = 2; font = 0; page = setting .page; content = roundedUp (setting .ruler .k) (ruleHeight (c .command .params)); extent = roundedUp (setting .ruler .k) (ruleWidth (c .command .params)) })
-    (record { kind = 1; font = c .font .number; page = setting .page; content = codeOf (c .command); extent = escapementOf (lookedFor setting (c .font) (codeOf (c .command))) })
+    (record { kind = 1; font = c .font .number; page = setting .page; content = codeOf (c .command); extent = escapementOf (setting .look (c .font) (codeOf (c .command))) })
 
 -- ---- a refusal
 

@@ -10,11 +10,12 @@ use Rattle.refusals.specs.Numbers.{positionOutOfRange}
 use Rattle.refusals.specs.Answer.{Answer, refused, given, andThen}
 use Rattle.units.specs.Rounding.{roundedUp}
 use Rattle.widths.specs.Scaling.{scaledBy}
-use Rattle.widths.specs.LookUp.{LookUp, found, absent, codeByte, walk}
+use Rattle.names.specs.Names.{nameNumber, soughtName}
+use Rattle.widths.specs.LookUp.{LookUp, found, absent, codeByte, lookedFor}
 use Rattle.commands.specs.declared.Kind.{Kind}
 use Rattle.commands.specs.declared.Kind.the-variants.{SetCharacter, SetRule, PutCharacter, PutRule, Nop, Bop, Eop, Push, Pop, Right, W, X, Down, Y, Z, Select, Special, Define, Pre, Post, PostPost, Undefined}
 use Rattle.commands.specs.Commands.{Command, kindOfCommand}
-use Rattle.commands.specs.Parameters.{characterCode, distance, ruleHeight, ruleWidth, selectedFont, fontChecksum, fontScale}
+use Rattle.commands.specs.Parameters.{characterCode, distance, ruleHeight, ruleWidth, selectedFont, fontChecksum, fontScale, fontName}
 use Rattle.list.specs.Past.{body, Definition, none, stands, definitionOf}
 use Rattle.state.specs.declared.Level.{Level}
 use Rattle.state.specs.declared.Font.{Font}
@@ -30,11 +31,10 @@ use Rattle.page.specs.declared.Record.{Record}
 use Rattle.page.specs.Records.{characterRecord, ruleRecord}
 use Rattle.page.specs.PageList.{Located}
 
--- what a page is placed by: K and D, the width table and how many rows it has, the volume's commands, and the page's number (rule 9.8)
+-- what a page is placed by: K and D, what is found for a font's character, the volume's commands, and the page's number (rule 9.8)
 pub record Setting : Type 0 where
   pub ruler : Ruler
-  pub table : List ℕ
-  pub rows : ℕ
+  pub look : Font → ℤ → LookUp
   pub volume : List Command
   pub page : ℕ
 
@@ -43,15 +43,16 @@ pub record Setting : Type 0 where
 -- a font by its definition; where none is, 8 was due (rule 7.10)
 abbrev pub fontBy : ℤ → Definition → Font
 fontBy number none = unselected
-fontBy number (stands at c) = record { number = natAbs number; checksum = fontChecksum (body c); scale = fontScale (body c) }
+fontBy number (stands at c) =
+    record { number = natAbs number; checksum = fontChecksum (body c); scale = fontScale (body c); name = soughtName (fontName (body c)) }
 
 -- a font of the volume, by its definition before post (rule 7.10)
 abbrev pub fontOf : Setting → ℤ → Font
 fontOf setting number = fontBy number (definitionOf false number (setting .volume))
 
--- a font's character looked up in the table (rule 6.8)
-abbrev pub lookedFor : Setting → Font → ℤ → LookUp
-lookedFor setting font code = walk (setting .rows) (setting .table) (font .checksum) (font .scale) (codeByte code)
+-- a font's character looked up in a table of so many records, by the name that the font seeks (rules 6.8, 6.10)
+abbrev pub lookIn : List ℕ → ℕ → Font → ℤ → LookUp
+lookIn table records font code = lookedFor records table (font .checksum) (font .scale) (nameNumber (font .name)) (codeByte code)
 
 -- ---- what a command comes to
 
@@ -123,10 +124,10 @@ registerMove register setting s params =
 -- by its kind; bop, eop and what stands outside pages are none of a page's own commands (section 7 of the rules)
 abbrev pub afterKind : Kind → Setting → State → Command → Outcome
 afterKind SetCharacter setting s c =
-    setCharacter setting s (characterCode (c .opcode) (c .params)) (lookedFor setting (s .font) (characterCode (c .opcode) (c .params)))
+    setCharacter setting s (characterCode (c .opcode) (c .params)) (setting .look (s .font) (characterCode (c .opcode) (c .params)))
 afterKind SetRule setting s c = setRule setting s (ruleHeight (c .params)) (ruleWidth (c .params))
 afterKind PutCharacter setting s c =
-    putCharacter setting s (characterCode (c .opcode) (c .params)) (lookedFor setting (s .font) (characterCode (c .opcode) (c .params)))
+    putCharacter setting s (characterCode (c .opcode) (c .params)) (setting .look (s .font) (characterCode (c .opcode) (c .params)))
 afterKind PutRule setting s c = continues s (ruleAdded setting s (ruleHeight (c .params)) (ruleWidth (c .params)))
 afterKind Nop setting s c = continues s nothing
 afterKind Bop setting s c = continues s nothing

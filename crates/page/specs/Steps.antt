@@ -11,7 +11,8 @@ use Rattle.refusals.specs.Answer.{Answer, refused, given, refusal}
 use Rattle.units.specs.Steps.{Accepted}
 use Rattle.units.specs.Rounding.{roundedUp}
 use Rattle.widths.specs.Table.{checkedTable}
-use Rattle.widths.specs.Steps.{sixteenfoldOf}
+use Rattle.names.specs.Steps.{InEights}
+use Rattle.widths.specs.Steps.{sixteenfoldOf, SeeksFor}
 use Rattle.commands.specs.declared.Kind.{Kind}
 use Rattle.commands.specs.declared.Kind.the-variants as Kind
 use Rattle.commands.specs.Kinds.{is}
@@ -38,6 +39,7 @@ use Rattle.state.specs.Moving.{leaves}
 use Rattle.state.specs.Registers.{State, pushed, popped, spotOf, movedBy, characterMoved, registerOf, directionOf, movedByRegister}
 use Rattle.page.specs.declared.Record.{Record}
 use Rattle.page.specs.declared.Counts.{Counts}
+use Rattle.page.specs.declared.Kept.{Kept}
 use Rattle.page.specs.declared.Terms.{Terms}
 use Rattle.page.specs.declared.Adds.{Adds}
 use Rattle.page.specs.declared.Adds.the-variants as Adds
@@ -52,7 +54,7 @@ use Rattle.page.specs.declared.PagePlaced.the-variants as PagePlaced
 use Rattle.page.specs.Records.{placementRecordSize, recordBytes, ruleRecord}
 use Rattle.page.specs.PageList.{Located, pageOf}
 use Rattle.page.specs.Blocks.{Frame, opening, closing, ending, inside, frameOf}
-use Rattle.page.specs.Placing.{Setting, Added, nothing, placed, missing, special, Outcome, continues, leavesRange, withNumbers, fontBy, lookedFor, setCharacter, putCharacter, isVisible, distanceOr, after, Contents}
+use Rattle.page.specs.Placing.{Setting, Added, nothing, placed, missing, special, Outcome, continues, leavesRange, withNumbers, fontBy, lookIn, setCharacter, putCharacter, isVisible, distanceOr, after, Contents}
 
 -- ---- records
 
@@ -135,10 +137,13 @@ Few most (Walked.Left place) = Unit {0}
 pub record Known (font : Font) : Type 0 where
   pub checksum-small : font .checksum < 2 ^ 32
   pub scale-small : font .scale ≤ 134217727
+  pub name-in : InEights (font .name)
 
--- the sixteenfold that is kept for a font is that of its scale
-abbrev pub KeptFor : Font → ℕ → Type 0
-KeptFor font sixteenfold = sixteenfold ≡ sixteenfoldOf (font .scale)
+-- what is kept for a font: the sixteenfold of its scale, and a name by which its characters are found in the table as by its own
+pub record KeptFor (table : List ℕ) (rows : ℕ) (font : Font) (kept : Kept) : Type 0 where
+  pub sixteenfold-is : kept .sixteenfold ≡ sixteenfoldOf (font .scale)
+  pub kept-in : InEights (kept .name)
+  pub seeks : SeeksFor table rows (font .checksum) (font .scale) (font .name) (kept .name)
 
 -- a state of these
 abbrev pub stateWith : Level → List Level → Font → State
@@ -193,7 +198,7 @@ Suits kind turn = turnFrame turn ≡ frameOf kind
 
 -- what the code holds, as the setting of the meaning
 abbrev pub termsSetting : Terms → List ℕ → List Command → Setting
-termsSetting terms table volume = record { ruler = terms .ruler; table = table; rows = terms .rows; volume = volume; page = terms .page }
+termsSetting terms table volume = record { ruler = terms .ruler; look = lookIn table (terms .rows); volume = volume; page = terms .page }
 
 -- what is asked comes to an outcome, whatever the levels that are saved
 pub record Comes (ruler : Ruler) (level : Level) (font : Font) (outcome : State → Outcome) (turn : Turn) (adds : Adds) : Type 0 where
@@ -207,7 +212,7 @@ CharacterAsks terms table level font sets code r =
     (volume : List Command)
     → let setting = termsSetting terms table volume in
     Comes (terms .ruler) level font
-    (λ s. cond sets (setCharacter setting s code (lookedFor setting font code)) (putCharacter setting s code (lookedFor setting font code))) (r .turn) (r .adds)
+    (λ s. cond sets (setCharacter setting s code (setting .look font code)) (putCharacter setting s code (setting .look font code))) (r .turn) (r .adds)
     × (turnFrame (r .turn) ≡ inside)
 
 -- what a command asks

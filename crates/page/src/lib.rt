@@ -1,4 +1,5 @@
 // Placing one page: the records of its commands, their counts, and the output area.
+use names::Name;
 use refusals::Refusal;
 use state::Font;
 use state::moving::Direction;
@@ -37,6 +38,13 @@ pub struct Terms {
     pub ruler: Ruler,
     pub rows: usize,
     pub page: u64,
+}
+
+// What a walk keeps for the current font, so that no character pays for it: sixteen times its scale, less the bits that halving loses, and the name by which its
+// characters are found
+pub struct Kept {
+    pub sixteenfold: u64,
+    pub name: Name,
 }
 
 // What a command adds to the page

@@ -1,6 +1,7 @@
 // What a command of a page asks: a turn of the state, and what it adds to the page.
 use crate::Adds;
 use crate::Asked;
+use crate::Kept;
 use crate::Record;
 use crate::Step;
 use crate::Terms;
@@ -46,24 +47,33 @@ fn guess(hint: usize, byte: u64) -> usize
     sum - 256
 }
 
-// What a character asks, set or put. `sixteenfold` is that of the font's scale.
+// What a character asks, set or put. `kept` is what was kept for the font.
 fn character(
     widths: &[u8],
     terms: Terms,
     level: Level,
     font: Font,
-    sixteenfold: u64,
+    kept: Kept,
     sets: bool,
     code: i64,
     hint: usize,
 ) -> Asked
     requires { ⌜ (checkedTable (now widths) ≡ given (terms .rows)) × Known font ⌝ }
-    requires { ⌜ Bounded level × (natAbs code ≤ 2 ^ 31) × KeptFor font sixteenfold ⌝ }
+    requires { ⌜ Bounded level × (natAbs code ≤ 2 ^ 31) × KeptFor (now widths) (terms .rows) font kept ⌝ }
     ensures { λ r. ⌜ CharacterAsks terms (now (widths .entry)) level font sets code r ⌝ }
 {
     let byte = numbers::to_twos(256, code);
     let near = guess(hint, byte);
-    match table::find_near(widths, terms.rows, font.checksum, font.scale, byte, near) {
+    let name = kept.name;
+    match table::find(
+        widths,
+        terms.rows,
+        font.checksum,
+        font.scale,
+        name,
+        byte,
+        near,
+    ) {
         Place::Nowhere => Asked {
             turn: Turn::Stay,
             adds: Adds::Missing,
@@ -89,7 +99,7 @@ fn character(
                     hint: hint,
                 };
             }
-            let width = scaling::scaled(sixteenfold, metric.width);
+            let width = scaling::scaled(kept.sixteenfold, metric.width);
             let past = Turn::PastCharacter(width, escapement);
             Asked {
                 turn: unless_left(Direction::Sideways, level, width, past),
@@ -217,11 +227,11 @@ fn asked_by(
     params: &[u8],
     level: Level,
     font: Font,
-    sixteenfold: u64,
+    kept: Kept,
     hint: usize,
 ) -> Asked
     requires { ⌜ Whole (command opcode (now params)) × Told (now file) (now fonts) (history (now file)) ⌝ }
-    requires { ⌜ (checkedTable (now widths) ≡ given (terms .rows)) × Accepted (terms .ruler .k) × Known font × Bounded level × KeptFor font sixteenfold ⌝ }
+    requires { ⌜ (checkedTable (now widths) ≡ given (terms .rows)) × Accepted (terms .ruler .k) × Known font × Bounded level × KeptFor (now widths) (terms .rows) font kept ⌝ }
     ensures { λ r. ⌜ CommandAsks (termsSetting terms (now (widths .entry)) (history (now (file .entry)))) level font (command opcode (now (params .entry))) r ⌝ }
 {
     let kind = commands::kind_of(opcode);
@@ -229,7 +239,7 @@ fn asked_by(
         Kind::SetCharacter | Kind::PutCharacter => {
             let code = parameters::character_code(opcode, params);
             let sets = opcode < 132;
-            character(widths, terms, level, font, sixteenfold, sets, code, hint)
+            character(widths, terms, level, font, kept, sets, code, hint)
         }
         Kind::SetRule => rule(terms, level, true, params, hint),
         Kind::PutRule => rule(terms, level, false, params, hint),
@@ -264,11 +274,11 @@ pub fn step_at(
     at: usize,
     level: Level,
     font: Font,
-    sixteenfold: u64,
+    kept: Kept,
     hint: usize,
 ) -> Step
     requires { ⌜ Told (now file) (now fonts) (history (now file)) ⌝ }
-    requires { ⌜ (checkedTable (now widths) ≡ given (terms .rows)) × Accepted (terms .ruler .k) × Known font × Bounded level × (now table ≡ lengths) × KeptFor font sixteenfold ⌝ }
+    requires { ⌜ (checkedTable (now widths) ≡ given (terms .rows)) × Accepted (terms .ruler .k) × Known font × Bounded level × (now table ≡ lengths) × KeptFor (now widths) (terms .rows) font kept ⌝ }
     ensures { λ r. ⌜ StepAsks (now (file .entry)) at (termsSetting terms (now (widths .entry)) (history (now (file .entry)))) level font r ⌝ }
 {
     match commands::read_by(table, file, at) {
@@ -295,7 +305,7 @@ pub fn step_at(
                     params,
                     level,
                     font,
-                    sixteenfold,
+                    kept,
                     hint,
                 ),
                 next: next,

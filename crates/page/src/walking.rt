@@ -1,22 +1,28 @@
 // The walk over a page's commands, from the end of its bop to its eop.
 use crate::Counts;
+use crate::Kept;
 use crate::Terms;
 use crate::Turn;
 use crate::Walked;
 use crate::records;
 use crate::steps;
+use names::Name;
+use state::Font;
 use state::Page;
 use state::moving::Direction;
 use state::moving::Stride;
 use state::registers;
 use widths::scaling;
+use widths::table;
 ghost use mathlib.Core.Path.{_≡_};
 ghost use lib.ListN.{length};
+ghost use Rattle.refusals.specs.Answer.{given};
+ghost use Rattle.widths.specs.Table.{checkedTable};
 ghost use Rattle.volume.specs.History.{history};
 ghost use Rattle.state.specs.Registers.{freshState};
 ghost use Rattle.page.specs.PageList.{pageOf};
 ghost use Rattle.page.specs.Placing.{placing};
-ghost use Rattle.page.specs.Steps.{Ready, termsSetting, zeroCounts, finish, endingOf, Few};
+ghost use Rattle.page.specs.Steps.{Known, KeptFor, Ready, termsSetting, zeroCounts, finish, endingOf, Few};
 
 // The hint for the font that is selected now, in exchange for that of the font before, so that no font's search starts from nothing again.
 fn exchanged(hints: &mut [usize; 256], before: u64, after: u64, hint: usize) -> usize {
@@ -24,8 +30,25 @@ fn exchanged(hints: &mut [usize; 256], before: u64, after: u64, hint: usize) -> 
     hints[(after % 256) as usize]
 }
 
-// Walks over the page whose commands start at a place, counts what they add, and writes each record that the area has room for. A font's scale is halved
-// where the font is selected, not at each of its characters.
+// What is kept for a font. `starts` has for each font's number where the search for its name ended last, which is where it starts next.
+fn kept_for(widths: &[u8], rows: usize, font: Font, starts: &mut [usize; 256]) -> Kept
+    requires { ⌜ (checkedTable (now widths) ≡ given rows) × Known font ⌝ }
+    ensures { λ r. ⌜ KeptFor (now (widths .entry)) rows font r ⌝ }
+{
+    let slot = (font.number % 256) as usize;
+    let hint = starts[slot];
+    let own = font.name;
+    let block = table::block_of(widths, rows, font.checksum, font.scale, own, hint);
+    let name = block.name;
+    starts[slot] = block.start;
+    Kept {
+        sixteenfold: scaling::sixteenfold_of(font.scale),
+        name: name,
+    }
+}
+
+// Walks over the page whose commands start at a place, counts what they add, and writes each record that the area has room for. A font's scale is halved, and its
+// name sought in the table, where the font is selected, not at each of its characters.
 pub fn walk(
     file: &[u8],
     widths: &[u8],
@@ -47,8 +70,12 @@ pub fn walk(
     };
     let mut at = start;
     let mut hint: usize = 0;
-    let mut sixteenfold: u64 = 0;
+    let mut kept = Kept {
+        sixteenfold: 0,
+        name: Name { high: 0, low: 0 },
+    };
     let mut hints = [0usize; 256];
+    let mut starts = [0usize; 256];
     let table = commands::length_table();
     loop {
         let now = page.now;
@@ -62,7 +89,7 @@ pub fn walk(
             at,
             now,
             page.font,
-            sixteenfold,
+            kept,
             hint,
         );
         let asked = step.asked;
@@ -104,7 +131,7 @@ pub fn walk(
             }
             Turn::Select(font) => {
                 hint = exchanged(&mut hints, page.font.number, font.number, hint);
-                sixteenfold = scaling::sixteenfold_of(font.scale);
+                kept = kept_for(widths, terms.rows, font, &mut starts);
                 page = page.select(font);
             }
             Turn::End => return Walked::Through(counts),

@@ -26,7 +26,7 @@ use Rattle.list.proofs.FaultLaws.{none-broken, all-kept}
 use Rattle.list.proofs.Arms.{on-kinds, is-kind}
 use Rattle.state.specs.Registers.{State, freshState}
 use Rattle.page.specs.PageList.{Located, pageOf}
-use Rattle.page.specs.Placing.{Setting, Outcome, continues, leavesRange, lookedFor, setCharacter, putCharacter, afterKind, after, Contents, adding, onOutcome, placing}
+use Rattle.page.specs.Placing.{Setting, Outcome, continues, leavesRange, setCharacter, putCharacter, afterKind, after, Contents, adding, onOutcome, placing}
 use Rattle.page.specs.Answers.{pageOutside, settingIn, withRoom, placedIn}
 
 pub record Agree (past past′ : List Command) : Type 0 where
@@ -130,8 +130,8 @@ module _ {past past′ : List Command} (a : Agree past past′) (table : List �
     by-kind : (select set put : Bool) → isA Select c ≡ select → isA SetCharacter c ≡ set → isA PutCharacter c ≡ put
         → afterKind (kindOfCommand c) one s c ≡ afterKind (kindOfCommand c) other s c
     by-kind true set put e f g = rw (is-kind (kindOfCommand c) Select e, a .same-definition false (selectedFont (c .opcode) (c .params)))
-    by-kind false true put e f g = rw (is-kind (kindOfCommand c) SetCharacter f) (same-set code (lookedFor one (s .font) code))
-    by-kind false false true e f g = rw (is-kind (kindOfCommand c) PutCharacter g) (same-put code (lookedFor one (s .font) code))
+    by-kind false true put e f g = rw (is-kind (kindOfCommand c) SetCharacter f) (same-set code (one .look (s .font) code))
+    by-kind false false true e f g = rw (is-kind (kindOfCommand c) PutCharacter g) (same-put code (one .look (s .font) code))
     by-kind false false false e f g = rw (e, f, g) at (on-kinds (ofOthers one) (ofOthers other) refl (kindOfCommand c))
 
     -- a command asks of the volume only what the definitions before post say

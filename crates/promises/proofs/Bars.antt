@@ -38,7 +38,7 @@ use Rattle.state.proofs.Nearby.{near-moved, near-character, near-register, near
 use Rattle.page.specs.declared.Record.{Record}
 use Rattle.page.specs.Records.{placementRecordSize, ruleRecord, allBytes}
 use Rattle.page.specs.PageList.{Located}
-use Rattle.page.specs.Placing.{Setting, lookedFor, Added, nothing, placed, missing, special, Outcome, continues, leavesRange, withNumbers, movesTo, setCharacter, putCharacter, isVisible, ruleAdded, plainMove, distanceOr, registerMove, afterKind, after, Contents, adding, onOutcome, placing}
+use Rattle.page.specs.Placing.{Setting, Added, nothing, placed, missing, special, Outcome, continues, leavesRange, withNumbers, movesTo, setCharacter, putCharacter, isVisible, ruleAdded, plainMove, distanceOr, registerMove, afterKind, after, Contents, adding, onOutcome, placing}
 use Rattle.page.specs.Counting.{codeOf}
 use Rattle.page.specs.Blocks.{to, leadOn, afterAll}
 use Rattle.page.proofs.CountLaws.{and-given}
@@ -116,11 +116,11 @@ module _ (setting : Setting) where
     pops-near (last ∷ before) (there, all) = (there, all)
 
     kind-near : (c : Command) (k : Kind) → NearOutcome (afterKind k setting s c)
-    kind-near c Kind.SetCharacter = sets-near (codeOf c) (lookedFor setting (s .font) (codeOf c))
+    kind-near c Kind.SetCharacter = sets-near (codeOf c) (setting .look (s .font) (codeOf c))
     kind-near c Kind.SetRule =
         let width = ruleWidth (c .params) in
         moves-near Direction.Sideways width _ _ (near-moved (setting .ruler) Direction.Sideways Stride.RoundedUp (s .font .scale) width (s .level) (near .0))
-    kind-near c Kind.PutCharacter = puts-near (codeOf c) (lookedFor setting (s .font) (codeOf c))
+    kind-near c Kind.PutCharacter = puts-near (codeOf c) (setting .look (s .font) (codeOf c))
     kind-near c Kind.PutRule = near
     kind-near c Kind.Nop = near
     kind-near c Kind.Bop = near

@@ -24,7 +24,7 @@ use Rattle.state.specs.Moving.{leaves}
 use Rattle.state.specs.Registers.{State, spotOf, movedBy, registerOf, directionOf}
 use Rattle.page.specs.Records.{ruleRecord}
 use Rattle.page.specs.PageList.{Located}
-use Rattle.page.specs.Placing.{Setting, fontBy, lookedFor, Added, nothing, placed, missing, special, Outcome, continues, leavesRange, withNumbers, setCharacter, putCharacter, isVisible, ruleAdded, plainMove, distanceOr, registerMove, afterKind, after, Contents, adding, onOutcome, placing}
+use Rattle.page.specs.Placing.{Setting, fontBy, Added, nothing, placed, missing, special, Outcome, continues, leavesRange, withNumbers, setCharacter, putCharacter, isVisible, ruleAdded, plainMove, distanceOr, registerMove, afterKind, after, Contents, adding, onOutcome, placing}
 use Rattle.rewritten.specs.Unplaced.{unplaced}
 use Rattle.rewritten.specs.Renumbered.{recordOn, renumbered}
 
@@ -65,7 +65,7 @@ module _ (setting : Setting) (volume : List Command) (page : ℕ)
     (fonts : (number : ℤ) → unplaced (definitionOf false number volume) ≡ unplaced (definitionOf false number (setting .volume))) where
   -- the same but for a volume with the same fonts, and the page's number
   abbrev pub renumberedSetting : Setting
-  renumberedSetting = record { ruler = setting .ruler; table = setting .table; rows = setting .rows; volume = volume; page = page }
+  renumberedSetting = record { ruler = setting .ruler; look = setting .look; volume = volume; page = page }
 
   -- where h or v would leave its range both say so
   unless : (t : Bool) (o other : Outcome) → o ≡ outcomeOn page other → cond t leavesRange o ≡ outcomeOn page (cond t leavesRange other)
@@ -100,12 +100,12 @@ module _ (setting : Setting) (volume : List Command) (page : ℕ)
         unless (leaves (spotOf (directionOf register) (s .level) .position +ℤ distanceOr (registerOf register (s .level)) params)) _ _ refl
 
     by-kind : (c : Command) (k : Kind) → afterKind k renumberedSetting s c ≡ outcomeOn page (afterKind k setting s c)
-    by-kind c Kind.SetCharacter = sets (characterCode (c .opcode) (c .params)) (lookedFor setting (s .font) (characterCode (c .opcode) (c .params)))
+    by-kind c Kind.SetCharacter = sets (characterCode (c .opcode) (c .params)) (setting .look (s .font) (characterCode (c .opcode) (c .params)))
     by-kind c Kind.SetRule =
         let width = ruleWidth (c .params) in
         unless (leaves (s .level .h +ℤ width)) _ _
         (ap (continues (withNumbers s (movedBy Direction.Sideways Stride.RoundedUp (setting .ruler) (s .font .scale) width (s .level)))) (rules (ruleHeight (c .params)) width))
-    by-kind c Kind.PutCharacter = puts (characterCode (c .opcode) (c .params)) (lookedFor setting (s .font) (characterCode (c .opcode) (c .params)))
+    by-kind c Kind.PutCharacter = puts (characterCode (c .opcode) (c .params)) (setting .look (s .font) (characterCode (c .opcode) (c .params)))
     by-kind c Kind.PutRule = ap (continues s) (rules (ruleHeight (c .params)) (ruleWidth (c .params)))
     by-kind c Kind.Nop = refl
     by-kind c Kind.Bop = refl

@@ -2,6 +2,7 @@
 use Prim.Native.Nat.{ℕ}
 use mathlib.Core.List.{List, [], _∷_}
 use lib.IntN.{ℤ, pos, _+ℤ_}
+use Rattle.names.specs.Names.{anyName}
 use Rattle.state.specs.declared.Level.{Level}
 use Rattle.state.specs.declared.Font.{Font}
 use Rattle.state.specs.declared.moving.Direction.{Direction}
@@ -27,7 +28,7 @@ zeroLevel = record { h = pos 0; v = pos 0; w = pos 0; x = pos 0; y = pos 0; z = 
 
 -- no font: its scale is 0 (rule 7.1)
 abbrev pub unselected : Font
-unselected = record { number = 0; checksum = 0; scale = 0 }
+unselected = record { number = 0; checksum = 0; scale = 0; name = anyName }
 
 -- a fresh page (rule 7.1)
 abbrev pub freshState : State

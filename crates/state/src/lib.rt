@@ -2,6 +2,7 @@
 use moving::Direction;
 use moving::Ruler;
 use moving::Stride;
+use names::Name;
 ghost use mathlib.Core.Path.{_≡_};
 ghost use mathlib.Core.Bool.{false};
 ghost use Prim.Native.Nat.{_+_, _-_, _≤_, _<_, _^_};
@@ -28,11 +29,12 @@ pub struct Level {
     pub vv: i64,
 }
 
-// The current font: its number, check sum and scale; the scale is 0 while none is selected
+// The current font: its number, check sum and scale, and the name that it seeks in the width table; the scale is 0 while none is selected
 pub struct Font {
     pub number: u64,
     pub checksum: u64,
     pub scale: u64,
+    pub name: Name,
 }
 
 // The state of a page. The array stands last, so that a change of what stands before it copies no array.
@@ -71,6 +73,7 @@ impl Page {
                 number: 0,
                 checksum: 0,
                 scale: 0,
+                name: Name { high: 0, low: 0 },
             },
             stack: stack,
         }

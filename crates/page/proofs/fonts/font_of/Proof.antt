@@ -6,11 +6,14 @@ use Prim.Native.Nat.{ℕ, _-_, _≤_}
 use native.Mathlib.Omega.{arith}
 use borrow.Author.Needs.{needs}
 use borrow.Author.Tests.{not-true, not-false}
-use lib.ListN.{getD}
+use lib.ListN.{getD, take, drop}
 use lib.IntN.{ℤ, natAbs}
 use denote.Ref.{now}
 use mir.Facts.{toZ-ofZ}
+use Rattle.names.specs.declared.Name.{Name}
+use Rattle.names.specs.Names.{soughtName}
 use Rattle.commands.specs.Commands.{Command}
+use Rattle.commands.specs.Parameters.{fontName}
 use Rattle.list.specs.Rules.{lawfulFont}
 use Rattle.list.proofs.FontTables.{lawful-in}
 use Rattle.volume.proofs.NameLaws.{Leads, leads, said-long}
@@ -90,19 +93,25 @@ unsigned-in-requires c κs = search needs
 unsigned-in-requires-2 : tie.Need-unsigned-in-requires-2
 unsigned-in-requires-2 c κs = search needs
 
+name-in-requires : tie.Need-name-in-requires
+name-in-requires c κs = search needs
+
 returns-4 : tie.Need-returns-4
 returns-4 c past told =
-    let s = c .before .before .before .before .before .before .before .before .before .before in
-    let e = c .before .before .before .before .before in
-    let part = c .before .before .before .before .saying-at in
+    let s = c .before .before .before .before .before .before .before .before .before .before .before in
+    let e = c .before .before .before .before .before .before in
+    let part = c .before .before .before .before .before .saying-at in
     let legal = lawful (e .before .before) in
     let l = definition e past told in
-    let checksum = c .before .unsigned-in in
-    let scale = c .unsigned-in2 in (
-      ap (λ (z : ℤ). record { number = natAbs z; checksum = checksum .result; scale = scale .result }) (toZ-ofZ (s .fits .number))
-          ∙ ap₂ (λ (sum size : ℕ). record { number = natAbs (s .args .number); checksum = sum; scale = size }) (checksum .ensures .0) (scale .ensures .0)
+    let checksum = c .before .before .unsigned-in in
+    let scale = c .before .unsigned-in2 in
+    let name = c .name-in in
+    let said = take (part .result .end - part .result .start) (drop (part .result .start) (now (s .args .file))) in (
+      ap (λ (z : ℤ). record { number = natAbs z; checksum = checksum .result; scale = scale .result; name = name .result }) (toZ-ofZ (s .fits .number))
+          ∙ ap (λ (called : Name). record { number = natAbs (s .args .number); checksum = checksum .result; scale = scale .result; name = called }) (name .ensures .0)
+          ∙ ap₂ (λ (sum size : ℕ). record { number = natAbs (s .args .number); checksum = sum; scale = size; name = soughtName (fontName said) }) (checksum .ensures .0) (scale .ensures .0)
           ∙ font-is told (s .args .number) legal l (part .result) (part .ensures),
-      record { checksum-small = checksum .ensures .1; scale-small = subst (λ (n : ℕ). n ≤ 134217727) (sym (scale .ensures .0)) (scale-in told (s .args .number) legal l (part .result) (part .ensures)) },
+      record { checksum-small = checksum .ensures .1; scale-small = subst (λ (n : ℕ). n ≤ 134217727) (sym (scale .ensures .0)) (scale-in told (s .args .number) legal l (part .result) (part .ensures)); name-in = name .ensures .1 },
     )
 
 pub font-of-spec : {M : Type 1} → statement M
@@ -122,4 +131,5 @@ font-of-spec =
     cast-which
     unsigned-in-requires
     unsigned-in-requires-2
+    name-in-requires
     returns-4)

@@ -18,7 +18,7 @@ use Rattle.list.specs.Past.{num, den, mag}
 use Rattle.volume.specs.History.{history}
 use Rattle.state.specs.Registers.{freshState}
 use Rattle.page.specs.PageList.{pageOf}
-use Rattle.page.specs.Placing.{Contents, placing}
+use Rattle.page.specs.Placing.{lookIn, Contents, placing}
 use Rattle.page.specs.Answers.{withRoom, placedAccepted, placedCounts, areaAfter}
 use Rattle.page.proofs.PlaceLaws.{refused-to, unit-refused, table-refused, page-zero, page-beyond, page-there, held-units, held-unit, held-start, held-short, held-ready}
 use Rattle.page.proofs.placing.place_accepted.Statement.{statement}
@@ -138,7 +138,7 @@ returns-5 c =
     let s = start t .args in
     let rows = c .before .before .before .before .before .before .before .before .before .before .rows .given .0 .0 in
     let by-drift : ℕ → Answer Contents =
-    λ d. andThen (placing (record { ruler = record { k = k t; drift = d }; table = now (s .widths); rows = rows; volume = history (now (s .file)); page = s .page }) freshState (pageOf (s .page) (history (now (s .file))))) (withRoom (length (now (s .out)))) in
+    λ d. andThen (placing (record { ruler = record { k = k t; drift = d }; look = lookIn (now (s .widths)) rows; volume = history (now (s .file)); page = s .page }) freshState (pageOf (s .page) (history (now (s .file))))) (withRoom (length (now (s .out)))) in
     let there : meant t ≡ by-drift (drift (s .resolution)) =
     page-there (now (s .file)) (now (s .widths)) (s .resolution) (s .page) (length (now (s .out))) (s .volume .pages) (unit-was t) (table-was t (c .before .before .before .before .before .before .before .before .before .before .rows .given .1)) (c .before .before .before .before .before .before .before .before .if1 .left) (c .before .before .before .before .before .before .if2 .left) in
     let same : by-drift (c .before .before .before .before .before .drift-of .result) ≡ meant t = ap by-drift (c .before .before .before .before .before .drift-of .ensures) ∙ sym there in

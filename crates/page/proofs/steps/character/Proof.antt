@@ -14,15 +14,17 @@ use mir.Facts.{toZ-ofZ}
 use Rattle.numbers.specs.Signs.{toTwos}
 use Rattle.numbers.proofs.Signed.{to-below}
 use Rattle.widths.specs.Scaling.{scaledBy}
-use Rattle.widths.specs.LookUp.{found, codeByte, walk}
+use Rattle.names.specs.Names.{nameSize, nameNumber}
+use Rattle.widths.specs.LookUp.{found, codeByte, lookedFor}
 use Rattle.widths.specs.Steps.{widthFrom, foundAt, Among}
 use Rattle.widths.proofs.OneDivision.{one-division, sixteenfold-small}
 use Rattle.widths.proofs.TableLaws.{record-inside}
 use Rattle.state.specs.declared.moving.Direction.the-variants as Direction
 use Rattle.page.specs.declared.Turn.{Turn}
 use Rattle.page.specs.declared.Turn.the-variants as Turn
+use Rattle.page.specs.Placing.{lookIn}
 use Rattle.page.specs.Steps.{unlessLeft}
-use Rattle.page.proofs.Found.{Hit, walk-found, found-width, found-escapement}
+use Rattle.page.proofs.Found.{Hit, looked-found, found-width, found-escapement}
 use Rattle.page.proofs.CharacterLaws.{absent-asks, Present, put-asks, set-asks}
 use Rattle.page.proofs.Words.{word}
 use Rattle.page.proofs.steps.character.Statement.{statement}
@@ -41,11 +43,11 @@ byte-below c = omega (arith, byte-is c, to-below 256 (c .before .before .args .c
 guess-requires : tie.Need-guess-requires
 guess-requires c κs = byte-below c
 
-find-near-requires : tie.Need-find-near-requires
-find-near-requires c κs =
-    let s = c .before .before .before in
+find-requires : tie.Need-find-requires
+find-requires c κs =
+    let s = c .before .before .before .before in
     let known = s .pre .0 .1 in
-    (s .pre .0 .0, (known .checksum-small, omega (arith, known .scale-small), byte-below (c .before)))
+    (s .pre .0 .0, (known .checksum-small, omega (arith, known .scale-small), s .pre .1 .2 .kept-in, byte-below (c .before .before)))
 
 enum-told : tie.Need-enum-told
 enum-told c = search needs
@@ -53,37 +55,37 @@ enum-told c = search needs
 enum-known-index : tie.Need-enum-known-index
 enum-known-index c = search needs
 
--- the search found what the walk finds for the code's byte
-looked-is : (c : tie.After-find-near) → let a = c .before .before .before .before .args in
-    foundAt (now (a .widths)) (c .find-near .result) ≡ walk (a .terms .rows) (now (a .widths)) (a .font .checksum) (a .font .scale) (codeByte (a .code))
+-- the search found what is found for the code's byte by the name that the font seeks
+looked-is : (c : tie.After-find) → let a = c .before .before .before .before .before .args in
+    foundAt (now (a .widths)) (c .find .result) ≡ lookIn (now (a .widths)) (a .terms .rows) (a .font) (a .code)
 looked-is c =
-    let a = c .before .before .before .before .args in
-    subst (λ (byte : ℕ). foundAt (now (a .widths)) (c .find-near .result) ≡ walk (a .terms .rows) (now (a .widths)) (a .font .checksum) (a .font .scale) byte)
-    (byte-is (c .before .before))
-    (c .find-near .ensures .0)
+    let s = c .before .before .before .before .before in
+    let a = s .args in
+    c .find .ensures .0 ∙ s .pre .1 .2 .seeks _ (byte-below (c .before .before .before))
+    ∙ ap (λ (byte : ℕ). lookedFor (a .terms .rows) (now (a .widths)) (a .font .checksum) (a .font .scale) (nameNumber (a .font .name)) byte) (byte-is (c .before .before .before))
 
-index-below : (c : tie.After-index) → c .index .given .0 .0 < c .before .before .before .before .before .before .args .terms .rows
-index-below c = subst (Among (c .before .before .before .before .before .before .args .terms .rows)) (c .index .given .1) (c .before .before .find-near .ensures .1)
+index-below : (c : tie.After-index) → c .index .given .0 .0 < c .before .before .before .before .before .before .before .args .terms .rows
+index-below c = subst (Among (c .before .before .before .before .before .before .before .args .terms .rows)) (c .index .given .1) (c .before .before .find .ensures .1)
 
 metric-of-requires : tie.Need-metric-of-requires
-metric-of-requires c κs = (c .before .before .before .before .before .before .before .pre .0 .0, index-below (c .before))
+metric-of-requires c κs = (c .before .before .before .before .before .before .before .before .pre .0 .0, index-below (c .before))
 
 -- where a character whose record was found began
 abbrev start : tie.After-metric-of → tie.Start
-start c = c .before .before .before .before .before .before .before .before
+start c = c .before .before .before .before .before .before .before .before .before
 
 add-hint : tie.Need-add-hint
 add-hint c =
     let k = c .before .before .before .before in
     let s = start (c .before .before) in
-    omega (arith, s .good .0, record-inside (now (s .args .widths)) (s .args .terms .rows) (s .pre .0 .0) (k .index .given .0 .0) (index-below k))
+    omega (arith, s .good .0, record-inside nameSize (now (s .args .widths)) (s .args .terms .rows) (s .pre .0 .0) (k .index .given .0 .0) (index-below k))
 
 sub-hint : tie.Need-sub-hint
-sub-hint c = omega (arith, byte-below (c .before .before .before .before .before .before .before .before))
+sub-hint c = omega (arith, byte-below (c .before .before .before .before .before .before .before .before .before))
 
 -- the walk finds the metric that was read
 found-is : (c : tie.After-metric-of) → let a = start c .args in
-    walk (a .terms .rows) (now (a .widths)) (a .font .checksum) (a .font .scale) (codeByte (a .code)) ≡ found (c .metric-of .result)
+    lookIn (now (a .widths)) (a .terms .rows) (a .font) (a .code) ≡ found (c .metric-of .result)
 found-is c =
     let k = c .before .before in
     sym (looked-is (k .before .before)) ∙ ap (foundAt (now (start c .args .widths))) (k .index .given .1) ∙ ap found (sym (c .metric-of .ensures))
@@ -91,10 +93,10 @@ found-is c =
 hit : (c : tie.After-metric-of) → Hit (now (start c .args .widths)) (c .metric-of .result)
 hit c =
     let a = start c .args in
-    walk-found (now (a .widths)) (a .font .checksum) (a .font .scale) (codeByte (a .code)) (c .metric-of .result) (a .terms .rows) (found-is c)
+    looked-found (now (a .widths)) (a .font .checksum) (a .font .scale) (nameNumber (a .font .name)) (codeByte (a .code)) (c .metric-of .result) (a .terms .rows) (found-is c)
 
 bytes : (c : tie.After-metric-of) (i : ℕ) → getD (now (start c .args .widths)) i 0 < 256
-bytes c i = c .before .before .before .before .before .before .before .shared-slice-known .given i .fits
+bytes c i = c .before .before .before .before .before .before .before .before .shared-slice-known .given i .fits
 
 present : (c : tie.After-metric-of) → let a = start c .args in
     Present (a .terms) (now (a .widths)) (a .level) (a .font) (a .code) (c .metric-of .result)
@@ -116,14 +118,14 @@ returns c =
 scaled-requires : tie.Need-scaled-requires
 scaled-requires c κs =
     let s = start (c .before .before .before) in
-    omega (arith, s .pre .1 .2, sixteenfold-small (s .args .font .scale) (s .pre .0 .1 .scale-small))
+    omega (arith, s .pre .1 .2 .sixteenfold-is, sixteenfold-small (s .args .font .scale) (s .pre .0 .1 .scale-small))
 
 width-is : (c : tie.After-scaled) → let m = c .before .before .before .before in
     toZ w64 (ofZ w64 (c .scaled .result)) ≡ scaledBy (start m .args .font .scale) (m .metric-of .result .width)
 width-is c =
     let m = c .before .before .before .before in
     let s = start m in
-    toZ-ofZ (sfits-of (c .scaled .ok)) ∙ c .scaled .ensures ∙ ap (λ (sixteenfold : ℕ). widthFrom sixteenfold (m .metric-of .result .width)) (s .pre .1 .2)
+    toZ-ofZ (sfits-of (c .scaled .ok)) ∙ c .scaled .ensures ∙ ap (λ (sixteenfold : ℕ). widthFrom sixteenfold (m .metric-of .result .width)) (s .pre .1 .2 .sixteenfold-is)
     ∙ one-division (s .args .font .scale) (m .metric-of .result .width)
 
 unless-left-requires : tie.Need-unless-left-requires
@@ -137,7 +139,7 @@ set c = not-false (start (c .before .before .before) .args .sets) (c .if1 .left)
 returns-2 : tie.Need-returns-2
 returns-2 c =
     let f = c .before .before in
-    let s = f .before .before .before .before in
+    let s = f .before .before .before .before .before in
     absent-asks (s .args .terms) (now (s .args .widths)) (s .args .level) (s .args .font) (s .args .sets) (s .args .code)
     (sym (looked-is f) ∙ ap (foundAt (now (s .args .widths))) (c .enum-told .given .1))
 
@@ -154,7 +156,7 @@ character-spec =
     (tie.spec
     to-twos-requires
     guess-requires
-    find-near-requires
+    find-requires
     enum-told
     enum-known-index
     metric-of-requires

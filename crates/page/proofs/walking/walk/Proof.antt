@@ -9,7 +9,7 @@ use lib.IntN.{ℤ}
 use denote.Ref.{now}
 use mir.Syntax.{w64}
 use mir.Val.{toZ, ofZ}
-use Rattle.widths.specs.Steps.{sixteenfoldOf}
+use Rattle.names.specs.Names.{anyName}
 use Rattle.widths.proofs.OneDivision.{sixteenfold-none}
 use Rattle.volume.specs.History.{history}
 use Rattle.state.specs.declared.Level.{Level}
@@ -20,7 +20,7 @@ use Rattle.state.specs.declared.moving.Direction.the-variants as Direction
 use Rattle.state.specs.declared.moving.Stride.{Stride}
 use Rattle.state.specs.declared.moving.Stride.the-variants as Stride
 use Rattle.state.specs.declared.moving.Ruler.{Ruler}
-use Rattle.state.specs.Registers.{State, zeroLevel, pushed, popped, movedBy, characterMoved, directionOf, movedByRegister}
+use Rattle.state.specs.Registers.{State, unselected, zeroLevel, pushed, popped, movedBy, characterMoved, directionOf, movedByRegister}
 use Rattle.state.specs.Steps.{pageState, savedOf, withLevel, Ruled, Bounded}
 use Rattle.state.proofs.Levels.{bounded-moved, bounded-by-register, bounded-character, stored}
 use Rattle.page.specs.declared.Turn.{Turn}
@@ -28,6 +28,7 @@ use Rattle.page.specs.declared.Turn.the-variants as Turn
 use Rattle.page.specs.declared.Step.{Step}
 use Rattle.page.specs.Placing.{continues, withNumbers}
 use Rattle.page.specs.Blocks.{inside}
+use Rattle.page.specs.declared.Kept.{Kept}
 use Rattle.page.specs.Steps.{addedOf, did, termsSetting, Known, KeptFor, StepAsks, Stays, Safe, turnFrame}
 use Rattle.page.proofs.Frames.{isEnding, depthBy}
 use Rattle.page.proofs.PageRuns.{runs-inside}
@@ -37,10 +38,10 @@ use Rattle.page.proofs.walking.walk.Statement.{statement}
 use Rattle.page.proofs.walking.walk.Tie as tie
 
 abbrev Inv-loop : tie.InvT-loop
-Inv-loop file widths fonts terms start out₀ ruler page₀ counts₀ at₀ hint₀ sixteenfold₀ hints₀ table out page counts at hint sixteenfold hints = Walking file fonts widths terms start out₀ out page counts at × KeptFor (page .font) sixteenfold
+Inv-loop file widths fonts terms start out₀ ruler page₀ counts₀ at₀ hint₀ kept₀ hints₀ starts₀ table out page counts at hint kept hints starts = Walking file fonts widths terms start out₀ out page counts at × KeptFor widths (terms .rows) (page .font) kept
 
 abbrev μ-loop : tie.MeasureT-loop
-μ-loop file widths fonts terms start out₀ ruler page₀ counts₀ at₀ hint₀ sixteenfold₀ hints₀ table out page counts at hint sixteenfold hints = length file - at
+μ-loop file widths fonts terms start out₀ ruler page₀ counts₀ at₀ hint₀ kept₀ hints₀ starts₀ table out page counts at hint kept hints starts = length file - at
 
 fresh-requires : tie.Need-fresh-requires Inv-loop μ-loop
 fresh-requires c κs = tt
@@ -52,8 +53,11 @@ loop-holds : tie.Need-loop-holds Inv-loop μ-loop
 loop-holds c =
     let s = c .before .before .before .before .before .before in
     let fresh = c .before .fresh in
-    let unselected = ap (λ (x : State). sixteenfoldOf (x .font .scale)) (fresh .ensures .0) in
-    (starting (s .pre) (now (s .args .out)) (fresh .result) (fresh .ensures .0) (fresh .ensures .1) (fresh .ensures .2), sym (unselected ∙ sixteenfold-none))
+    let nothing : KeptFor (now (s .args .widths)) (s .args .terms .rows) unselected (record { sixteenfold = 0; name = anyName }) =
+    record { sixteenfold-is = sym sixteenfold-none; kept-in = (omega arith, omega arith); seeks = λ byte small. refl } in (
+      starting (s .pre) (now (s .args .out)) (fresh .result) (fresh .ensures .0) (fresh .ensures .1) (fresh .ensures .2),
+      subst (λ (x : State). KeptFor (now (s .args .widths)) (s .args .terms .rows) (x .font) (record { sixteenfold = 0; name = anyName })) (sym (fresh .ensures .0)) nothing,
+    )
 
 step-at-requires : tie.Need-step-at-requires Inv-loop μ-loop
 step-at-requires c κs =
@@ -102,9 +106,13 @@ module _ (n : tie.After-note Inv-loop μ-loop) where
   abbrev read : tie.After-step-at Inv-loop μ-loop
   read = n .before .before .before
 
+  -- what is kept for a font
+  abbrev KeptBy : Font → Kept → Type 0
+  KeptBy font keeps = KeptFor (now (entry read .args .widths)) (entry read .args .terms .rows) font keeps
+
   -- the next turn starts from this page, and with what is kept for its font
-  abbrev Next : Page → ℕ → Type 0
-  Next page sixteenfold = Walking (now (entry read .args .file)) (now (entry read .args .fonts)) (now (entry read .args .widths)) (entry read .args .terms) (entry read .args .start) (now (entry read .args .out)) (n .note .last .0) page (n .note .result) (step read .next) × KeptFor (page .font) sixteenfold
+  abbrev Next : Page → Kept → Type 0
+  Next page keeps = Walking (now (entry read .args .file)) (now (entry read .args .fonts)) (now (entry read .args .widths)) (entry read .args .terms) (entry read .args .start) (now (entry read .args .out)) (n .note .last .0) page (n .note .result) (step read .next) × KeptBy (page .font) keeps
 
   abbrev before : Page
   before = head read .loop .page
@@ -115,10 +123,10 @@ module _ (n : tie.After-note Inv-loop μ-loop) where
   abbrev scale : ℕ
   scale = before .font .scale
 
-  abbrev sixteenfold : ℕ
-  sixteenfold = head read .loop .sixteenfold
+  abbrev keeps : Kept
+  keeps = head read .loop .kept
 
-  kept-for : KeptFor (before .font) sixteenfold
+  kept-for : KeptBy (before .font) keeps
   kept-for = head read .loop .inv .1
 
   bounded : Bounded (before .now)
@@ -127,20 +135,20 @@ module _ (n : tie.After-note Inv-loop μ-loop) where
   -- to another level only
   to-level : (turn : Turn) → step read .asked .turn ≡ turn → turnFrame turn ≡ inside → (l : Level)
       → did ruler (pageState before) turn (step read .asked .adds) ≡ continues (withNumbers (pageState before) l) (addedOf (step read .asked .adds))
-      → (page : Page) → page ≡ withLevel before l → Bounded l → Next page sixteenfold
+      → (page : Page) → page ≡ withLevel before l → Bounded l → Next page keeps
   to-level turn turn-is is-inside l led page page-is bounded = (
     leveled (here read) (step read) (asks read) turn turn-is is-inside l led page page-is bounded (n .note .last .0) (n .note .ensures .1) (n .note .result) (n .note .ensures .0),
-    kept-for ∙ ap (λ (p : Page). sixteenfoldOf (p .font .scale)) (sym page-is),
+    subst (λ (p : Page). KeptBy (p .font) keeps) (sym page-is) kept-for,
   )
 
   -- to another state
   to-state : (turn : Turn) → step read .asked .turn ≡ turn → isEnding (turnFrame turn) ≡ false → (s : State)
       → did ruler (pageState before) turn (step read .asked .adds) ≡ continues s (addedOf (step read .asked .adds))
       → (page : Page) → pageState page ≡ s → page .depth ≡ depthBy (turnFrame turn) (before .depth) → Sound page
-      → (next : ℕ) → KeptFor (s .font) next → Next page next
+      → (next : Kept) → KeptBy (s .font) next → Next page next
   to-state turn turn-is on s led page state-is depth-is sound next next-is = (
     onwards (here read) (step read) (asks read) turn turn-is on s led page state-is depth-is sound (n .note .last .0) (n .note .ensures .1) (n .note .result) (n .note .ensures .0),
-    next-is ∙ ap (λ (x : State). sixteenfoldOf (x .font .scale)) (sym state-is),
+    subst (λ (x : State). KeptBy (x .font) next) (sym state-is) next-is,
   )
 
   -- a distance that is handed on
@@ -150,7 +158,7 @@ module _ (n : tie.After-note Inv-loop μ-loop) where
   -- by a distance, in either direction and stride
   module _ (direction : Direction) (stride : Stride) (z : ℤ) (turn : Turn) (turn-is : step read .asked .turn ≡ turn) (is-inside : turnFrame turn ≡ inside) (ok : Stays direction (before .now) z)
       (led : did ruler (pageState before) turn (step read .asked .adds) ≡ continues (withNumbers (pageState before) (movedBy direction stride ruler scale z (before .now))) (addedOf (step read .asked .adds))) where
-    to-moved : (page : Page) → page ≡ withLevel before (movedBy direction stride ruler scale (toZ w64 (ofZ w64 z)) (before .now)) → Next page sixteenfold
+    to-moved : (page : Page) → page ≡ withLevel before (movedBy direction stride ruler scale (toZ w64 (ofZ w64 z)) (before .now)) → Next page keeps
     to-moved page page-is =
         to-level turn turn-is is-inside (movedBy direction stride ruler scale z (before .now)) led page
         (page-is ∙ ap (λ (y : ℤ). withLevel before (movedBy direction stride ruler scale y (before .now))) (word z (ok .0)))
@@ -165,7 +173,7 @@ loop-less c = less (read (c .before .before .before .before))
 loop-again : tie.Need-loop-again Inv-loop μ-loop
 loop-again c =
     let n = c .before .before .before .before in
-    to-state n Turn.Stay (c .enum-told .given .1) refl (pageState (before n)) refl (before n) refl refl (here (read n) .sound) (sixteenfold n) (kept-for n)
+    to-state n Turn.Stay (c .enum-told .given .1) refl (pageState (before n)) refl (before n) refl refl (here (read n) .sound) (keeps n) (kept-for n)
 
 enum-known-turn : tie.Need-enum-known-turn Inv-loop μ-loop
 enum-known-turn c = search needs
@@ -319,7 +327,7 @@ loop-again-7 c =
     (state-sound (c .push .result) (pushed (pageState (before n))) state-is (sound .bounded) (sound .bounded, sound .kept) (sound .known)
     (omega (arith, c .push .ensures .1, room n turn-is))
     (ap length (c .push .ensures .2) ∙ length-set (before n .stack) (before n .depth) (before n .now) ∙ sound .full))
-    (sixteenfold n) (kept-for n)
+    (keeps n) (kept-for n)
 
 enum-told-5 : tie.Need-enum-told-5 Inv-loop μ-loop
 enum-told-5 c = search needs
@@ -354,7 +362,7 @@ loop-again-8 c =
     to-state n Turn.Pop turn-is refl (popped s) refl (c .pop .result) (c .pop .ensures .0) (c .pop .ensures .1)
     (state-sound (c .pop .result) (popped s) (c .pop .ensures .0) (back .0) (back .1) (subst Known same-font (sound .known))
     (omega (arith, c .pop .ensures .1, sound .shallow)) (ap length (c .pop .ensures .2) ∙ sound .full))
-    (sixteenfold n) (kept-for n ∙ ap (λ (font : Font). sixteenfoldOf (font .scale)) same-font)
+    (keeps n) (subst (λ (font : Font). KeptBy n font (keeps n)) same-font (kept-for n))
 
 enum-known-turn-5 : tie.Need-enum-known-turn-5 Inv-loop μ-loop
 enum-known-turn-5 c = search needs
@@ -362,28 +370,28 @@ enum-known-turn-5 c = search needs
 exchanged-requires : tie.Need-exchanged-requires Inv-loop μ-loop
 exchanged-requires c κs = tt
 
-sixteenfold-of-requires : tie.Need-sixteenfold-of-requires Inv-loop μ-loop
-sixteenfold-of-requires c κs =
-    let n = c .before .before .before .before .before .before .before in
-    let v = c .before .before .before .turn5 .given in
-    safe (read n) (Turn.Select (v .0 .0)) (v .1) .scale-small
+kept-for-requires : tie.Need-kept-for-requires Inv-loop μ-loop
+kept-for-requires c κs =
+    let n = c .before .before .before .before .before .before .before .before in
+    let v = c .before .before .before .before .turn5 .given in
+    (here (read n) .ready .right, safe (read n) (Turn.Select (v .0 .0)) (v .1))
 
 select-requires : tie.Need-select-requires Inv-loop μ-loop
 select-requires c κs = tt
 
 loop-less-9 : tie.Need-loop-less-9 Inv-loop μ-loop
-loop-less-9 c = less (read (c .before .before .before .before .before .before .before .before .before))
+loop-less-9 c = less (read (c .before .before .before .before .before .before .before .before .before .before))
 
 loop-again-9 : tie.Need-loop-again-9 Inv-loop μ-loop
 loop-again-9 c =
-    let n = c .before .before .before .before .before .before .before .before .before in
-    let v = c .before .before .before .before .before .turn5 .given in
+    let n = c .before .before .before .before .before .before .before .before .before .before in
+    let v = c .before .before .before .before .before .before .turn5 .given in
     let sound = here (read n) .sound in
     let is = c .select .ensures in
     to-state n (Turn.Select (v .0 .0)) (v .1) refl (record { level = before n .now; saved = savedOf (before n .depth) (before n .stack); font = v .0 .0 }) refl
     (c .select .result) (ap pageState is) (ap (λ (page : Page). page .depth) is)
     (subst Sound (sym is) (record { bounded = sound .bounded; kept = sound .kept; known = safe (read n) (Turn.Select (v .0 .0)) (v .1); shallow = sound .shallow; full = sound .full }))
-    (c .before .sixteenfold-of .result) (c .before .sixteenfold-of .ensures)
+    (c .before .kept-for .result) (c .before .kept-for .ensures)
 
 enum-told-6 : tie.Need-enum-told-6 Inv-loop μ-loop
 enum-told-6 c = search needs
@@ -456,7 +464,7 @@ walk-spec =
     loop-again-8
     enum-known-turn-5
     exchanged-requires
-    sixteenfold-of-requires
+    kept-for-requires
     select-requires
     loop-less-9
     loop-again-9
