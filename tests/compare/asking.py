@@ -11,6 +11,8 @@ import signal
 import subprocess
 import time
 
+from tables import NEW, OLD
+
 ANSWERS = {
     b"read": rb"command \d+ \d+ \d+",
     b"check": rb"accepted \d+ \d+ \d+ \d+",
@@ -22,16 +24,19 @@ ANSWERS = {
     b"look": rb"(?:found -?\d+ \d+ \d+ \d+ \d+|absent)",
     b"place": rb"end \d+ \d+ \d+",
     b"widths": rb"end \d+",
+    b"widen": rb"end \d+",
+    b"narrow": rb"end \d+",
     b"cut": rb"end \d+",
 }
 FORMS = {word: re.compile(rb"(?:refused \d+ at \d+|no input|" + form + rb")\Z") for word, form in ANSWERS.items()}
 NO_INPUT = re.compile(rb"no input\Z")
 # The questions whose answers have records, a row each before the last: how such a row looks, and what is enough to know it.
+NEW_RECORD, OLD_RECORD = (re.compile(rb"[0-9a-f]{%d}\Z" % (2 * form.size)) for form in (NEW, OLD))
 RECORDS = {
-    b"place": re.compile(rb"[cr] \d+ \d+ -?\d+ -?\d+ -?\d+ -?\d+\Z"), b"widths": re.compile(rb"[0-9a-f]{32}\Z"),
+    b"place": re.compile(rb"[cr] \d+ \d+ -?\d+ -?\d+ -?\d+ -?\d+\Z"), b"widths": NEW_RECORD, b"widen": NEW_RECORD, b"narrow": OLD_RECORD,
     b"cut": re.compile(rb"(?:[0-9a-f]{2}){1,32}\Z"),
 }
-STARTS = {b"place": re.compile(rb"[cr] "), b"widths": RECORDS[b"widths"], b"cut": RECORDS[b"cut"]}
+STARTS = {**RECORDS, b"place": re.compile(rb"[cr] ")}
 MOST_RESTARTS = 12
 MOST_BYTES = 1_000_000_000  # of one run's answers; a side that writes more has gone wrong
 

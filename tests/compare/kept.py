@@ -15,7 +15,7 @@ with ? for an hh or vv that DVItype may give otherwise than our rules (`dvitype.
 import pathlib
 
 from dvitype import Mark, Page, Testimony, table_of
-from tables import RECORD
+from looking import widths_of
 
 FOLDER = pathlib.Path(__file__).resolve().parent.parent / "tex"
 FEWEST = 8  # files, or some were lost
@@ -49,8 +49,7 @@ def numbers(words):
 
 def read(data, table, text):
     """The testimony that `written` wrote."""
-    records = [table[at : at + RECORD] for at in range(0, len(table), RECORD)]
-    rows = {(int.from_bytes(r[:4], "big"), int.from_bytes(r[4:8], "big"), r[8]): r[12:16] for r in records}
+    rows = {(check_sum, scale, code): word for (check_sum, scale, _, code), (_, word) in widths_of(table).items()}
     volume, widths, pages, placed, resolutions = None, {}, [], {}, []
     for line in text.split("\n")[1:]:
         word, *rest = line.split(" ")

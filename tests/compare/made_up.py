@@ -7,8 +7,9 @@ from dvi import (
     DOWN1, FNT1, FURTHEST, GREATEST_SCALE, MARK, NOTHING, PLAIN_UNITS, POPPED, PUSHED, PUT1, PUT_RULE, RIGHT1, SET1,
     TEX_UNITS, W0, X0, XXX1, Y0, Z0, Font, big, character, down, page, right, rule, select, sized, special, volume,
 )
+from looking import spelled
 from placing import placed, scaled
-from tables import MOST_RECORDS, made_up_escapement, record, table_for, wrong_tables
+from tables import LONGEST_TABLE, MOST_RECORDS, NEW, RECORD, made_up_escapement, record, records_of, table_for, wrong_tables
 
 RESOLUTIONS = (72, 100, 300, 600)
 WHOLE_AREA = 60_000
@@ -34,6 +35,10 @@ def naming(file, font):
 
 def place(file, table, resolution, number=1, area=WHOLE_AREA):
     return b"place %s %s %d %d %d" % (file, table, resolution, number, area)
+
+
+def look(table, check_sum, scale, name, code):
+    return b"look %s %d %d %s %d" % (table, check_sum, scale, spelled(name), code)
 
 
 def every_opcode(group, rng):
@@ -245,7 +250,7 @@ def codes(group, rng):
         group.lines += [place(file, table, r) for r in RESOLUTIONS]
         for code in wanted:
             for check_sum, scale in ((0xCAFEBABE, 655_360), (0xCAFEBABE, 655_361), (0xCAFEBABD, 655_360), (0, 1)):
-                group.ask(b"look %s %d %d %d" % (table, check_sum, scale, code))
+                group.ask(look(table, check_sum, scale, rng.choice([font.name, font.name, b"", b"cmr1"]), code))
 
 
 def edge_units(rng, count):
@@ -300,7 +305,7 @@ def order_of_refusals(group, rng):
     leaves = page([MARK, right(FURTHEST), right(1)])
     whole = volume(PLAIN_UNITS, [font.definition(), *marks, *leaves, *page([])], [font])
     good = table_for(rng, [font], Fraction(3, 10))
-    tables = [group.keep(t) for t in (b"", good, good[:16] + good[:16], good + b"\0", good[:9] + b"\1" + good[10:])]
+    tables = [group.keep(t) for t in (b"", good, good[:RECORD] * 2, good + b"\0", good[: NEW.key] + b"\1" + good[NEW.key + 1 :])]
     files = [group.keep(f) for f in (whole, whole[:-1], whole[:40], b"", volume((FURTHEST, 1, 1000), [font.definition(), *marks], [font]))]
     for file in files:
         for table in tables:
@@ -315,20 +320,20 @@ def tables_right_and_wrong(group, rng):
     fonts = [Font(0, 0, 1), Font(1, 0x01000000, 655_360), Font(2, 0xFFFFFFFF, GREATEST_SCALE)]
     file = group.keep(volume(PLAIN_UNITS, [f.definition() for f in fonts] + page([select(1), b"ABC", select(2), b"DE"]), fonts))
     for size in (1, 3, 20):
-        whole = table_for(rng, fonts, Fraction(3, 10))
-        keep = sorted(rng.sample(range(len(whole) // 16), size))
-        for table in wrong_tables(rng, b"".join(whole[16 * i : 16 * i + 16] for i in keep)):
+        whole = records_of(table_for(rng, fonts, Fraction(3, 10)))
+        keep = sorted(rng.sample(range(len(whole)), size))
+        for table in wrong_tables(rng, b"".join(whole[i] for i in keep)):
             name = group.keep(table)
-            group.ask(b"table %s" % name, place(file, name, 300), b"look %s %d 655360 %d" % (name, 0x01000000, rng.randrange(256)))
+            group.ask(b"table %s" % name, place(file, name, 300), look(name, 0x01000000, 655_360, fonts[1].name, rng.randrange(256)))
     longest = b"".join(record(7, 100 + i // 256, i % 256, i % 300, bytes(4)) for i in range(MOST_RECORDS + 1))
-    for length in (0, 16, 15, 1, 65_536 - 16, 65_535, 65_536, 65_537, 65_552):
+    for length in (0, RECORD, RECORD - 1, 1, LONGEST_TABLE - RECORD, LONGEST_TABLE - 1, LONGEST_TABLE, LONGEST_TABLE + 1, LONGEST_TABLE + RECORD):
         name = group.keep(longest[:length])
         group.ask(b"table %s" % name, place(file, name, 300))
         for _ in range(12):
-            group.ask(b"look %s 7 %d %d" % (name, rng.randrange(98, 118), rng.randrange(-300, 300)))
-    middle = group.keep(longest[: 16 * 1000])
+            group.ask(look(name, 7, rng.randrange(98, 110), rng.choice([b"", b"cmr10"]), rng.randrange(-300, 300)))
+    middle = group.keep(longest[: 1000 * RECORD])
     for i in range(-2, 1003, 13):  # every depth of a search by halves
-        group.ask(b"look %s 7 %d %d" % (middle, 100 + i // 256, i % 256))
+        group.ask(look(middle, 7, 100 + i // 256, b"", i % 256))
 
 
 def greatest_sizes(group, rng):

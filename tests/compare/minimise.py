@@ -3,10 +3,14 @@
 import dvi
 import pk
 from asking import ask_both, differs
+from tables import NEW, OLD, records_of
 
 MOST_ROUNDS = 80
 MOST_TRIES = 400  # candidates that one run of the two programs is asked about
-FILE_WORDS = {b"read": (1,), b"check": (1,), b"name": (1,), b"table": (1,), b"look": (1,), b"place": (1, 2), b"widths": (1,), b"cut": (1,)}
+FILE_WORDS = {
+    b"read": (1,), b"check": (1,), b"name": (1,), b"table": (1,), b"look": (1,), b"place": (1, 2), b"widths": (1,), b"widen": (1,), b"narrow": (1,), b"cut": (1,),
+}
+TABLES_FIRST = (b"table", b"look", b"widen", b"narrow")  # the questions whose first word is a table
 
 
 def without(runs, left_out):
@@ -99,7 +103,7 @@ class Minimiser:
                 data = case.files[at]
                 if len(data) < 4000:
                     self.shorten(case, at, [data[i : i + 1] for i in range(len(data))], b"".join)
-            elif at == 1 and case.words[0] not in (b"table", b"look"):
+            elif at == 1 and case.words[0] not in TABLES_FIRST:
                 commands, tail = dvi.commands_of(case.files[at])
 
                 def mended_file(bound):
@@ -111,8 +115,7 @@ class Minimiser:
                 if len(data) < 4000:
                     self.shorten(case, at, [data[i : i + 1] for i in range(len(data))], b"".join)
             else:
-                data = case.files[at]
-                self.shorten(case, at, [data[i : i + 16] for i in range(0, len(data), 16)], b"".join)
+                self.shorten(case, at, records_of(case.files[at], OLD if case.words[0] == b"widen" else NEW), b"".join)
         return case
 
 
@@ -121,7 +124,7 @@ def keep_case(sides, case, folder, scratch, note):
     folder.mkdir(parents=True, exist_ok=True)
     names = {}
     for at, data in case.files.items():
-        path = folder / ("file.pk" if case.words[0] == b"widths" else "file.dvi" if at == 1 and case.words[0] not in (b"table", b"look") else "table")
+        path = folder / ("file.pk" if case.words[0] == b"widths" else "file.dvi" if at == 1 and case.words[0] not in TABLES_FIRST else "table")
         path.write_bytes(data)
         names[at] = str(path).encode()
     line = case.line(names)

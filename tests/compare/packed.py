@@ -214,7 +214,7 @@ def scales_and_areas(group, rng):
     for data in files:
         count = max(0, len(answered(data, 1)) - 1)
         for scale in (0, 1, 2, 255, 256, SCALE, GREATEST_SCALE - 1, GREATEST_SCALE, GREATEST_SCALE + 1, 1 << 28, FURTHEST, FURTHEST + 1, WIDE - 1):
-            for area in sorted({0, 1, 15, 16, 17, RECORD * count - 1, RECORD * count, RECORD * count + 1, 4095, 4096, LONGEST_AREA - 1, LONGEST_AREA} - {-1}):
+            for area in sorted({0, 1, 16, RECORD - 1, RECORD, RECORD + 1, 16 * count, RECORD * count - 1, RECORD * count, RECORD * count + 1, 4095, 4096, LONGEST_AREA - 1, LONGEST_AREA} - {-1}):
                 ask(group, data, scale, area)
 
 
@@ -299,7 +299,7 @@ def lines(group, rng):
     file = group.keep(font(packet(SHORT, 65, 700_000, 30)))
     right_line = widths(file)
     misspelt(group, right_line, file)
-    for more in (b"0", b"00655360", b"4294967295", b"4294967296", b"60001", b"16", b"15", b"99999999999999999999"):
+    for more in (b"0", b"00655360", b"4294967295", b"4294967296", b"60001", b"32", b"31", b"16", b"99999999999999999999"):
         words = right_line.split(b" ")
         group.ask(b" ".join([*words[:2], more, words[3]]), b" ".join([*words[:3], more]))
     group.ask(widths(group.keep(bytes(LONGEST_FILE + 1))), widths(group.keep(bytes(LONGEST_FILE + 1)), 0, 0))
@@ -387,7 +387,7 @@ def damaged_groups(gather, rng, real, count, long):
             turn, asked = turn + 1, asked + len(batch)
             with gather(f"packed: {title} {turn}") as group:
                 for data in batch:
-                    ask(group, data, area=rng.choice([LONGEST_AREA] * 7 + [16]))
+                    ask(group, data, area=rng.choice([LONGEST_AREA] * 7 + [RECORD]))
 
     for at, file in enumerate(small):
         ask_all(f"single steps {at + 1}:", dict.fromkeys(single_steps(file, range(256) if long or at in (0, 2) else None)))

@@ -16,6 +16,7 @@ import subprocess
 
 import packed
 from dvi import big
+from looking import spelled
 from tables import RECORD, record
 from tabling import LONGEST_FILE
 
@@ -126,7 +127,8 @@ def ask_about(group, data, testimony, refusable=False):
 
 
 def ask_table(group, testimony):
-    """The table itself: it is right, and has each character of the font and no other."""
+    """The table itself: it is right, and has each character of the font and no other, whatever the font is called."""
+    names = (b"", b"cmr10", b"sixteen-letters.", b"seventeen-letters", b"a\0", bytes(16))
     rows = testimony.rows(SCALES[1])[:-1]
     table = group.keep(bytes.fromhex("".join(row for row, in rows)))
     line = b"table %s" % table
@@ -134,7 +136,7 @@ def ask_table(group, testimony):
     group.expect(line, [["right", len(rows)]])
     found = {code: (pixels(dx), *big(width, 4)) for code, width, dx in testimony.packets}
     for code in range(256):
-        line = b"look %s %d %d %d" % (table, testimony.check_sum, SCALES[1], code)
+        line = b"look %s %d %d %s %d" % (table, testimony.check_sum, SCALES[1], spelled(names[code % len(names)]), code)
         group.ask(line)
         group.expect(line, [["found", *found[code]] if code in found else ["absent"]])
 

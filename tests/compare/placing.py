@@ -1,4 +1,5 @@
-"""Placing as the rules have it, in exact numbers: what a page of an accepted file must give with a right width table.
+"""Placing as the rules have it, in exact numbers: what a page of an accepted file must give with a right width table. `looking.py` has the rules
+for the table.
 
 Written for the tests alone, from documents 01 and 02; neither program under test is used here. `tests/wrong_sides` puts one wrong rule
 each in the place of these.
@@ -8,8 +9,10 @@ import functools
 from fractions import Fraction
 
 import dvi
-from tables import RECORD
+from looking import Looking, widths_of
+from tabling import Refused
 
+PLACED = 20  # bytes of a record
 BOTH_RULES = (dvi.SET_RULE, dvi.PUT_RULE)
 # The first opcode of each move, the way that it goes, and the register that keeps its distance.
 MOVES = ((dvi.Z0, "v", "z"), (dvi.Y0, "v", "y"), (dvi.DOWN1, "v", None), (dvi.X0, "h", "x"), (dvi.W0, "h", "w"), (dvi.RIGHT1, "h", None))
@@ -97,17 +100,11 @@ def pages_of(file):
     return [dvi.signed(file[at : at + 4]) for at in (2, 6, 10)], {font.number: font for font in dvi.fonts_of(commands)}, pages
 
 
-@functools.lru_cache(8)
-def widths_of(table):
-    """Escapement and fix word by check sum, scale and code."""
-    rows = [table[at : at + RECORD] for at in range(0, len(table), RECORD)]
-    return {(dvi.unsigned(row[:4]), dvi.unsigned(row[4:8]), row[8]): (dvi.signed(row[10:12]), row[12:]) for row in rows}
-
-
-def placed(file, table, resolution, number, rules=Placing):
+def placed(file, table, resolution, number, rules=Placing, looking=Looking):
     """The rows that placing this page must answer, where the area is long enough."""
     units, fonts, pages = pages_of(file)
     widths, state, font, rows, missing, specials = widths_of(table), rules(units, resolution), None, [], 0, 0
+    look_up = looking(file)
     for command, place in pages[number - 1]:
         opcode = command[0]
         at = state.at
@@ -122,7 +119,7 @@ def placed(file, table, resolution, number, rules=Placing):
                     state.bar(width)
             elif opcode < dvi.PUT_RULE:
                 code = opcode if opcode < dvi.SET1 else dvi.signed(command[1:]) if len(command) == 5 else dvi.unsigned(command[1:])
-                found = widths.get((font.check_sum, font.scale, code % 256))
+                found = look_up.found(widths, font.check_sum, font.scale, look_up.name_of(font), code)
                 if found is None:
                     missing += 1
                 else:
@@ -147,3 +144,15 @@ def placed(file, table, resolution, number, rules=Placing):
         except OutOfRange:
             return [["refused", 16, "at", place]]
     return [*rows, ["end", len(rows), missing, specials]]
+
+
+def place_answer(file, table, resolution, number, area, rules=Placing, looking=Looking):
+    """The rows that placing must answer, of an accepted file and a resolution at which its units are in range."""
+    try:
+        looking(file).judge(table)
+    except Refused as refused:
+        return [["refused", refused.args[0], "at", refused.args[1]]]
+    if not 1 <= number <= len(pages_of(file)[2]):
+        return [["refused", 15, "at", 0]]
+    rows = placed(file, table, resolution, number, rules, looking)
+    return [["refused", 17, "at", 0]] if PLACED * (len(rows) - 1) > area else rows

@@ -1,7 +1,7 @@
 """Questions about whole DVI files that others made: published ones and those that TeX writes here."""
 
 import dvi
-from made_up import LONGEST_FILE, RESOLUTIONS, WHOLE_AREA, naming, place, unit_of
+from made_up import LONGEST_FILE, RESOLUTIONS, WHOLE_AREA, look, naming, place, unit_of
 from tables import table_for
 
 
@@ -37,7 +37,7 @@ def ask_about(group, rng, data):
         group.ask(place(file, table, 300, number, rng.choice([0, 20, 200, WHOLE_AREA - 20])))
     group.ask(place(file, table, 300, 0), place(file, table, 300, pages + 1), place(file, table, 0), place(file, table, 10_000))
     for font in rng.sample(fonts, min(2, len(fonts))):
-        group.ask(b"look %s %d %d %d" % (table, font.check_sum, font.scale, rng.randrange(-300, 300)))
+        group.ask(look(table, font.check_sum, font.scale, font.name, rng.randrange(-300, 300)))
 
 
 def groups(gather, rng, paths, lawful=False):

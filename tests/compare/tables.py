@@ -1,13 +1,35 @@
 """Width tables: right ones made up for given fonts, and every way to be wrong."""
 
+import collections
+
 from dvi import GREATEST_SCALE, big
 
-RECORD = 16
-MOST_RECORDS = 4096  # 65,536 bytes, the longest table that the desk holds
+# A form of records: how many bytes one has, its name, and the key that rises from one to the next.
+Form = collections.namedtuple("Form", "size name key")
+NEW, OLD = Form(32, 16, 25), Form(16, 0, 9)
+RECORD, NAME = NEW.size, NEW.name
+ANY = bytes(NAME)  # in the place of a name, for fonts of any
+LONGEST_TABLE = 65_536  # that the desk holds
+MOST_RECORDS = LONGEST_TABLE // RECORD
 
 
-def record(check_sum, scale, code, escapement, width, zero=0):
+def record(check_sum, scale, code, escapement, width, zero=0, name=b""):
+    """One of the new form; a name that is shorter than it may be has zeros behind it."""
+    return big(check_sum, 4) + big(scale, 4) + name.ljust(NAME, b"\0") + bytes([code, zero]) + big(escapement, 2) + width
+
+
+def old_record(check_sum, scale, code, escapement, width, zero=0):
+    """One of the form that had no names."""
     return big(check_sum, 4) + big(scale, 4) + bytes([code, zero]) + big(escapement, 2) + width
+
+
+def sayable(name):
+    """Whether a record can have this name."""
+    return len(name) <= NAME and 0 not in name
+
+
+def records_of(table, form=NEW):
+    return [table[at : at + form.size] for at in range(0, len(table), form.size)]
 
 
 def made_up_width(rng):
@@ -29,44 +51,57 @@ def made_up_escapement(rng, width, scale, unit):
     return max(-32768, min(32767, pixels))
 
 
+def keys_of(rng, fonts):
+    """Check sum, scale and name of the records that these fonts can find: of each font those for any name, those of its own, or both."""
+    keys = set()
+    for font in fonts:
+        if 1 <= font.scale <= GREATEST_SCALE:
+            names = [b"", font.name] if sayable(font.name) else [b""]
+            keys |= {(font.check_sum, font.scale, name) for name in rng.choice([names[:1], names[-1:], names])}
+    return sorted(keys)
+
+
 def table_for(rng, fonts, unit, share=1.0):
     """Records for all these fonts, codes 0 to 255, as many as a table holds; with a share below 1 some are left out."""
-    keys = sorted({(font.check_sum, font.scale) for font in fonts if 1 <= font.scale <= GREATEST_SCALE})
+    keys = keys_of(rng, fonts)
     codes_each = min(256, MOST_RECORDS // len(keys)) if keys else 0
     rows = []
-    for check_sum, scale in keys:
+    for check_sum, scale, name in keys:
         for code in sorted(rng.sample(range(256), codes_each)):
             if share < 1 and rng.random() >= share:
                 continue
             width = made_up_width(rng)
-            rows.append(record(check_sum, scale, code, made_up_escapement(rng, width, scale, unit), width))
+            rows.append(record(check_sum, scale, code, made_up_escapement(rng, width, scale, unit), width, name=name))
     return b"".join(rows)
 
 
-def wrong_tables(rng, table):
+def wrong_tables(rng, table, form=NEW):
     """Tables that are wrong at one record each, and beside them right ones that look alike."""
-    count = len(table) // RECORD
+    count, zero, first, name = len(table) // form.size, form.key, form.size - 4, 8 + form.name
     for index in sorted({0, min(1, count - 1), count // 2, count - 1, rng.randrange(count)}):
-        at = index * RECORD
-        before, row, after = table[:at], table[at : at + RECORD], table[at + RECORD :]
+        at = index * form.size
+        before, row, after = table[:at], table[at : at + form.size], table[at + form.size :]
         for scale in (0, 1, GREATEST_SCALE, GREATEST_SCALE + 1, 0xFFFFFFFF, 0x80000000):
             yield before + row[:4] + big(scale, 4) + row[8:] + after
-        for zero in (1, 128, 255):
-            yield before + row[:9] + bytes([zero]) + row[10:] + after
-        for first in (1, 127, 128, 254, 255, 0):
-            yield before + row[:12] + bytes([first]) + row[13:] + after
+        for byte in (1, 128, 255):
+            yield before + row[:zero] + bytes([byte]) + row[zero + 1 :] + after
+        for byte in (1, 127, 128, 254, 255, 0):
+            yield before + row[:first] + bytes([byte]) + row[first + 1 :] + after
+        for byte in range(8, name):  # zeros and others in each place of the name
+            for other in (0, 1, 255):
+                yield before + row[:byte] + bytes([other]) + row[byte + 1 :] + after
         yield before + row + row + after  # equal keys
-        yield before + row + row[:9] + bytes(3) + bytes(4) + after  # equal keys, another width
+        yield before + row + row[: form.key] + bytes(3) + bytes(4) + after  # equal keys, another width
         yield before + after  # a record left out is right
         if index:
-            earlier = before[-RECORD:]
-            yield before[:-RECORD] + row + earlier + after  # falling keys
-            for byte in range(9):  # one byte of the key made less than the record before
+            earlier = before[-form.size :]
+            yield before[: -form.size] + row + earlier + after  # falling keys
+            for byte in range(form.key):  # one byte of the key made less than the record before
                 if earlier[byte]:
-                    key = earlier[:byte] + bytes([earlier[byte] - 1]) + row[byte + 1 : 9]
-                    yield before + key + row[9:] + after
-        for byte in range(9):
+                    key = earlier[:byte] + bytes([earlier[byte] - 1]) + row[byte + 1 : form.key]
+                    yield before + key + row[form.key :] + after
+        for byte in range(form.key):
             yield before + row[:byte] + bytes([row[byte] ^ 1 << rng.randrange(8)]) + row[byte + 1 :] + after
-        for left in (1, 8, 9, 12, 15):
+        for left in (1, 8, form.key - 1, form.key, first, form.size // 2, form.size - 1):
             yield before + row + after + row[:left]
             yield before + row[:left]

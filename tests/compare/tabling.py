@@ -142,11 +142,15 @@ def answered_line(line, rules=Tabling):
     scale, area = map(int, words[2:])
     if scale >= 1 << 32 or area > LONGEST_AREA:
         return [["no", "input"]]
+    data = contents(words[1], LONGEST_FILE)
+    return [["no", "input"]] if data is None else answered(data, scale, area, rules)
+
+
+def contents(name, longest):
+    """The bytes of a file; None where it cannot be read or has more than so many."""
     try:
-        with open(words[1], "rb") as file:
-            data = file.read(LONGEST_FILE + 1)
+        with open(name, "rb") as file:
+            data = file.read(longest + 1)
     except (OSError, ValueError):
-        return [["no", "input"]]
-    if len(data) > LONGEST_FILE:
-        return [["no", "input"]]
-    return answered(data, scale, area, rules)
+        return None
+    return data if len(data) <= longest else None
