@@ -98,8 +98,9 @@ class Looking:
 
 @functools.lru_cache(8)
 def widths_of(table):
-    """Escapement and fix word by check sum, scale, the name's sixteen bytes and code."""
-    return {(dvi.unsigned(row[:4]), dvi.unsigned(row[4:8]), row[8:24], row[24]): (dvi.signed(row[26:28]), row[28:]) for row in records_of(table)}
+    """Escapement and fix word by check sum, scale, the name's sixteen bytes and code. A record that is cut, which wrong rules may let pass, is none."""
+    rows = [row for row in records_of(table) if len(row) == NEW.size]
+    return {(dvi.unsigned(row[:4]), dvi.unsigned(row[4:8]), row[8:24], row[24]): (dvi.signed(row[26:28]), row[28:]) for row in rows}
 
 
 def answered(work):

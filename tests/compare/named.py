@@ -149,7 +149,7 @@ def areas(group, rng):
 def in_turn(group, rng):
     """Fonts of one check sum and scale on one page: selected one after the other, for one character or more; inside *push* and *pop*, behind which they
     stay; on the next page; beside fonts of another check sum and of another scale."""
-    for names in ((b"one", b"two"), (b"one", b"two", b""), (LETTERS, LETTERS[:15], LETTERS + b"q", b"a\0"), (b"one", b"one")):
+    for names in ((b"one", b"two"), (b"one", b"two", b""), (LETTERS, LETTERS[:15], b"a", LETTERS + b"q", b"a\0"), (b"one", b"one")):
         fonts, codes = fonts_named(*names), range(16)
         others = [Font(40, SUM + 1, SCALE, name=names[0]), Font(41, SUM, SCALE + 1, name=names[0])]
         table = sorted({*records_of(patterned(*dict.fromkeys(names[:3]))), *(entry(names[0], code, 99 - code, 1) for code in codes), *(entry(b"", code, 50, 0, 101) for code in codes)})
