@@ -7,7 +7,7 @@ import itertools
 import dvi
 from dvi import MARK, PLAIN_UNITS, POPPED, PUSHED, PUT1, Font, big, character, page, right, select, volume
 from looking import Looking, answered_line, look_answer, narrow_answer, spelled, table_answer, widen_answer
-from made_up import WHOLE_AREA, look, place, random_page
+from made_up import RESOLUTIONS, WHOLE_AREA, look, place, random_page
 from placing import place_answer, placed
 from single_lines import misspelt
 from tables import (
@@ -178,18 +178,21 @@ def two_of_one_key(group, rng):
     own = {font.name: [(code, 3 + at + 5 * turn, big(0x80000 + 0x1111 * code * (turn + 1), 4)) for at, code in enumerate(codes)] for turn, font in enumerate(fonts)}
     named = b"".join(record(0, 655_360, *row, name=name) for name, rows in sorted(own.items()) for row in rows)
     spliced = b"".join(old_record(0, 655_360, *row) for row in own[b"gothic"])
-    widened = b"".join(row[:8] + ANY + row[8:] for row in records_of(spliced, OLD))
+    moved = widened(spliced)
     text = [part for turn in range(4) for font in fonts for part in (select(font.number), *written(codes[turn : turn + 5]))]
     file = volume(dvi.TEX_UNITS, [*(font.definition() for font in fonts), *page(text)], fonts)
-    for table in (named, widened, named + widened, widened + named):
+    for table in (named, moved, named + moved, moved + named):
         ask_table(group, table)
-        for resolution in (72, 100, 300, 1200):
+        for resolution in RESOLUTIONS:
             ask_place(group, file, table, resolution=resolution)
         for font in fonts:
             for code in codes:
                 ask_look(group, table, font.name, code, 0, 655_360)
+    for resolution in RESOLUTIONS:
+        same = placed(file, named, resolution, 1) == placed(file, moved, resolution, 1)
+        group.object("the table without names places this page rightly" if same else None)
     ask_widen(group, spliced)
-    ask_narrow(group, widened)
+    ask_narrow(group, moved)
     ask_narrow(group, named)
 
 

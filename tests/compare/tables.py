@@ -51,27 +51,22 @@ def made_up_escapement(rng, width, scale, unit):
     return max(-32768, min(32767, pixels))
 
 
-def keys_of(rng, fonts):
-    """Check sum, scale and name of the records that these fonts can find: of each font those for any name, those of its own, or both."""
+def table_for(rng, fonts, unit, share=1.0):
+    """Records for all these fonts, codes 0 to 255, as many as a table holds: each for any name or for the font's own, some for both where there is room.
+    With a share below 1 some are left out."""
+    fonts = [font for font in fonts if 1 <= font.scale <= GREATEST_SCALE]
+    codes_each = min(256, MOST_RECORDS // len(fonts)) if fonts else 0
+    both = 0.2 if 2 * codes_each * len(fonts) <= MOST_RECORDS else 0
     keys = set()
     for font in fonts:
-        if 1 <= font.scale <= GREATEST_SCALE:
-            names = [b"", font.name] if sayable(font.name) else [b""]
-            keys |= {(font.check_sum, font.scale, name) for name in rng.choice([names[:1], names[-1:], names])}
-    return sorted(keys)
-
-
-def table_for(rng, fonts, unit, share=1.0):
-    """Records for all these fonts, codes 0 to 255, as many as a table holds; with a share below 1 some are left out."""
-    keys = keys_of(rng, fonts)
-    codes_each = min(256, MOST_RECORDS // len(keys)) if keys else 0
+        names = [b"", font.name] if sayable(font.name) else [b""]
+        for code in rng.sample(range(256), codes_each):
+            if share == 1 or rng.random() < share:
+                keys |= {(font.check_sum, font.scale, name, code) for name in (names if rng.random() < both else [rng.choice(names)])}
     rows = []
-    for check_sum, scale, name in keys:
-        for code in sorted(rng.sample(range(256), codes_each)):
-            if share < 1 and rng.random() >= share:
-                continue
-            width = made_up_width(rng)
-            rows.append(record(check_sum, scale, code, made_up_escapement(rng, width, scale, unit), width, name=name))
+    for check_sum, scale, name, code in sorted(keys):
+        width = made_up_width(rng)
+        rows.append(record(check_sum, scale, code, made_up_escapement(rng, width, scale, unit), width, name=name))
     return b"".join(rows)
 
 
