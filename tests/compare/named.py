@@ -6,7 +6,7 @@ import itertools
 
 import dvi
 from dvi import MARK, PLAIN_UNITS, POPPED, PUSHED, PUT1, Font, big, character, page, right, select, volume
-from looking import Looking, answered_line, look_answer, narrow_answer, spelled, table_answer, widen_answer
+from looking import Looking, answered_line, look_answer, narrow_answer, table_answer, widen_answer
 from made_up import RESOLUTIONS, WHOLE_AREA, look, place, random_page
 from placing import place_answer, placed
 from single_lines import misspelt
@@ -79,6 +79,11 @@ def written(codes):
     return [part for code in codes for part in (character(code, 1, PUT1), bytes([code]), MARK)]
 
 
+def in_fonts(numbers, codes):
+    """The same characters in each of these fonts."""
+    return [part for number in numbers for part in (select(number), *written(codes))]
+
+
 def volume_of(fonts, *pages):
     return volume(PLAIN_UNITS, [*(font.definition() for font in fonts), *(part for one in pages for part in page(one))], fonts)
 
@@ -93,7 +98,7 @@ def pairs(group, rng):
             for code in codes:
                 ask_look(group, table, name, code)
         fonts = fonts_named(own, other)
-        ask_place(group, volume_of(fonts, [select(0), *written(codes), select(1), *written(codes)]), table)
+        ask_place(group, volume_of(fonts, in_fonts((0, 1), codes)), table)
     for name in NAMES:
         ask_table(group, patterned(name, b"zz"))
 
@@ -111,7 +116,7 @@ def lengths(group, rng):
         if length < 255:
             ask_look(group, table, other, 3)
         if length in (0, 1, 2, 14, 15, 16, 17, 18, 254, 255):
-            ask_place(group, volume_of(fonts_named(letters[:length], b"a"), [select(0), *written(range(7)), select(1), *written(range(7))]), table)
+            ask_place(group, volume_of(fonts_named(letters[:length], b"a"), in_fonts((0, 1), range(7))), table)
 
 
 def alike_up_to(group, rng):
@@ -124,7 +129,7 @@ def alike_up_to(group, rng):
             for name in (LETTERS, changed, LETTERS[:at], LETTERS[: at + 1], changed[: at + 1]):
                 for code in range(8):
                     ask_look(group, table, name, code)
-            ask_place(group, volume_of(fonts_named(LETTERS, changed), [select(0), *written(range(8)), select(1), *written(range(8))]), table)
+            ask_place(group, volume_of(fonts_named(LETTERS, changed), in_fonts((0, 1), range(8))), table)
 
 
 def areas(group, rng):
@@ -132,18 +137,19 @@ def areas(group, rng):
     area that is a name; names that are long or have zeros by their areas alone."""
     whole = b"tf/cmr10"
     parted = [Font(at, SUM, SCALE, area=whole[:at], name=whole[at:]) for at in range(len(whole) + 1)]
-    others = [Font(20, SUM, SCALE, area=b"x/", name=b"cmr10"), Font(21, SUM, SCALE, area=bytes(3), name=b"cmr10"), Font(22, SUM, SCALE, area=b"y" * 255, name=b"cmr10"),
-              Font(23, SUM, SCALE, area=b"cmr10", name=b""), Font(24, SUM, SCALE, area=LETTERS, name=LETTERS), Font(25, SUM, SCALE, area=b"a", name=LETTERS[1:]),
-              Font(26, SUM, SCALE, area=LETTERS, name=b""), Font(27, SUM, SCALE, name=b"cmr10"), Font(28, SUM, SCALE, area=b"tf/", name=b"cmr10\0")]
+    areas_and_names = ((b"x/", b"cmr10"), (bytes(3), b"cmr10"), (b"y" * 255, b"cmr10"), (b"", b"cmr10"), (b"tf/", b"cmr10\0"), (b"cmr10", b""),
+                       (LETTERS, LETTERS), (b"a", LETTERS[1:]), (LETTERS, b""))
+    others = [Font(20 + at, SUM, SCALE, area=area, name=name) for at, (area, name) in enumerate(areas_and_names)]
     fonts, codes = parted + others, range(8)
+    numbers = [font.number for font in fonts]
     for own, other in ((b"cmr10", whole), (b"r10", b"cmr10"), (b"tf/", b"0"), (LETTERS, LETTERS[1:]), (b"a" + LETTERS[1:15], b"cmr10"), (whole, whole[:-1])):
         table = patterned(own, other)
         for font in fonts:
-            ask_place(group, volume_of([font], [select(font.number), *written(codes)]), table)
-        ask_place(group, volume_of(fonts, [part for font in fonts for part in (select(font.number), *written(codes))]), table)
-        for number, other_number in itertools.combinations([font.number for font in fonts], 2):
+            ask_place(group, volume_of([font], in_fonts([font.number], codes)), table)
+        ask_place(group, volume_of(fonts, in_fonts(numbers, codes)), table)
+        for one, another in itertools.combinations(numbers, 2):
             if rng.random() < 0.15:
-                ask_place(group, volume_of(fonts, [select(number), *written(codes), select(other_number), *written(codes), select(number), *written(codes)]), table)
+                ask_place(group, volume_of(fonts, in_fonts([one, another, one], codes)), table)
 
 
 def in_turn(group, rng):
@@ -152,15 +158,16 @@ def in_turn(group, rng):
     for names in ((b"one", b"two"), (b"one", b"two", b""), (LETTERS, LETTERS[:15], b"a", LETTERS + b"q", b"a\0"), (b"one", b"one")):
         fonts, codes = fonts_named(*names), range(16)
         others = [Font(40, SUM + 1, SCALE, name=names[0]), Font(41, SUM, SCALE + 1, name=names[0])]
-        table = sorted({*records_of(patterned(*dict.fromkeys(names[:3]))), *(entry(names[0], code, 99 - code, 1) for code in codes), *(entry(b"", code, 50, 0, 101) for code in codes)})
+        beside = [one for code in codes for one in (entry(names[0], code, 99 - code, SUM + 1), entry(b"", code, 50, SUM, SCALE + 1))]
+        table = sorted({*records_of(patterned(*dict.fromkeys(names[:3]))), *beside})
         every = [font.number for font in fonts + others]
         each = [part for code in codes for number in every for part in (select(number), *written([code]))]
         runs = [part for number in every + every[::-1] for part in (dvi.any_select(rng, number), *written(codes))]
         nested = []
         for number, other in itertools.permutations(every, 2):
-            nested += [select(number), PUSHED, *written(codes[:8]), select(other), POPPED, *written(codes[:8]), PUSHED, select(number), PUSHED, POPPED, *written(codes[6:8]), POPPED]
-        begins = [[*written(codes), select(every[at - 1]), *written(codes)] for at in range(len(every))]
-        begins = [[select(number), *one] for number, one in zip(every, begins)]
+            nested += [select(number), PUSHED, *written(codes[:8]), select(other), POPPED, *written(codes[:8])]
+            nested += [PUSHED, select(number), PUSHED, POPPED, *written(codes[6:8]), POPPED]
+        begins = [in_fonts((number, every[at - 1]), codes) for at, number in enumerate(every)]
         file = volume_of(fonts + others, each, runs, nested, *begins, [right(3), MARK])
         for number in range(1, 5 + len(begins)):
             ask_place(group, file, b"".join(table), number)
@@ -175,7 +182,8 @@ def two_of_one_key(group, rng):
     records are found, and the old table, widened, still has one for both."""
     fonts = [Font(1, 0, 655_360, name=b"gothic"), Font(2, 0, 655_360, name=b"signs")]
     codes = range(60, 72)
-    own = {font.name: [(code, 3 + at + 5 * turn, big(0x80000 + 0x1111 * code * (turn + 1), 4)) for at, code in enumerate(codes)] for turn, font in enumerate(fonts)}
+    own = {font.name: [(code, 3 + at + 5 * turn, big(0x80000 + 0x1111 * code * (turn + 1), 4)) for at, code in enumerate(codes)]
+           for turn, font in enumerate(fonts)}
     named = b"".join(record(0, 655_360, *row, name=name) for name, rows in sorted(own.items()) for row in rows)
     spliced = b"".join(old_record(0, 655_360, *row) for row in own[b"gothic"])
     moved = widened(spliced)
@@ -225,7 +233,8 @@ def damaged_records(group, rng):
         for end in range(2 * RECORD):
             ask_each(group, file, (front + row)[:end])
             ask_each(group, file, (row + last)[:end])
-    row, front, last = old_record(1, SCALE, 65, 31, bytes([0, 16, 0, 0])), old_record(0, 1, 0, 0, bytes(4)), old_record((1 << 32) - 1, SCALE, 0, 0, bytes(4))
+    row = old_record(1, SCALE, 65, 31, bytes([0, 16, 0, 0]))
+    front, last = old_record(0, 1, 0, 0, bytes(4)), old_record((1 << 32) - 1, SCALE, 0, 0, bytes(4))
     for at in range(OLD.size):
         for value in range(256):
             changed = row[:at] + bytes([value]) + row[at + 1 :]
@@ -238,7 +247,7 @@ def damaged_records(group, rng):
 def zeros_in_records(group, rng):
     """Zeros and other bytes in every arrangement over the ends of a name, and one zero or one other byte anywhere: right only where all zeros are last."""
     ends = [bytes(bits[:5]) + b"\1" * 6 + bytes(bits[5:]) for bits in itertools.product((0, 2), repeat=10)]
-    singles = [bytes([*([3] * at), 0, *([3] * (NAME - 1 - at))]) for at in range(NAME)] + [bytes([*bytes(at), 3, *bytes(NAME - 1 - at)]) for at in range(NAME)]
+    singles = [rest * at + one + rest * (NAME - 1 - at) for at in range(NAME) for one, rest in ((b"\0", b"\3"), (b"\3", b"\0"))]
     behind = [LETTERS[:at].ljust(NAME, b"\0") for at in range(NAME + 1)]
     for name in ends + singles + behind:
         row = entry(name, 65, 9)
@@ -249,8 +258,9 @@ def zeros_in_records(group, rng):
 
 def orders_of_keys(group, rng):
     """Two records whose keys differ in one field or in two, in both orders: check sum before scale, scale before name, name before code, all as bytes."""
-    fields = ((0, 1, 255, 256, (1 << 32) - 1), (1, 255, 256, 65_536), (b"", b"\1", b"a", b"aa", b"b", LETTERS[:15], LETTERS, b"\x80", b"\xff" * NAME), (0, 1, 127, 128, 255))
-    rows = [record(check_sum, scale, code, 5, bytes(4), name=name) for check_sum, scale, name, code in itertools.product(*fields)]
+    sums, scales, codes = (0, 1, 255, 256, (1 << 32) - 1), (1, 255, 256, 65_536), (0, 1, 127, 128, 255)
+    names = (b"", b"\1", b"a", b"aa", b"b", LETTERS[:15], LETTERS, b"\x80", b"\xff" * NAME)
+    rows = [record(check_sum, scale, code, 5, bytes(4), name=name) for check_sum, scale, name, code in itertools.product(sums, scales, names, codes)]
     chosen = rng.sample(rows, 120)
     for one, other in itertools.combinations(chosen, 2):
         if rng.random() < 0.2:
@@ -267,10 +277,10 @@ def orders_of_keys(group, rng):
 
 def old_table(rng, count, fonts=None):
     """So many records without names; of these fonts, where any are given."""
-    keys = set()
+    keys, known = set(), [(font.check_sum, font.scale) for font in fonts or ()]
     while len(keys) < count:
-        check_sum, scale = rng.choice([(font.check_sum, font.scale) for font in fonts]) if fonts else (rng.choice([0, 1, rng.randrange(1 << 32)]), rng.choice([1, 100, 655_360]))
-        keys.add((check_sum, scale, rng.randrange(256)))
+        anything = rng.choice([0, 1, rng.randrange(1 << 32)]), rng.choice([1, 100, 655_360])
+        keys.add((*(rng.choice(known) if known else anything), rng.randrange(256)))
     return b"".join(old_record(*key, rng.randrange(-32768, 32768), made_up_width(rng)) for key in sorted(keys))
 
 
@@ -285,9 +295,9 @@ def there_and_back(group, rng):
         for _ in range(3 if count < 300 else 1):
             old = old_table(rng, count)
             new = widened(old)
-            for table, asking, form in ((old, ask_widen, NEW), (new[:LONGEST_TABLE], ask_narrow, OLD)):
-                need = count * form.size if table != new[:LONGEST_TABLE] else len(table) // RECORD * form.size
-                for area in sorted({0, need - form.size, need // 2, need - 1, need, need + 1, need + form.size, LONGEST_AREA - 1, LONGEST_AREA}):
+            for table, asking, given, made in ((old, ask_widen, OLD, NEW), (new[:LONGEST_TABLE], ask_narrow, NEW, OLD)):
+                need = len(table) // given.size * made.size
+                for area in sorted({0, need - made.size, need // 2, need - 1, need, need + 1, need + made.size, LONGEST_AREA - 1, LONGEST_AREA}):
                     if 0 <= area <= LONGEST_AREA:
                         asking(group, table, area)
             if len(new) <= LONGEST_TABLE:
@@ -304,13 +314,20 @@ class OldLooking(Looking):
 def placed_as_before(group, rng):
     """Pages with a table that was widened place as by the old look-up, whatever the fonts are called, and their areas."""
     for _ in range(40):
-        fonts = [Font(number, rng.choice([0, 7]), rng.choice([100, 200]), area=rng.choice([b"", b"tf/", LETTERS]), name=rng.choice(NAMES)) for number in rng.sample(range(64), 4)]
+        fonts = [Font(number, rng.choice([0, 7]), rng.choice([100, 200]), area=rng.choice([b"", b"tf/", LETTERS]), name=rng.choice(NAMES))
+                 for number in rng.sample(range(64), 4)]
         old = old_table(rng, rng.choice([0, 5, 200]), fonts)
-        file = volume_of(fonts, random_page(rng, fonts, 150), [part for font in fonts for part in (select(font.number), *written(rng.sample(range(128), 9)))])
+        file = volume_of(fonts, random_page(rng, fonts, 150), in_fonts([font.number for font in fonts], rng.sample(range(128), 9)))
         ask_widen(group, old)
         for number in (1, 2):
             line = place(group.keep(file), group.keep(widened(old)), RESOLUTION, number)
             ask(group, line, placed(file, widened(old), RESOLUTION, number, looking=OldLooking))
+
+
+def broken_tables(rows, at, row, place_in, value):
+    """These records with one of them made wrong, in its place or before it; with one twice; and cut."""
+    broken = row[:place_in] + bytes([value]) + row[place_in + 1 :]
+    return [b"".join(some) for some in ([*rows[:at], broken, *rows[at + 1 :]], [*rows[:at], broken, *rows[at:]], [*rows, rows[at]])] + [b"".join(rows)[: -1 - at]]
 
 
 def orders(group, rng):
@@ -322,11 +339,9 @@ def orders(group, rng):
     named = [record(1, SCALE, code, 5, bytes(4), name=b"one") for code in range(5)]
     faults = {"zero": (NEW.key, 1), "scale": (4, 8), "width": (28, 1), "name": (9, 1), "late name": (23, 1)}
     for at, (place_in, value) in itertools.product(range(5), faults.values()):
-        broken = good[at][:place_in] + bytes([value]) + good[at][place_in + 1 :]
         for named_at in (*range(5), None):
-            rows = [row if index != named_at else named[index] for index, row in enumerate(good)]
-            rows = sorted(rows) if named_at is not None else rows
-            for table in (b"".join(rows), b"".join(rows[:at] + [broken] + rows[at + 1 :]), b"".join(rows[:at] + [broken] + rows[at:]), b"".join(rows + [rows[at]]), b"".join(rows)[:-1]):
+            rows = sorted(row if index != named_at else named[index] for index, row in enumerate(good))
+            for table in (b"".join(rows), *broken_tables(rows, at, good[at], place_in, value)):
                 for area in (0, 5 * OLD.size - 1, 5 * OLD.size, 5 * RECORD - 1, 5 * RECORD):
                     ask_narrow(group, table, area)
                 ask_table(group, table)
@@ -339,8 +354,7 @@ def orders(group, rng):
             ask_narrow(group, table, area)
     rows = [old_record(1, SCALE, code, 5, bytes(4)) for code in range(5)]
     for at, (place_in, value) in itertools.product(range(5), ((9, 1), (4, 8), (12, 1), (12, 255), (8, 255), (8, 0), (0, 255))):
-        broken = rows[at][:place_in] + bytes([value]) + rows[at][place_in + 1 :]
-        for table in (b"".join(rows[:at] + [broken] + rows[at + 1 :]), b"".join(rows[:at] + [broken] + rows[at:]), b"".join(rows + [rows[at]]), b"".join(rows)[: -1 - at]):
+        for table in broken_tables(rows, at, rows[at], place_in, value):
             for area in (0, 5 * RECORD - 1, 5 * RECORD, 5 * RECORD + 1, LONGEST_AREA):
                 ask_widen(group, table, area)
 
@@ -351,8 +365,8 @@ def other_form(group, rng):
     font = Font(0, 1, SCALE)
     file = volume_of([font], [select(0), *written(range(4))])
     for count in (1, 2, 3, 4, 100, 4095, 4096):
-        old = old_table(rng, count)
-        for line in (b"table %s" % group.keep(old), b"narrow %s %d" % (group.keep(old), 0), look(group.keep(old), 1, SCALE, b"", 65), place(group.keep(file), group.keep(old), 300)):
+        old = group.keep(old_table(rng, count))
+        for line in (b"table %s" % old, b"narrow %s 0" % old, look(old, 1, SCALE, b"", 65), place(group.keep(file), old, 300)):
             ask(group, line, [["refused", 14, "at", 0]])
     for names in ((b"",), (b"a",), (b"ab",), (LETTERS,), (b"", b"a", LETTERS)):
         for count in (1, 2, 3, 500):
@@ -374,13 +388,18 @@ def any_table(rng, keys):
     return b"".join(rows)
 
 
+def names_beside(font):
+    """Those by which a font may find its records, and those by which wrong rules would."""
+    return b"", font.name, font.area + font.name, font.name[:NAME], font.name[:15], font.name.split(b"\0")[0]
+
+
 def random_tables(group, rng, count):
     """Random fonts of few check sums, scales and names, tables with any of their records, random pages."""
     for _ in range(count):
         names = rng.sample(NAMES, 3) + [rng.choice(NAMES)]
         fonts = [Font(number, rng.choice([0, 0, 1]), rng.choice([100, 100, 250]), area=rng.choice([b"", b"", b"a", LETTERS[:3]]), name=name)
                  for number, name in zip(rng.sample(range(64), 4), names)]
-        near = {name for font in fonts for name in (b"", font.name, font.area + font.name, font.name[:NAME], font.name[:15], font.name.split(b"\0")[0]) if sayable(name)}
+        near = {name for font in fonts for name in names_beside(font) if sayable(name)}
         codes = rng.sample(range(128), 12)
         table = any_table(rng, itertools.product((0, 1), (100, 250), near, codes))
         text = [part for _ in range(30) for part in (dvi.any_select(rng, rng.choice(fonts).number), *written(rng.sample(codes, 2)))]
@@ -390,8 +409,8 @@ def random_tables(group, rng, count):
         ask_table(group, table)
         for _ in range(20):
             font = rng.choice(fonts)
-            ask_look(group, table, rng.choice([font.name, rng.choice(names), font.area + font.name][: 3 if len(font.area + font.name) < 256 else 2]), rng.choice(codes) + 256 * rng.randrange(-2, 3),
-                     font.check_sum, font.scale)
+            name = rng.choice([font.name, rng.choice(names), (font.area + font.name)[:255]])
+            ask_look(group, table, name, rng.choice(codes) + 256 * rng.randrange(-2, 3), font.check_sum, font.scale)
 
 
 def random_damage(rng, table, form):
@@ -425,14 +444,16 @@ def damaged_tables(group, rng, count):
         names = rng.sample(SAYABLE_NAMES, 3)
         base = any_table(rng, itertools.product((0, 1), (SCALE, 200), names, rng.sample(range(256), 3)))
         ask_each(group, file, random_damage(rng, base, NEW))
-        ask_widen(group, random_damage(rng, old_table(rng, rng.randrange(1, 20)), OLD), rng.choice([LONGEST_AREA, LONGEST_AREA, rng.randrange(700)]))
-        ask_narrow(group, random_damage(rng, widened(old_table(rng, rng.randrange(1, 20))), NEW), rng.choice([LONGEST_AREA, rng.randrange(400)]))
+        old = old_table(rng, rng.randrange(1, 20))
+        ask_widen(group, random_damage(rng, old, OLD), rng.choice([LONGEST_AREA, LONGEST_AREA, rng.randrange(700)]))
+        ask_narrow(group, random_damage(rng, widened(old), NEW), rng.choice([LONGEST_AREA, rng.randrange(400)]))
 
 
 def wrong_everywhere(group, rng):
     """Tables that are wrong at one record each, in every way, of both forms, and right ones beside them."""
     for size in (1, 3, 12):
-        base = sorted(rng.sample(records_of(any_table(rng, itertools.product((0, 1), (SCALE, 200), SAYABLE_NAMES, range(8)))), size))
+        base = records_of(any_table(rng, itertools.product((0, 1), (SCALE, 200), SAYABLE_NAMES, range(8))))
+        base = sorted(rng.sample(base, size))
         for table in wrong_tables(rng, b"".join(base)):
             ask_table(group, table)
             ask_narrow(group, table)
@@ -442,8 +463,8 @@ def wrong_everywhere(group, rng):
 
 def longest_tables(group, rng):
     """As long as the desk holds a table, and a byte more; a search by halves that ends everywhere; the one record with a name first, last and between."""
-    rows = [entry(name, code, at % 300, 5 + at // 1500, 100) for at, (name, code) in enumerate(itertools.product([b"%03d" % n for n in range(9)], range(256)))]
-    rows = sorted(rows)[:MOST_RECORDS]
+    keys = itertools.product([b"%03d" % number for number in range(9)], range(256))
+    rows = sorted(entry(name, code, at % 300, 5 + at // 1500, 100) for at, (name, code) in enumerate(keys))[:MOST_RECORDS]
     table = b"".join(rows)
     ask_table(group, table)
     for row in rng.sample(rows, 120):
@@ -470,14 +491,15 @@ def lines(group, rng):
     file, old = group.keep(table), group.keep(old_table(rng, 2))
     for line in (look(file, SUM, SCALE, b"cmr10", 3), look(file, SUM, SCALE, b"", 3), b"widen %s 64" % old, b"narrow %s 64" % file, b"table %s" % file):
         misspelt(group, line, file)
-    words = [b"-", b"--", b"-61", b"61-", b"6", b"61", b"616", b"6161", b"AB", b"aB", b"Ab", b"ab", b"0xab", b"ag", b"`a", b"a:", b"/0", b"@a", b"00", b"0", b"01", b"0000", b"636d723130",
-             b"636D723130", b"636d72313000", b"x", b"+1", "ä".encode(), b"\xff\xff", b"61\t", b"61 ", b" 61"]
-    words += [b"61" * length for length in (15, 16, 17, 254, 255, 256, 257, 1000, 8000)] + [b"61" * 255 + b"6", b"61" * 254 + b"6", b"00" * 255, b"00" * 256, b"61" * 255 + b"-"]
+    words = [b"-", b"--", b"-61", b"61-", b"6", b"61", b"616", b"6161", b"AB", b"aB", b"Ab", b"ab", b"0xab", b"ag", b"`a", b"a:", b"/0", b"@a", b"00", b"0",
+             b"01", b"0000", b"636d723130", b"636D723130", b"636d72313000", b"x", b"+1", "ä".encode(), b"\xff\xff", b"61\t", b"61 ", b" 61"]
+    words += [b"61" * length for length in (15, 16, 17, 254, 255, 256, 257, 1000, 8000)]
+    words += [b"61" * 255 + b"6", b"61" * 254 + b"6", b"00" * 255, b"00" * 256, b"61" * 255 + b"-"]
     for word in words:
         for code in (b"3", b"4", b"x"):
             group.ask(b"look %s %d %d %s %s" % (file, SUM, SCALE, word, code))
     for word in (b"widen", b"narrow"):
-        for area in (b"0", b"00", b"31", b"32", b"64", b"159", b"160", b"59999", b"60000", b"60001", b"0060000", b"-1", b"+1", b"4294967296", b"99999999999999999999"):
+        for area in (b"0", b"00", b"31", b"32", b"64", b"159", b"160", b"59999", b"60000", b"60001", b"0060000", b"-1", b"+1", b"4294967296", b"9" * 20):
             for name in (file, old, group.keep(b""), group.keep(bytes(LONGEST_TABLE)), group.keep(bytes(LONGEST_TABLE + 1)), b"/nowhere/at/all"):
                 group.ask(b"%s %s %s" % (word, name, area), b"%s %s %s 1" % (word, name, area), b"%s %s" % (word, name))
     for line in group.lines:
@@ -487,8 +509,8 @@ def lines(group, rng):
 
 def groups(gather, numbers, long, wanted=lambda name: True):
     """Those groups that are wanted; the random ones many times in the long form. `numbers` gives each group its random numbers, by its name."""
-    notions = (pairs, lengths, alike_up_to, areas, in_turn, two_of_one_key, damaged_records, zeros_in_records, orders_of_keys, there_and_back, placed_as_before, orders,
-               other_form, wrong_everywhere, longest_tables, lines)
+    notions = (pairs, lengths, alike_up_to, areas, in_turn, two_of_one_key, damaged_records, zeros_in_records, orders_of_keys, there_and_back,
+               placed_as_before, orders, other_form, wrong_everywhere, longest_tables, lines)
     makers = {"named: " + make.__name__.replace("_", " "): make for make in notions}
     for turn in range(100 if long else 2):
         makers[f"named: random tables {turn + 1}"] = functools.partial(random_tables, count=60)

@@ -214,7 +214,8 @@ def scales_and_areas(group, rng):
     for data in files:
         count = max(0, len(answered(data, 1)) - 1)
         for scale in (0, 1, 2, 255, 256, SCALE, GREATEST_SCALE - 1, GREATEST_SCALE, GREATEST_SCALE + 1, 1 << 28, FURTHEST, FURTHEST + 1, WIDE - 1):
-            for area in sorted({0, 1, 16, RECORD - 1, RECORD, RECORD + 1, 16 * count, RECORD * count - 1, RECORD * count, RECORD * count + 1, 4095, 4096, LONGEST_AREA - 1, LONGEST_AREA} - {-1}):
+            around = {size + beside for size in (0, RECORD, RECORD * count, RECORD * count // 2, LONGEST_AREA) for beside in (-1, 0, 1)}
+            for area in sorted(area for area in around if 0 <= area <= LONGEST_AREA):
                 ask(group, data, scale, area)
 
 
