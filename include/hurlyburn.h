@@ -11,7 +11,7 @@
      least. Only the numbers that are named at a function are written, from the first on; all others stay as they were.
    - What is returned is
        0           the result is given;
-       1 to 23     the file, the table or the question is refused, for the reason of that number in the list below; answer[0] is
+       1 to 24     the file, the table or the question is refused, for the reason of that number in the list below; answer[0] is
                    then the place, counted in bytes from 0, and the other numbers stay as they were;
        255         answer_length is too small for the function's result, whatever the inputs are. Nothing was judged and nothing
                    written, neither into answer nor into an area.
@@ -50,10 +50,11 @@
             escapement that two bytes with a sign do not hold
        22   a scale of 0, or above 134,217,727
        23   a list of pages that is empty, does not rise from each number to the next, or names a page that the file has not
+       24   a width record with a name, where only records without one can be written
 
    The place of 2 to 10, of 16 and of 18 to 21 is where the opcode or the flag of the wrong command stands, or would have to; of 11
-   that byte's, or the length of the file; of 14 where the first wrong record begins. It is 0 for all others, for a single distance
-   or width, and for the name of a font that is not defined (8). */
+   that byte's, or the length of the file; of 14 and 24 where the first such record begins, in the table that was given. It is 0 for
+   all others, for a single distance or width, and for the name of a font that is not defined (8). */
 #ifndef HURLYBURN_H
 #define HURLYBURN_H
 
@@ -78,6 +79,8 @@ extern "C" {
 #define HURLYBURN_TABLE_NUMBERS 1
 #define HURLYBURN_LOOK_NUMBERS 6
 #define HURLYBURN_WIDTH_TABLE_NUMBERS 1
+#define HURLYBURN_WIDEN_NUMBERS 1
+#define HURLYBURN_NARROW_NUMBERS 1
 #define HURLYBURN_CUT_NUMBERS 1
 #define HURLYBURN_NAME_NUMBERS 2
 
@@ -85,7 +88,9 @@ extern "C" {
 #define HURLYBURN_RECORD_BYTES 20
 
 /* how many bytes a record of a width table has */
-#define HURLYBURN_WIDTH_RECORD_BYTES 16
+#define HURLYBURN_WIDTH_RECORD_BYTES 32
+/* and how many one of the old form has, which hurlyburn_widen_table reads and hurlyburn_narrow_table writes */
+#define HURLYBURN_OLD_WIDTH_RECORD_BYTES 16
 
 /* how many bytes more than the file an area for its chosen pages may need, whichever they are */
 #define HURLYBURN_CUT_BYTES_MORE 3
@@ -120,24 +125,50 @@ uint32_t hurlyburn_round_distance(int32_t num, int32_t den, int32_t mag, uint32_
 uint32_t hurlyburn_scale_width(uint32_t scale, uint8_t b0, uint8_t b1, uint8_t b2, uint8_t b3, int64_t *answer,
                                size_t answer_length);
 
-/* The check of a width table: records of 16 bytes. answer: the number of records. Refusal 14. */
+/* The check of a width table: records of HURLYBURN_WIDTH_RECORD_BYTES and nothing else; none at all is right. answer: the number of
+   records. Refusal 14.
+
+   A record has the font's check sum and its scale, four bytes each; a name, sixteen; the code; a byte 0; two bytes for the escapement
+   in pixels, which is signed; and the four bytes of the width, the first of which is 0 or 255. The greatest byte comes first. The
+   first 25 bytes, code and all before it, rise from each record to the next, as bytes; the scale is 1 to 134,217,727.
+
+   The name is that of the font without its area: the l bytes that the definition has behind the area, and zeros behind them up to
+   sixteen. A byte that is not 0 behind a zero is wrong. Sixteen zeros stand for any name. A font takes a character's record under its
+   own name and, where there is none, the one for any name, each character for itself. A name of more than sixteen bytes, or one that
+   has a zero among them, is in no record: such a font, and one whose name is empty, has the records for any name alone.
+
+   Tables of the old form, HURLYBURN_OLD_WIDTH_RECORD_BYTES a record, are read by hurlyburn_widen_table alone; everywhere else their
+   bytes are taken for records as they are here. */
 uint32_t hurlyburn_check_table(const uint8_t *table, size_t table_length, int64_t *answer, size_t answer_length);
 
-/* What a width table says of a character, by the font's check sum, its scale and the code mod 256. The whole table is checked first.
-   answer: 1, the escapement in pixels, which may be negative, and the four bytes of the width; or, where the table has no such
-   character, 0 and nothing more. Refusal 14. */
-uint32_t hurlyburn_look_up(const uint8_t *table, size_t table_length, uint32_t checksum, uint32_t scale, int32_t code,
-                           int64_t *answer, size_t answer_length);
+/* What a width table says of a character, by the font's check sum, its scale, its name and the code mod 256: what stands under that
+   name or else what stands there for any name. The name is given without its area and without zeros to fill it up, and it may have
+   any length. The whole table is checked first. answer: 1, the escapement in pixels, which may be negative, and the four bytes of the
+   width; or, where the table has no such character, 0 and nothing more. Refusal 14. */
+uint32_t hurlyburn_look_up(const uint8_t *table, size_t table_length, uint32_t checksum, uint32_t scale, const uint8_t *name,
+                           size_t name_length, int32_t code, int64_t *answer, size_t answer_length);
 
 /* The width table of a PK font at a scale, which is the font's scaled size in the DVI file's units: for each packet of the font a
    record, in the order of codes, is written into area, from its first byte on, HURLYBURN_WIDTH_RECORD_BYTES each; the bytes behind
-   them stay as they were. A font has 256 packets at most. A refusal leaves every byte of area. hurlyburn_check_table finds the table
-   right. answer: the number of records. Refusals 22, then 18 to 21, then 17.
-
-   A record has the font's check sum and the scale, four bytes each; the code; a byte 0; two bytes for the escapement in pixels,
-   which is signed; and the four bytes of the width. The greatest byte comes first. */
+   them stay as they were. The records are for any name, since a PK font does not say its own. A font has 256 packets at most. A
+   refusal leaves every byte of area. hurlyburn_check_table finds the table right. answer: the number of records. Refusals 22, then
+   18 to 21, then 17. */
 uint32_t hurlyburn_width_table(const uint8_t *pk, size_t pk_length, uint32_t scale, uint8_t *area, size_t area_length,
                                int64_t *answer, size_t answer_length);
+
+/* A width table of the old form in the new one. An old record is a record as hurlyburn_check_table has it, without the name; its
+   first nine bytes rise. In the new table each is for any name, so that every page places as it did. The new records are written
+   into area, from its first byte on, HURLYBURN_WIDTH_RECORD_BYTES each; the bytes behind them stay as they were. A refusal leaves
+   every byte of area. hurlyburn_check_table finds the new table right. answer: the number of records. Refusals 14, by the rules of
+   the old form, then 17. */
+uint32_t hurlyburn_widen_table(const uint8_t *old, size_t old_length, uint8_t *area, size_t area_length, int64_t *answer,
+                               size_t answer_length);
+
+/* The way back: a width table whose records are all for any name in the old form, HURLYBURN_OLD_WIDTH_RECORD_BYTES a record. What
+   was widened is the same bytes again. The old records are written into area, from its first byte on; the bytes behind them stay as
+   they were. A refusal leaves every byte of area. answer: the number of records. Refusals 14, then 24, then 17. */
+uint32_t hurlyburn_narrow_table(const uint8_t *table, size_t table_length, uint8_t *area, size_t area_length, int64_t *answer,
+                                size_t answer_length);
 
 /* Chosen pages of a DVI file as a DVI file of their own, by the list of their numbers, counted from 1, each above the one before.
    The new file is written into area, from its first byte on; the bytes behind it stay as they were. An area of file_length +
