@@ -1,7 +1,8 @@
 /* The reader's jobs in plain C, from documents 01 and 02, written for speed: one scan of the file that notes the wanted page;
    a page walked twice, first with h and v alone (16 and 17 must be known before a byte is written), then with the pixels; the
    metrics of a font's characters kept once they are found. A PK font read once, with a note of where each code's packet is. Chosen
-   pages cut out by two walks over a file that the scan found lawful, so without a test for its end: one counts, one copies. */
+   pages cut out by two walks over a file that the scan found lawful, so without a test for its end: one counts, one copies. The
+   name in a width record is two numbers of eight bytes, and is judged once for the records that share it. */
 #include "plain.h"
 #include <string.h>
 
@@ -9,7 +10,8 @@
 #define MOST_FONTS 64u
 #define DEEPEST 100u
 #define LARGEST_SIZE 134217727u
-#define WIDTH_RECORD 16u
+#define WIDTH_RECORD 32u
+#define OLD_WIDTH_RECORD 16u
 #define PLACED_RECORD 20u
 #define TOO_SHORT_ANSWER 255u
 
@@ -71,6 +73,14 @@ static inline void put4(uint8_t *b, uint32_t number)
 {
     number = __builtin_bswap32(number);
     memcpy(b, &number, 4);
+}
+
+/* Eight bytes as they stand, to be copied or compared for equality. */
+static inline uint64_t eight(const uint8_t *b)
+{
+    uint64_t word;
+    memcpy(&word, b, 8);
+    return word;
 }
 
 /* ---- the file ---- */
@@ -322,18 +332,121 @@ static inline int64_t scaled(uint64_t sixteenfold, uint8_t first, uint32_t last_
 
 /* ---- the width table ---- */
 
-/* 14: the number of records, or the place of the first wrong one. */
-static struct refusal judge_table(const uint8_t *table, size_t length)
+/* Places in a record of the new form; an old one has no name, and its last eight bytes stand right behind the scale. */
+enum { NAME = 8, LAST_EIGHT = 24, CODE = LAST_EIGHT, ZERO = CODE + 1, ESCAPEMENT = CODE + 2, WIDTH = CODE + 4 };
+#define LONGEST_NAME 16u
+
+/* A record's key but for the code: check sum and scale, and the name. */
+struct key {
+    uint64_t sum_and_scale, name[2];
+};
+
+static inline struct key key_of(const uint8_t *record)
+{
+    struct key key = { unsigned8(record), { unsigned8(record + NAME), unsigned8(record + NAME + 8) } };
+    return key;
+}
+
+/* A font's name, the bytes without the area, as records have it; any name, which is zeros, where no record can have it. */
+static struct key sought_key(uint64_t sum_and_scale, const uint8_t *name, size_t length)
+{
+    const struct key any = { sum_and_scale, { 0, 0 } };
+    struct key key = any;
+    if (length > LONGEST_NAME)
+        return any;
+    for (size_t i = 0; i < length; i++) {
+        if (name[i] == 0)
+            return any;
+        key.name[i / 8] |= (uint64_t)name[i] << (56 - 8 * (i % 8));
+    }
+    return key;
+}
+
+static inline int has_name(const struct key *key)
+{
+    return (key->name[0] | key->name[1]) != 0;
+}
+
+static inline int is_same(const struct key *one, const struct key *other)
+{
+    return one->sum_and_scale == other->sum_and_scale && one->name[0] == other->name[0] && one->name[1] == other->name[1];
+}
+
+static inline int is_less(const struct key *one, const struct key *other)
+{
+    if (one->sum_and_scale != other->sum_and_scale)
+        return one->sum_and_scale < other->sum_and_scale;
+    if (one->name[0] != other->name[0])
+        return one->name[0] < other->name[0];
+    return one->name[1] < other->name[1];
+}
+
+static inline int has_zero_byte(uint64_t word)
+{
+    return ((word - 0x0101010101010101) & ~word & 0x8080808080808080) != 0;
+}
+
+/* The same word with every bit behind its last 1 set, so that no zero byte is left at its end. */
+static inline uint64_t filled_up(uint64_t word)
+{
+    return word | (word - 1);
+}
+
+/* Whether no byte but zeros stands behind a zero. */
+static inline int name_then_zeros(const uint64_t name[2])
+{
+    return name[1] == 0 ? !has_zero_byte(filled_up(name[0])) : !has_zero_byte(name[0]) && !has_zero_byte(filled_up(name[1]));
+}
+
+static inline int lawful_end(const uint8_t *last_eight)
+{
+    return last_eight[ZERO - CODE] == 0 && (uint8_t)(last_eight[WIDTH - CODE] + 1) <= 1;
+}
+
+static inline int same_font(const uint8_t *one, const uint8_t *other)
+{
+    return ((eight(one) ^ eight(other)) | (eight(one + NAME) ^ eight(other + NAME)) | (eight(one + NAME + 8) ^ eight(other + NAME + 8))) == 0;
+}
+
+/* 14. Where it is right, the place of the first record that has a name, or the table's length. */
+static struct refusal judge_table(const uint8_t *table, size_t length, size_t *named)
 {
     const size_t whole = length - length % WIDTH_RECORD;
-    uint64_t last = 0; /* a lawful scale is not 0, so every lawful key is above it */
-    uint8_t last_code = 0;
+    struct key last = { 0, { 0, 0 } }; /* a lawful scale is not 0, so every lawful key is above it */
+    *named = length;
     for (size_t at = 0; at < whole; at += WIDTH_RECORD) {
+        const uint8_t *record = table + at;
+        if (at > 0 && same_font(record, record - WIDTH_RECORD)) {
+            /* what is not the code was judged with the first record of this font */
+            if (record[CODE] <= record[CODE - (int)WIDTH_RECORD])
+                return refuse(14, at);
+        } else {
+            const struct key key = key_of(record);
+            if (!is_less(&last, &key) || !lawful_size((uint32_t)key.sum_and_scale) || !name_then_zeros(key.name))
+                return refuse(14, at);
+            if (has_name(&key) && *named == length)
+                *named = at;
+            last = key;
+        }
+        if (!lawful_end(record + LAST_EIGHT))
+            return refuse(14, at);
+    }
+    if (whole != length)
+        return refuse(14, whole);
+    return nothing_wrong;
+}
+
+/* 14, by the old form. */
+static struct refusal judge_old_table(const uint8_t *table, size_t length)
+{
+    const size_t whole = length - length % OLD_WIDTH_RECORD;
+    uint64_t last = 0;
+    uint8_t last_code = 0;
+    for (size_t at = 0; at < whole; at += OLD_WIDTH_RECORD) {
         const uint8_t *record = table + at;
         const uint64_t key = unsigned8(record);
         const uint8_t code = record[8];
-        if (key < last || (key == last && code <= last_code) || !lawful_size((uint32_t)key)
-            || record[9] != 0 || (uint8_t)(record[12] + 1) > 1)
+        if (key < last || (key == last && code <= last_code) || !lawful_size((uint32_t)key) || !lawful_end(record + 8))
             return refuse(14, at);
         last = key;
         last_code = code;
@@ -343,19 +456,76 @@ static struct refusal judge_table(const uint8_t *table, size_t length)
     return nothing_wrong;
 }
 
-/* The index of the first record, from low to below high, whose key and code are not below these. */
-static size_t first_from(const uint8_t *table, size_t low, size_t high, uint64_t key, uint8_t code)
+/* The index of the first record, from low to below high, whose key and code are not below these. Code 256 is above all. */
+static size_t first_from(const uint8_t *table, size_t low, size_t high, const struct key *key, unsigned code)
 {
     while (low < high) {
-        size_t middle = low + (high - low) / 2;
+        const size_t middle = low + (high - low) / 2;
         const uint8_t *record = table + WIDTH_RECORD * middle;
-        uint64_t found = unsigned8(record);
-        if (found < key || (found == key && record[8] < code))
+        const struct key found = key_of(record);
+        if (is_less(&found, key) || (is_same(&found, key) && record[CODE] < code))
             low = middle + 1;
         else
             high = middle;
     }
     return low;
+}
+
+/* The record of a key and code, or NULL. */
+static const uint8_t *record_of(const uint8_t *table, size_t records, const struct key *key, uint8_t code)
+{
+    const size_t index = first_from(table, 0, records, key, code);
+    if (index == records)
+        return NULL;
+    const uint8_t *record = table + WIDTH_RECORD * index;
+    const struct key found = key_of(record);
+    return is_same(&found, key) && record[CODE] == code ? record : NULL;
+}
+
+/* By the own name first, then by any. */
+static const uint8_t *look_for(const uint8_t *table, size_t records, const struct key *key, uint8_t code)
+{
+    const uint8_t *record = record_of(table, records, key, code);
+    if (record != NULL || !has_name(key))
+        return record;
+    const struct key any = { key->sum_and_scale, { 0, 0 } };
+    return record_of(table, records, &any, code);
+}
+
+/* ---- tables of the old form ---- */
+
+static struct refusal widen(const uint8_t *old, size_t old_length, uint8_t *area, size_t area_length)
+{
+    const struct refusal refusal = judge_old_table(old, old_length);
+    if (refusal.number != 0)
+        return refusal;
+    const size_t records = old_length / OLD_WIDTH_RECORD;
+    if (area_length / WIDTH_RECORD < records)
+        return refuse(17, 0);
+    for (size_t i = 0; i < records; i++, old += OLD_WIDTH_RECORD, area += WIDTH_RECORD) {
+        memcpy(area, old, NAME);
+        memset(area + NAME, 0, LONGEST_NAME);
+        memcpy(area + LAST_EIGHT, old + NAME, 8);
+    }
+    return nothing_wrong;
+}
+
+static struct refusal narrow(const uint8_t *table, size_t table_length, uint8_t *area, size_t area_length)
+{
+    size_t named;
+    const struct refusal refusal = judge_table(table, table_length, &named);
+    if (refusal.number != 0)
+        return refusal;
+    if (named != table_length)
+        return refuse(24, named);
+    const size_t records = table_length / WIDTH_RECORD;
+    if (area_length / OLD_WIDTH_RECORD < records)
+        return refuse(17, 0);
+    for (size_t i = 0; i < records; i++, table += WIDTH_RECORD, area += OLD_WIDTH_RECORD) {
+        memcpy(area, table, NAME);
+        memcpy(area + NAME, table + LAST_EIGHT, 8);
+    }
+    return nothing_wrong;
 }
 
 /* ---- a page ---- */
@@ -419,39 +589,75 @@ struct metric {
 };
 enum { UNKNOWN, PRESENT, ABSENT };
 
-/* A font that is selected on the page: its records in the table, its scale, and the metrics found so far. */
+/* Records of one key, from first to before past. */
+struct run {
+    size_t first, past;
+};
+
+/* A font that is selected on the page: its records in the table, by its own name and by any, its scale, and the metrics found so far. */
 struct font {
     int64_t scale;
     uint64_t sixteenfold;
-    uint64_t key;
-    size_t first, past;
+    struct run own, any;
     uint8_t number;
     struct metric metric[256];
 };
 
+/* The records of a key, from an index on behind which all that are below it stand. */
+static struct run run_of(const uint8_t *table, size_t low, size_t records, const struct key *key)
+{
+    struct run run;
+    run.first = first_from(table, low, records, key, 0);
+    const size_t most = records - run.first < 256 ? records : run.first + 256;
+    run.past = first_from(table, run.first, most, key, 256);
+    return run;
+}
+
+/* At the place of the check sum stand check sum and scale, design size, the lengths of area and name, and these two. */
 static void set_up_font(struct font *font, uint8_t number, const uint8_t *definition, const uint8_t *table, size_t records)
 {
+    const struct key any = { unsigned8(definition), { 0, 0 } };
+    const struct key own = sought_key(any.sum_and_scale, definition + 14 + definition[12], definition[13]);
     font->number = number;
-    font->key = unsigned8(definition);
     font->scale = unsigned4(definition + 4);
     font->sixteenfold = sixteenfold_of((uint32_t)font->scale);
-    font->first = first_from(table, 0, records, font->key, 0);
-    size_t most = records - font->first < 256 ? records : font->first + 256;
-    font->past = first_from(table, font->first, most, font->key + 1, 0);
+    font->any = run_of(table, 0, records, &any);
+    /* records with names follow right behind, if there are any */
+    font->own.first = font->own.past = font->any.past;
+    if (has_name(&own) && font->any.past < records && unsigned8(table + WIDTH_RECORD * font->any.past) == own.sum_and_scale)
+        font->own = run_of(table, font->any.past, records, &own);
     memset(font->metric, 0, sizeof font->metric);
+}
+
+/* The record of a code in a run, where the code is all that differs, or NULL. */
+static const uint8_t *record_in(const uint8_t *table, struct run run, uint8_t code)
+{
+    size_t low = run.first, high = run.past;
+    while (low < high) {
+        const size_t middle = low + (high - low) / 2;
+        if (table[WIDTH_RECORD * middle + CODE] < code)
+            low = middle + 1;
+        else
+            high = middle;
+    }
+    if (low == run.past)
+        return NULL;
+    const uint8_t *record = table + WIDTH_RECORD * low;
+    return record[CODE] == code ? record : NULL;
 }
 
 static __attribute__((noinline)) void find_metric(struct font *font, uint8_t code, const uint8_t *table)
 {
     struct metric *metric = &font->metric[code];
-    size_t index = first_from(table, font->first, font->past, font->key, code);
-    const uint8_t *record = table + WIDTH_RECORD * index;
-    if (index == font->past || record[8] != code) {
+    const uint8_t *record = record_in(table, font->own, code);
+    if (record == NULL)
+        record = record_in(table, font->any, code);
+    if (record == NULL) {
         metric->known = ABSENT;
         return;
     }
-    metric->width = (int32_t)scaled(font->sixteenfold, record[12], unsigned3(record + 13));
-    metric->escapement = (int16_t)unsigned2(record + 10);
+    metric->width = (int32_t)scaled(font->sixteenfold, record[WIDTH], unsigned3(record + WIDTH + 1));
+    metric->escapement = (int16_t)unsigned2(record + ESCAPEMENT);
     metric->known = PRESENT;
 }
 
@@ -677,7 +883,8 @@ static struct refusal place(const uint8_t *file, size_t file_length, const uint8
     uint32_t wrong = judge_unit(&volume, resolution, &page.unit);
     if (wrong != 0)
         return refuse(wrong, 0);
-    refusal = judge_table(widths, widths_length);
+    size_t named;
+    refusal = judge_table(widths, widths_length, &named);
     if (refusal.number != 0)
         return refusal;
     if (number < 1 || number > volume.pages)
@@ -858,8 +1065,9 @@ static void put_width_record(uint8_t *record, const uint8_t *packet, uint32_t ch
     }
     put4(record, check_sum);
     put4(record + 4, scale);
-    put4(record + 8, (uint32_t)code << 24 | (escapement & 0xffff));
-    put4(record + 12, (uint32_t)first << 24 | unsigned3(width));
+    memset(record + NAME, 0, LONGEST_NAME);
+    put4(record + CODE, (uint32_t)code << 24 | (escapement & 0xffff));
+    put4(record + WIDTH, (uint32_t)first << 24 | unsigned3(width));
 }
 
 static struct refusal make_table(const uint8_t *pk, size_t pk_length, uint32_t scale, uint8_t *area, size_t area_length, size_t *records)
@@ -1141,33 +1349,57 @@ uint32_t plain_check_table(const uint8_t *table, size_t table_length, int64_t *a
 {
     if (answer_length < 1)
         return TOO_SHORT_ANSWER;
-    struct refusal refusal = judge_table(table, table_length);
+    size_t named;
+    struct refusal refusal = judge_table(table, table_length, &named);
     if (refusal.number != 0)
         return refused(refusal, answer);
     answer[0] = (int64_t)(table_length / WIDTH_RECORD);
     return 0;
 }
 
-uint32_t plain_look_up(const uint8_t *table, size_t table_length, uint32_t checksum, uint32_t scale, int32_t code,
-                       int64_t *answer, size_t answer_length)
+uint32_t plain_look_up(const uint8_t *table, size_t table_length, uint32_t checksum, uint32_t scale, const uint8_t *name,
+                       size_t name_length, int32_t code, int64_t *answer, size_t answer_length)
 {
     if (answer_length < 6)
         return TOO_SHORT_ANSWER;
-    struct refusal refusal = judge_table(table, table_length);
+    size_t named;
+    struct refusal refusal = judge_table(table, table_length, &named);
     if (refusal.number != 0)
         return refused(refusal, answer);
-    const size_t records = table_length / WIDTH_RECORD;
-    const uint64_t key = (uint64_t)checksum << 32 | scale;
-    size_t index = first_from(table, 0, records, key, (uint8_t)code);
-    const uint8_t *record = table + WIDTH_RECORD * index;
-    if (index == records || unsigned8(record) != key || record[8] != (uint8_t)code) {
+    const struct key key = sought_key((uint64_t)checksum << 32 | scale, name, name_length);
+    const uint8_t *record = look_for(table, table_length / WIDTH_RECORD, &key, (uint8_t)code);
+    if (record == NULL) {
         answer[0] = 0;
         return 0;
     }
     answer[0] = 1;
-    answer[1] = (int16_t)unsigned2(record + 10);
+    answer[1] = (int16_t)unsigned2(record + ESCAPEMENT);
     for (int i = 0; i < 4; i++)
-        answer[2 + i] = record[12 + i];
+        answer[2 + i] = record[WIDTH + i];
+    return 0;
+}
+
+uint32_t plain_widen_table(const uint8_t *old, size_t old_length, uint8_t *area, size_t area_length, int64_t *answer,
+                           size_t answer_length)
+{
+    if (answer_length < 1)
+        return TOO_SHORT_ANSWER;
+    struct refusal refusal = widen(old, old_length, area, area_length);
+    if (refusal.number != 0)
+        return refused(refusal, answer);
+    answer[0] = (int64_t)(old_length / OLD_WIDTH_RECORD);
+    return 0;
+}
+
+uint32_t plain_narrow_table(const uint8_t *table, size_t table_length, uint8_t *area, size_t area_length, int64_t *answer,
+                            size_t answer_length)
+{
+    if (answer_length < 1)
+        return TOO_SHORT_ANSWER;
+    struct refusal refusal = narrow(table, table_length, area, area_length);
+    if (refusal.number != 0)
+        return refused(refusal, answer);
+    answer[0] = (int64_t)(table_length / WIDTH_RECORD);
     return 0;
 }
 

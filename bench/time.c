@@ -4,7 +4,7 @@
 #include "hurlyburn.h"
 #include "plain.h"
 
-enum entry { CHECK, PLACE, SCALE, TABLE, LOOK, WIDTHS, CUT };
+enum entry { CHECK, PLACE, SCALE, TABLE, LOOK, WIDTHS, CUT, WIDEN, NARROW };
 enum reader { PROVED, PLAIN };
 
 /* The fields of Question in bench/readers.py. */
@@ -18,6 +18,8 @@ struct question {
     size_t area_length;
     const uint32_t *pages;
     size_t pages_length;
+    const uint8_t *name;
+    size_t name_length;
     uint32_t resolution, page, checksum, scale;
     int32_t code;
     uint8_t word[4];
@@ -46,14 +48,20 @@ static inline uint32_t asked(enum reader reader, const struct question *q, int64
     case TABLE:
         return (reader == PROVED ? hurlyburn_check_table : plain_check_table)(q->table, q->table_length, answer, answer_length);
     case LOOK:
-        return (reader == PROVED ? hurlyburn_look_up : plain_look_up)(q->table, q->table_length, q->checksum, q->scale, q->code,
-                                                                      answer, answer_length);
+        return (reader == PROVED ? hurlyburn_look_up : plain_look_up)(q->table, q->table_length, q->checksum, q->scale, q->name,
+                                                                      q->name_length, q->code, answer, answer_length);
     case WIDTHS:
         return (reader == PROVED ? hurlyburn_width_table : plain_width_table)(q->file, q->file_length, q->scale, q->area,
                                                                               q->area_length, answer, answer_length);
-    default:
+    case CUT:
         return (reader == PROVED ? hurlyburn_cut_pages : plain_cut_pages)(q->file, q->file_length, q->pages, q->pages_length, q->area,
                                                                           q->area_length, answer, answer_length);
+    case WIDEN:
+        return (reader == PROVED ? hurlyburn_widen_table : plain_widen_table)(q->table, q->table_length, q->area, q->area_length,
+                                                                              answer, answer_length);
+    default:
+        return (reader == PROVED ? hurlyburn_narrow_table : plain_narrow_table)(q->table, q->table_length, q->area, q->area_length,
+                                                                                answer, answer_length);
     }
 }
 
