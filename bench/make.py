@@ -18,10 +18,13 @@ sys.path.insert(0, str(Path(__file__).resolve().parent.parent / "tests" / "compa
 import dvi  # noqa: E402
 import pk  # noqa: E402
 
+from readers import spelled  # noqa: E402
+
 LONGEST_FILE = 16_777_216
 MOST_PAGES = 65_535
 MOST_FONTS = 64
 CODES = 256
+WIDTH_RECORD, LONGEST_NAME = 32, 16  # bytes; of a name those that a record has room for
 RESOLUTION = 300
 SCALE = 655_360
 POINT = 65_536  # in TeX's units
@@ -237,8 +240,34 @@ def specials(most):
 # ---- width tables and pages to be placed ----
 
 
-def width_record(check_sum, scale, code, escapement, width):
-    return big(check_sum, 4) + big(scale, 4) + bytes([code, 0]) + big(escapement, 2) + big(width, 4)
+def width_record(check_sum, scale, code, escapement, width, name=b""):
+    return big(check_sum, 4) + big(scale, 4) + name.ljust(LONGEST_NAME, b"\0") + bytes([code, 0]) + big(escapement, 2) + big(width, 4)
+
+
+def records_of(table):
+    return [table[at : at + WIDTH_RECORD] for at in range(0, len(table), WIDTH_RECORD)]
+
+
+def in_old_form(table):
+    """A table for any names as it was before records had names."""
+    return b"".join(record[:8] + record[8 + LONGEST_NAME :] for record in records_of(table))
+
+
+def with_names(table, fonts, is_named):
+    """A table for any names with the records of some codes moved to their fonts' own names; `is_named` says which codes. A name that no record can have
+    stays any."""
+    names = {}
+    for font in fonts:
+        sayable = font.name if len(font.name) <= LONGEST_NAME and 0 not in font.name else b""
+        names.setdefault(big(font.check_sum, 4) + big(font.scale, 4), set()).add(sayable)
+    rows = set()
+    for record in records_of(table):
+        key, last_eight = record[:8], record[8 + LONGEST_NAME :]
+        rows |= {key + name.ljust(LONGEST_NAME, b"\0") + last_eight for name in (names[key] if is_named(last_eight[0]) else [b""])}
+    return b"".join(sorted(rows))
+
+
+NAMINGS = {"own": lambda code: True, "mixed": lambda code: code % 4 == 0}
 
 
 def table_for(rng, fonts, unit):
@@ -252,9 +281,22 @@ def table_for(rng, fonts, unit):
     return b"".join(rows)
 
 
+CODES_EACH = 128  # of a font in the tables that are checked and searched
+
+
+def font_of(index):
+    """The font of these tables that has such a number: names of one to sixteen bytes in turn, alike up to their last bytes."""
+    return dvi.Font(0, 7 * index + 1, 655_360, name=(b"%d" % index).rjust(1 + index % LONGEST_NAME, b"n")[-LONGEST_NAME:])
+
+
 def table_of(records):
-    """So many records, 128 codes a font."""
-    return b"".join(width_record(7 * (i // 128) + 1, 655_360, i % 128, i % 40, (i * 977) % (1 << 20)) for i in range(records))
+    """So many records for any names."""
+    return b"".join(width_record(7 * (i // CODES_EACH) + 1, 655_360, i % CODES_EACH, i % 40, (i * 977) % (1 << 20)) for i in range(records))
+
+
+def named_table_of(records, naming):
+    """The same, with own names for all or for a quarter of the codes."""
+    return with_names(table_of(records), [font_of(index) for index in range(-(-records // CODES_EACH))], NAMINGS[naming])
 
 
 def pages_in(data):
@@ -397,6 +439,19 @@ class Work:
         names, _ = self.keep_all(name, files)
         self.lines.append(f"place {group} {name} {size} {names} {self.keep(*table)} {RESOLUTION} 1")
 
+    def place_again(self, group, name, before, table):
+        """The files of a work that is there already, by another table."""
+        line = next(line for line in self.lines if line.split()[2] == before)
+        _, _, _, size, names, _, *numbers = line.split()
+        self.lines.append(f"place {group} {name} {size} {names} {table} {' '.join(numbers)}")
+
+    def table(self, group, records, data):
+        name = f"{group}-{records}"
+        self.lines.append(f"table {group} {name} {records} {self.keep(name, data)}")
+
+    def look(self, group, records, table, font, name, code):
+        self.lines.append(f"look {group} {group}-{records} {records} {table} {font.check_sum} {font.scale} {spelled(name)} {code}")
+
     def cut(self, group, name, names, which):
         """Pages of files that are kept already, by an area that always suffices."""
         files = [(self.folder / file).read_bytes() for file in names]
@@ -465,22 +520,50 @@ def place_jobs(work, rng, sizes):
             volume = Volume(fonts=fonts)
             volume.add(*page_of())
             files.append(volume.finished())
-        work.place(group, f"{group}-{size}", size, files, tables[len(fonts)])
+        table = tables[len(fonts)]
+        work.place(group, f"{group}-{size}", size, files, table)
+        if group.startswith(("flat", "deep")):
+            again.append((group, size, fonts, table))
 
+    again = []
     for size in sizes:
         for fonts, which in ((one, "one-font"), (many, "64-fonts")):
             add(f"flat-{which}", size, fonts, lambda: text_page(rng, size, fonts, False))
             add(f"deep-{which}", size, fonts, lambda: text_page(rng, size, fonts, True))
         add("moves", size, one, lambda: moves_page(rng, size))
         add("rules", size, (), lambda: rules_page(rng, size))
+    for naming in NAMINGS:
+        for group, size, fonts, (name, table) in again:
+            named = work.keep(f"{name}-{naming}", with_names(table, fonts, NAMINGS[naming]))
+            work.place_again(f"{group}-{naming}", f"{group}-{naming}-{size}", f"{group}-{size}", named)
 
 
 def table_jobs(work, sizes):
+    """Tables for any names, of own names, and of both; in each of them look-ups for its last font. A font's own name is not in the first one, as in every
+    table that was widened: there, and in the mixed one for most codes, the record for any name is found. A name that no table has is absent in the
+    second."""
     for records in sizes:
-        work.lines.append(f"table table table-{records} {records} {work.keep(f'table-{records}', table_of(records))}")
+        work.table("table", records, table_of(records))
+    for naming in NAMINGS:
+        for records in sizes:
+            work.table(f"table-{naming}", records, named_table_of(records, naming))
     for records in sizes:
-        last_font = 7 * ((records - 1) // 128) + 1
-        work.lines.append(f"look look-up look-up-{records} {records} table-{records} {last_font} 655360 {records // 3 % 128}")
+        font, code = font_of((records - 1) // CODES_EACH), records // 3 % CODES_EACH
+        work.look("look-up", records, f"table-{records}", font, font.name, code)
+    for records in sizes:
+        font, last = font_of((records - 1) // CODES_EACH), min(records, CODES_EACH)
+        work.look("look-own", records, f"table-own-{records}", font, font.name, last // 3)
+        work.look("look-any", records, f"table-mixed-{records}", font, font.name, last // 12 * 4 + 1)
+        work.look("look-absent", records, f"table-own-{records}", font, b"absent", last // 3)
+
+
+def form_jobs(work, sizes):
+    """Tables from the old form to the new one, and back."""
+    for records in sizes:
+        old = work.keep(f"old-table-{records}", in_old_form(table_of(records)))
+        work.lines.append(f"widen widen widen-{records} {records} {old}")
+    for records in sizes:
+        work.lines.append(f"narrow narrow narrow-{records} {records} {work.keep(f'table-{records}', table_of(records))}")
 
 
 def scale_jobs(work, rng):
@@ -500,19 +583,26 @@ def published_jobs(work, rng, published):
         units, fonts, pages = published_pages(data)
         file = work.keep(name, data)
         work.lines.append(f"check published {name} {len(data)} {file}")
-        table = work.keep(f"{name}.widths", table_for(rng, fonts.values(), unit_of(units, RESOLUTION)))
+        unnamed = table_for(rng, fonts.values(), unit_of(units, RESOLUTION))
+        tables = {"": work.keep(f"{name}.widths", unnamed)}
+        for naming, is_named in NAMINGS.items():
+            tables[f"-{naming}"] = work.keep(f"{name}.{naming}.widths", with_names(unnamed, fonts.values(), is_named))
         for page in sorted({1, (len(pages) + 1) // 2, len(pages)}):
-            work.lines.append(f"place published {name}-{page} {len(data)} {file} {table} {RESOLUTION} {page}")
+            for ending, table in tables.items():
+                work.lines.append(f"place published {name}-{page}{ending} {len(data)} {file} {table} {RESOLUTION} {page}")
         for which in ("all", "odd", "one"):
             work.cut("published", f"{name}-{which}", [file], which)
 
 
 def published_page_jobs(work, published, count):
-    """The fullest page of each of the largest published files, as `published_jobs` kept them. The size is the file's: placing judges it whole."""
-    for name, data in sorted(published.items(), key=lambda item: -len(item[1]))[:count]:
-        _, _, pages = published_pages(data)
-        fullest = max(range(len(pages)), key=lambda index: sum(map(len, pages[index][1])))
-        work.lines.append(f"place published-pages {name.removesuffix('.dvi')} {len(data)} {name} {name}.widths {RESOLUTION} {fullest + 1}")
+    """The fullest page of each of the largest published files, as `published_jobs` kept them, by a table for any names, by one of own names and by one of
+    both. The size is the file's: placing judges it whole."""
+    for naming in ("", *NAMINGS):
+        group, table = ("published-pages", "widths") if naming == "" else (f"published-pages-{naming}", f"{naming}.widths")
+        for name, data in sorted(published.items(), key=lambda item: -len(item[1]))[:count]:
+            _, _, pages = published_pages(data)
+            fullest = max(range(len(pages)), key=lambda index: sum(map(len, pages[index][1])))
+            work.lines.append(f"place {group} {name.removesuffix('.dvi')} {len(data)} {name} {name}.{table} {RESOLUTION} {fullest + 1}")
 
 
 def published_cut_jobs(work, published, count):
@@ -544,7 +634,7 @@ def real_font_jobs(work, fonts):
 def is_quick(line):
     """Whether a work is in the short form: one size or two of each group."""
     _, group, name, *_ = line.split()
-    return group in ("published-pages", "published-odd", "scale", "scale-halved", "pk-fonts") or name.removeprefix(group) in QUICK
+    return group.startswith("published-") or group in ("scale", "scale-halved", "pk-fonts") or name.removeprefix(group) in QUICK
 
 
 def main():
@@ -562,6 +652,7 @@ def main():
     published_page_jobs(work, published, 6)
     scale_jobs(work, random.Random(SEED))  # numbers of their own, so that the works after them keep their bytes
     table_jobs(work, list(steps(16, 65_536, 4)))
+    form_jobs(work, list(steps(16, 65_536, 4)))
     font_jobs(work, rng, list(steps(1 << 16, LONGEST_FILE, 4)))
     real_font_jobs(work, {name: fonts[name] for name in REAL_FONTS})
     cut_jobs(work, rng, list(steps(4, MOST_FONTS, 4)))

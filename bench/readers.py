@@ -4,10 +4,13 @@ import ctypes
 from pathlib import Path
 
 PROVED, PLAIN = 0, 1
-ENTRIES = ("check", "place", "scale", "table", "look", "widths", "cut")
-ANSWER_LENGTHS = {"check": 4, "place": 3, "scale": 1, "table": 1, "look": 6, "widths": 1, "cut": 1}
-NUMBERS = {"check": 0, "place": 2, "scale": 5, "table": 0, "look": 3, "widths": 1}  # behind the files; cut has a list
-RECORDS = {"place": 20, "widths": 16, "cut": 1}  # bytes, of the entries that write into an area; a file is counted in bytes
+ENTRIES = ("check", "place", "scale", "table", "look", "widths", "cut", "widen", "narrow")
+ANSWER_LENGTHS = {"check": 4, "place": 3, "scale": 1, "table": 1, "look": 6, "widths": 1, "cut": 1, "widen": 1, "narrow": 1}
+NUMBERS = {"check": 0, "place": 2, "scale": 5, "table": 0, "look": 3, "widths": 1, "widen": 0, "narrow": 0}  # behind the files; cut has a list
+WIDTH_RECORD, OLD_WIDTH_RECORD = 32, 16  # bytes
+RECORDS = {  # bytes, of the entries that write into an area; a file is counted in bytes
+    "place": 20, "widths": WIDTH_RECORD, "cut": 1, "widen": WIDTH_RECORD, "narrow": OLD_WIDTH_RECORD,
+}
 CODES = 256
 
 
@@ -24,6 +27,8 @@ class Question(ctypes.Structure):
         ("area_length", ctypes.c_size_t),
         ("pages", ctypes.c_void_p),
         ("pages_length", ctypes.c_size_t),
+        ("name", ctypes.c_char_p),
+        ("name_length", ctypes.c_size_t),
         ("resolution", ctypes.c_uint32),
         ("page", ctypes.c_uint32),
         ("checksum", ctypes.c_uint32),
@@ -34,11 +39,11 @@ class Question(ctypes.Structure):
 
 
 class Job:
-    """A question to one entry: where it comes from, its files, and its numbers."""
+    """A question to one entry: where it comes from, its files, a font's name, and its numbers."""
 
-    def __init__(self, entry, group, name, size=0, file=b"", table=b"", numbers=(), area_length=None):
+    def __init__(self, entry, group, name, size=0, file=b"", table=b"", numbers=(), area_length=None, font_name=b""):
         self.entry, self.group, self.name, self.size = entry, group, name, size
-        self.file, self.table = file, table
+        self.file, self.table, self.font_name = file, table, font_name
         self.resolution = self.page = self.checksum = self.scale = self.code = 0
         self.word = bytes(4)
         self.pages = listed(())
@@ -57,8 +62,11 @@ class Job:
 
     def enough(self):
         """An area that any page of the file fits into: a record takes a command, and a command a byte; or any font's records, one a code; or a
-        file of any pages, which has three 223s more than the old one at most."""
-        most = {"place": len(self.file), "widths": CODES, "cut": len(self.file) + 3}
+        file of any pages, which has three 223s more than the old one at most; or all records of the table."""
+        most = {
+            "place": len(self.file), "widths": CODES, "cut": len(self.file) + 3,
+            "widen": len(self.table) // OLD_WIDTH_RECORD, "narrow": len(self.table) // WIDTH_RECORD,
+        }  # fmt: skip
         return RECORDS.get(self.entry, 0) * most.get(self.entry, 0)
 
 
@@ -66,17 +74,29 @@ def listed(numbers):
     return (ctypes.c_uint32 * len(numbers))(*numbers)
 
 
+def spelled(name):
+    """A font's name as lines and manifests have it."""
+    return name.hex() or "-"
+
+
+def read_name(word):
+    """The bytes that `spelled` writes so; a line has bytes, a manifest a text."""
+    text = word.decode() if isinstance(word, bytes) else word
+    return b"" if text == "-" else bytes.fromhex(text)
+
+
 def job_of(words, files, group, name, size=0):
-    """ENTRY, its files, its numbers; for place and widths the length of the area may follow. Of cut the length of the area comes first, then the
-    list of pages."""
+    """ENTRY, its files, its numbers; for place, widths, widen and narrow the length of the area may follow. Of cut the length of the area comes first,
+    then the list of pages; of look the font's name stands before the code."""
     entry, *words = words
     file = files(words.pop(0)) if entry in ("check", "place", "widths", "cut") else b""
-    table = files(words.pop(0)) if entry in ("place", "table", "look") else b""
+    table = files(words.pop(0)) if entry in ("place", "table", "look", "widen", "narrow") else b""
+    font_name = read_name(words.pop(2)) if entry == "look" else b""
     numbers = [int(word) for word in words]
     if entry == "cut":
         return Job(entry, group, name, size, file, numbers=numbers[1:], area_length=numbers[0])
     area_length = numbers.pop() if len(numbers) > NUMBERS[entry] else None
-    return Job(entry, group, name, size, file, table, numbers, area_length)
+    return Job(entry, group, name, size, file, table, numbers, area_length, font_name)
 
 
 def in_full(word):
@@ -119,7 +139,7 @@ class Readers:
     def question(job, area):
         return Question(
             ENTRIES.index(job.entry), job.file, len(job.file), job.table, len(job.table), area, job.area_length,
-            ctypes.addressof(job.pages), len(job.pages), job.resolution, job.page, job.checksum, job.scale, job.code, tuple(job.word),
+            ctypes.addressof(job.pages), len(job.pages), job.font_name, len(job.font_name), job.resolution, job.page, job.checksum, job.scale, job.code, tuple(job.word),
         )  # fmt: skip
 
     def ask(self, reader, question, answer, answer_length):

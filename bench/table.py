@@ -5,8 +5,11 @@ pages that are cut out also how many times as long as the check of the same file
 import math
 import sys
 
-UNITS = {"check": "byte", "place": "record", "scale": "width", "table": "record", "look": "record", "widths": "byte", "cut": "byte"}
-OTHER_UNITS = {"moves": "move", "published-pages": "byte", "pk-packets": "packet"}
+UNITS = {
+    "check": "byte", "place": "record", "scale": "width", "table": "record", "look": "record", "widths": "byte", "cut": "byte", "widen": "record",
+    "narrow": "record",
+}
+OTHER_UNITS = {"moves": "move", "pk-packets": "packet", **{f"published-pages{names}": "byte" for names in ("", "-own", "-mixed")}}
 
 
 def exponent(points):
