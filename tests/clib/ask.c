@@ -1,5 +1,6 @@
-/* Answers every line of the desk (README.md at the top) through the C interface, for files of up to 17 MiB, areas of up to 32 MiB and lists of up to 70,000 pages. What a call must leave alone is looked at after each: where it did not, the answer is `guard broken`,
-   which no other program gives. */
+/* Answers every line of the desk (README.md at the top) through the C interface, for files of up to 17 MiB, areas of up to 32 MiB and lists
+   of up to 70,000 pages; a name has up to 255 bytes, as at the desk. What a call must leave alone is looked at after each: where it did
+   not, the answer is `guard broken`, which no other program gives. */
 #include "hurlyburn.h"
 #include "lent.h"
 #include <stdio.h>
@@ -9,6 +10,7 @@
 #define LONGEST_AREA (32u << 20)
 #define MOST_WORDS 7
 #define MOST_PAGES 70000u
+#define LONGEST_NAME 255u
 #define ROW 32
 
 static void no_input(void)
@@ -76,6 +78,28 @@ static int read_signed(const char *word, int32_t *number)
         return 0;
     *number = (int32_t)(negative ? -(int64_t)value : (int64_t)value);
     return 1;
+}
+
+/* The value of a digit, or 16: a capital letter is none. */
+static unsigned hexadecimal_digit(char sign)
+{
+    return sign >= '0' && sign <= '9' ? (unsigned)(sign - '0') : sign >= 'a' && sign <= 'f' ? (unsigned)(sign - 'a' + 10) : 16;
+}
+
+/* A name in lower-case hexadecimal, two digits a byte, or `-` for none, lent as an input is. */
+static int read_name(const char *word, struct input *name)
+{
+    uint8_t bytes[LONGEST_NAME];
+    size_t length = 0;
+    if (!strcmp(word, "-"))
+        return lend_copy(bytes, 0, name);
+    for (; *word; word += 2) {
+        unsigned high = hexadecimal_digit(word[0]), low = high < 16 ? hexadecimal_digit(word[1]) : 16;
+        if (low == 16 || length == LONGEST_NAME)
+            return 0;
+        bytes[length++] = (uint8_t)(16 * high + low);
+    }
+    return length > 0 && lend_copy(bytes, length, name);
 }
 
 /* ---- answers */
@@ -173,20 +197,12 @@ static void table(const char *name)
     take_back(&widths);
 }
 
-static void look(char *words[])
+static void looked_up(const struct input *widths, uint32_t checksum, uint32_t scale, const struct input *name, int32_t code)
 {
-    struct input widths;
     struct numbers answer;
-    uint32_t checksum, scale;
-    int32_t code;
-    if (!read_unsigned(words[2], &checksum) || !read_unsigned(words[3], &scale) || !read_signed(words[4], &code) ||
-        !lend_file(words[1], &widths)) {
-        no_input();
-        return;
-    }
     lend_numbers(&answer);
-    uint32_t result =
-        hurlyburn_look_up(widths.bytes, widths.length, checksum, scale, code, answer.number, HURLYBURN_LOOK_NUMBERS);
+    uint32_t result = hurlyburn_look_up(widths->bytes, widths->length, checksum, scale, name->length ? name->bytes : NULL, name->length,
+                                        code, answer.number, HURLYBURN_LOOK_NUMBERS);
     int absent = answer.number[0] == 0;
     if (is_result(result, &answer, absent ? 1 : HURLYBURN_LOOK_NUMBERS)) {
         if (absent)
@@ -195,7 +211,25 @@ static void look(char *words[])
             printf("found %lld %lld %lld %lld %lld\n", (long long)answer.number[1], (long long)answer.number[2],
                    (long long)answer.number[3], (long long)answer.number[4], (long long)answer.number[5]);
     }
-    take_back(&widths);
+}
+
+/* TABLE CHECKSUM SCALE NAME CODE */
+static void look(char *words[])
+{
+    struct input widths, name;
+    uint32_t checksum, scale;
+    int32_t code;
+    if (!read_unsigned(words[2], &checksum) || !read_unsigned(words[3], &scale) || !read_signed(words[5], &code) ||
+        !read_name(words[4], &name)) {
+        no_input();
+        return;
+    }
+    if (lend_file(words[1], &widths)) {
+        looked_up(&widths, checksum, scale, &name, code);
+        take_back(&widths);
+    } else
+        no_input();
+    take_back(&name);
 }
 
 static void print_hexadecimal(const uint8_t *bytes, size_t count)
@@ -283,6 +317,19 @@ static void place(char *words[])
     take_back(&file);
 }
 
+/* Width records of so many bytes, a line each, or a refusal, of a call that wrote into an area. */
+static void print_width_records(uint32_t code, const struct output *area, const struct numbers *answer, size_t record)
+{
+    size_t records = code == 0 ? (size_t)answer->number[0] : 0;
+    if (!only_front_written(area, record * records))
+        puts("guard broken");
+    else if (is_result(code, answer, 1)) {
+        for (size_t i = 0; i < records; i++)
+            print_hexadecimal(area->bytes + record * i, record);
+        printf("end %lld\n", (long long)answer->number[0]);
+    }
+}
+
 static void tabled(const struct input *pk, uint32_t scale, size_t room)
 {
     struct output area;
@@ -291,15 +338,35 @@ static void tabled(const struct input *pk, uint32_t scale, size_t room)
     lend_numbers(&answer);
     uint32_t code = hurlyburn_width_table(pk->bytes, pk->length, scale, area.bytes, area.length, answer.number,
                                           HURLYBURN_WIDTH_TABLE_NUMBERS);
-    size_t records = code == 0 ? (size_t)answer.number[0] : 0;
-    if (!only_front_written(&area, HURLYBURN_WIDTH_RECORD_BYTES * records))
-        puts("guard broken");
-    else if (is_result(code, &answer, HURLYBURN_WIDTH_TABLE_NUMBERS)) {
-        for (size_t i = 0; i < records; i++)
-            print_hexadecimal(area.bytes + HURLYBURN_WIDTH_RECORD_BYTES * i, HURLYBURN_WIDTH_RECORD_BYTES);
-        printf("end %lld\n", (long long)answer.number[0]);
-    }
+    print_width_records(code, &area, &answer, HURLYBURN_WIDTH_RECORD_BYTES);
     take_output_back(&area);
+}
+
+/* One of the two ways between a table's forms, and how many bytes a record has that it writes. */
+struct way {
+    uint32_t (*ask)(const uint8_t *table, size_t table_length, uint8_t *area, size_t area_length, int64_t *answer, size_t answer_length);
+    size_t numbers, record;
+};
+
+static const struct way widening = {hurlyburn_widen_table, HURLYBURN_WIDEN_NUMBERS, HURLYBURN_WIDTH_RECORD_BYTES};
+static const struct way narrowing = {hurlyburn_narrow_table, HURLYBURN_NARROW_NUMBERS, HURLYBURN_OLD_WIDTH_RECORD_BYTES};
+
+static void in_other_form(const struct way *way, char *words[])
+{
+    struct input given;
+    struct output area;
+    struct numbers answer;
+    uint64_t room;
+    if (!read_number(words[2], LONGEST_AREA, &room) || !lend_file(words[1], &given)) {
+        no_input();
+        return;
+    }
+    lend_output((size_t)room, &area);
+    lend_numbers(&answer);
+    uint32_t code = way->ask(given.bytes, given.length, area.bytes, area.length, answer.number, way->numbers);
+    print_width_records(code, &area, &answer, way->record);
+    take_output_back(&area);
+    take_back(&given);
 }
 
 static void width_table(char *words[])
@@ -405,8 +472,12 @@ static void answer_line(char *line)
         check(words[1]);
     else if (count == 2 && !strcmp(words[0], "table"))
         table(words[1]);
-    else if (count == 5 && !strcmp(words[0], "look"))
+    else if (count == 6 && !strcmp(words[0], "look"))
         look(words);
+    else if (count == 3 && !strcmp(words[0], "widen"))
+        in_other_form(&widening, words);
+    else if (count == 3 && !strcmp(words[0], "narrow"))
+        in_other_form(&narrowing, words);
     else if (count == 3 && !strcmp(words[0], "name"))
         name(words, 0);
     else if (count == 3 && !strcmp(words[0], "spell"))

@@ -1,7 +1,9 @@
 /* What a call of the C interface writes and what it leaves: every length of the answer array from none on, areas of every interesting
-   length, inputs of length 0, a PK font longer than 2^32 bytes. Takes a DVI file of two pages whose first has records, a width table that is
-   right for it, the number of a font that it defines, and a PK font: no comment, a first packet of the short form without a raster, a second of the
-   long form, the postamble byte at the end. Prints each failure, and how many tests passed and failed. */
+   length, inputs of length 0, names of every interesting length, a PK font and a name longer than 2^32 bytes. Takes a DVI file of two
+   pages whose first has records; a width table that is right for it, its first record for any name and its last for the name cmr10; the
+   number of a font that the file defines; a PK font: no comment, a first packet of the short form without a raster, a second of the
+   long form, the postamble byte at the end; and a width table of the old form, three records at least. Prints each failure, and how
+   many tests passed and failed. */
 #include "hurlyburn.h"
 #include "lent.h"
 #include <stdio.h>
@@ -12,7 +14,8 @@
 #define PAGE 1
 #define SCALE 655360
 
-static struct input file, widths, pk;
+static struct input file, widths, pk, old;
+static struct output wide; /* the old table in the new form, made by hand */
 static int32_t font;
 static const uint32_t both_pages[] = {1, 2};
 static unsigned passed, failed;
@@ -71,19 +74,32 @@ static uint32_t table(size_t less, struct output *area, int64_t *answer, size_t 
     return hurlyburn_check_table(widths.bytes, widths.length - less, answer, length);
 }
 
-/* the table's first record */
+static uint32_t look_for(const uint8_t *record, size_t less, int64_t *answer, size_t length)
+{
+    static const uint8_t own[] = "cmr10";
+    return hurlyburn_look_up(widths.bytes, widths.length - less, number_at(record), number_at(record + 4), own, sizeof own - 1, record[24],
+                             answer, length);
+}
+
+/* the table's first record, which is for any name */
 static uint32_t look(size_t less, struct output *area, int64_t *answer, size_t length)
 {
     (void)area;
-    return hurlyburn_look_up(widths.bytes, widths.length - less, number_at(widths.bytes), number_at(widths.bytes + 4),
-                             widths.bytes[8], answer, length);
+    return look_for(widths.bytes, less, answer, length);
+}
+
+/* the last, which is for the font's own */
+static uint32_t look_named(size_t less, struct output *area, int64_t *answer, size_t length)
+{
+    (void)area;
+    return look_for(widths.bytes + widths.length - HURLYBURN_WIDTH_RECORD_BYTES, less, answer, length);
 }
 
 /* scale 0 is in no right table */
 static uint32_t look_absent(size_t less, struct output *area, int64_t *answer, size_t length)
 {
     (void)area;
-    return hurlyburn_look_up(widths.bytes, widths.length - less, number_at(widths.bytes), 0, widths.bytes[8], answer, length);
+    return hurlyburn_look_up(widths.bytes, widths.length - less, number_at(widths.bytes), 0, NULL, 0, widths.bytes[24], answer, length);
 }
 
 static uint32_t name(size_t less, struct output *area, int64_t *answer, size_t length)
@@ -95,6 +111,16 @@ static uint32_t name(size_t less, struct output *area, int64_t *answer, size_t l
 static uint32_t tabled(size_t less, struct output *area, int64_t *answer, size_t length)
 {
     return hurlyburn_width_table(pk.bytes, pk.length - less, SCALE, area->bytes, area->length, answer, length);
+}
+
+static uint32_t widened(size_t less, struct output *area, int64_t *answer, size_t length)
+{
+    return hurlyburn_widen_table(old.bytes, old.length - less, area->bytes, area->length, answer, length);
+}
+
+static uint32_t narrowed(size_t less, struct output *area, int64_t *answer, size_t length)
+{
+    return hurlyburn_narrow_table(wide.bytes, wide.length - less, area->bytes, area->length, answer, length);
 }
 
 static uint32_t cut(size_t less, struct output *area, int64_t *answer, size_t length)
@@ -119,9 +145,12 @@ static const struct call {
     {"scale", HURLYBURN_SCALE_NUMBERS, 1, scaled},
     {"table", HURLYBURN_TABLE_NUMBERS, 1, table},
     {"look", HURLYBURN_LOOK_NUMBERS, 6, look},
+    {"look, named", HURLYBURN_LOOK_NUMBERS, 6, look_named},
     {"look, absent", HURLYBURN_LOOK_NUMBERS, 1, look_absent},
     {"name", HURLYBURN_NAME_NUMBERS, 2, name},
     {"widths", HURLYBURN_WIDTH_TABLE_NUMBERS, 1, tabled},
+    {"widen", HURLYBURN_WIDEN_NUMBERS, 1, widened},
+    {"narrow", HURLYBURN_NARROW_NUMBERS, 1, narrowed},
     {"cut", HURLYBURN_CUT_NUMBERS, 1, cut},
     {"cut, one page", HURLYBURN_CUT_NUMBERS, 1, cut_last},
 };
@@ -178,6 +207,8 @@ struct writer {
 
 static const struct writer placing = {"area of place", HURLYBURN_PLACE_NUMBERS, HURLYBURN_RECORD_BYTES, place};
 static const struct writer tabling = {"area of widths", HURLYBURN_WIDTH_TABLE_NUMBERS, HURLYBURN_WIDTH_RECORD_BYTES, tabled};
+static const struct writer widening = {"area of widen", HURLYBURN_WIDEN_NUMBERS, HURLYBURN_WIDTH_RECORD_BYTES, widened};
+static const struct writer narrowing = {"area of narrow", HURLYBURN_NARROW_NUMBERS, HURLYBURN_OLD_WIDTH_RECORD_BYTES, narrowed};
 static const struct writer cutting[] = {
     {"area of cut", HURLYBURN_CUT_NUMBERS, 1, cut},
     {"area of cut, one page", HURLYBURN_CUT_NUMBERS, 1, cut_last},
@@ -252,36 +283,48 @@ static void cut_areas(const struct writer *writer, int64_t pages)
     take_output_back(&area);
 }
 
-/* An area before memory that can neither be read nor written: as long as is needed, and shorter. */
-static void cut_at_edge(size_t bytes, size_t length)
+/* What is written is the table that was made by hand; and the other way the old table, to the byte. */
+static void other_form_areas(const struct writer *writer, const uint8_t *known, size_t length)
 {
-    struct edge area;
-    struct numbers answer;
-    if (!lend_edge(length, &area)) {
-        expect(0, "no memory", "edge of cut", length);
-        return;
-    }
-    lend_numbers(&answer);
-    uint32_t code = hurlyburn_cut_pages(file.bytes, file.length, both_pages, 2, area.bytes, area.length, answer.number, HURLYBURN_CUT_NUMBERS);
-    expect(length < bytes ? code == 17 && answer.number[0] == 0 : code == 0 && answer.number[0] == (int64_t)bytes, "another answer",
-           "edge of cut", length);
-    for (size_t i = 0; length < bytes && i < length; i++)
-        expect(area.bytes[i] == UNTOUCHED_BYTE, "a refused call writes into the area", "edge of cut", i);
-    take_edge_back(&area);
+    struct output area;
+    size_t records = areas(writer, &area);
+    expect(writer->record * records == length && !memcmp(area.bytes, known, length), "another table", writer->name, records);
+    take_output_back(&area);
 }
 
-static void cut_edges(void)
+/* An area before memory that can neither be read nor written. */
+static void at_edge(const struct writer *writer, size_t records, size_t length)
+{
+    struct edge edge;
+    struct numbers answer;
+    if (!lend_edge(length, &edge)) {
+        expect(0, "no memory before an edge", writer->name, length);
+        return;
+    }
+    struct output area = {edge.bytes, edge.length, NULL};
+    int fits = length >= writer->record * records;
+    lend_numbers(&answer);
+    uint32_t code = writer->ask(0, &area, answer.number, writer->numbers);
+    expect(fits ? code == 0 && answer.number[0] == (int64_t)records : code == 17 && answer.number[0] == 0, "another answer at an edge",
+           writer->name, length);
+    for (size_t i = 0; !fits && i < length; i++)
+        expect(edge.bytes[i] == UNTOUCHED_BYTE, "a refused call writes into the area at an edge", writer->name, i);
+    take_edge_back(&edge);
+}
+
+/* As long as is needed, and shorter. */
+static void edges(const struct writer *writer)
 {
     struct output area;
     struct numbers answer;
     lend_output(AREA, &area);
     lend_numbers(&answer);
-    size_t bytes = cut(0, &area, answer.number, HURLYBURN_CUT_NUMBERS) == 0 ? (size_t)answer.number[0] : 0;
+    size_t records = writer->ask(0, &area, answer.number, writer->numbers) == 0 ? (size_t)answer.number[0] : 0;
+    size_t bytes = writer->record * records;
     take_output_back(&area);
-    cut_at_edge(bytes, bytes);
-    cut_at_edge(bytes, bytes - 1);
-    cut_at_edge(bytes, 1);
-    cut_at_edge(bytes, 0);
+    expect(records > 0, "no records to test an edge with", writer->name, 0);
+    for (size_t i = 0; records > 0 && i < 4; i++)
+        at_edge(writer, records, (size_t[]){bytes, bytes - 1, 1, 0}[i]);
 }
 
 /* ---- refusals before the area is reached */
@@ -335,6 +378,51 @@ static void refused_cut(size_t less, const uint32_t *pages, size_t count, uint32
     }
 }
 
+/* Of a copy of a table with one byte made another, or cut, with room and without. */
+static void refused_form(const struct writer *writer, const uint8_t *table, size_t length, size_t at, uint8_t byte, uint32_t number, size_t place)
+{
+    struct output area, copy;
+    struct numbers answer;
+    lend_output(length, &copy);
+    memcpy(copy.bytes, table, length);
+    copy.bytes[at] = byte;
+    for (size_t room = 0; room <= AREA; room += AREA) {
+        lend_output(room, &area);
+        lend_numbers(&answer);
+        uint32_t code = (writer == &widening ? hurlyburn_widen_table : hurlyburn_narrow_table)(copy.bytes, length, area.bytes, area.length,
+                                                                                               answer.number, writer->numbers);
+        expect(code == number && answer.number[0] == (int64_t)place, "not the refusal that is tested", writer->name, at);
+        expect(only_front_written(&area, 0), "a refused call writes into the area", writer->name, number);
+        expect(only_front_numbers_written(&answer, 1), "a refused call writes more than the place", writer->name, number);
+        take_output_back(&area);
+    }
+    take_output_back(&copy);
+}
+
+/* A key that falls, the first byte of a scale, the byte 0, the first byte of a width, and bytes left over: 14 at the record, before all
+   else. A name is 24 at its record, before the area; the second record's name is judged after the whole table. A zero that is followed by another
+   byte is no name. */
+static void every_refusal_of_forms(void)
+{
+    enum { OLD = HURLYBURN_OLD_WIDTH_RECORD_BYTES, NEW = HURLYBURN_WIDTH_RECORD_BYTES };
+    refused_form(&widening, old.bytes, old.length, OLD, 0, 14, OLD);
+    refused_form(&widening, old.bytes, old.length, OLD + 4, 8, 14, OLD);
+    refused_form(&widening, old.bytes, old.length, OLD + 9, 1, 14, OLD);
+    refused_form(&widening, old.bytes, old.length, OLD + 12, 1, 14, OLD);
+    refused_form(&widening, old.bytes, old.length - 1, 0, old.bytes[0], 14, old.length - OLD);
+    refused_form(&widening, wide.bytes, wide.length, 0, wide.bytes[0], 14, OLD);
+    refused_form(&narrowing, wide.bytes, wide.length, NEW, 0, 14, NEW);
+    refused_form(&narrowing, wide.bytes, wide.length, NEW + 4, 8, 14, NEW);
+    refused_form(&narrowing, wide.bytes, wide.length, NEW + 9, 'a', 14, NEW);
+    refused_form(&narrowing, wide.bytes, wide.length, NEW + 23, 'a', 14, NEW);
+    refused_form(&narrowing, wide.bytes, wide.length, NEW + 25, 1, 14, NEW);
+    refused_form(&narrowing, wide.bytes, wide.length, NEW + 28, 1, 14, NEW);
+    refused_form(&narrowing, wide.bytes, wide.length - 1, NEW + 8, 'a', 14, wide.length - NEW);
+    refused_form(&narrowing, wide.bytes, wide.length, NEW + 8, 'a', 24, NEW);
+    refused_form(&narrowing, wide.bytes, wide.length, wide.length - NEW + 8, 255, 24, wide.length - NEW);
+    refused_form(&narrowing, old.bytes, old.length, 0, old.bytes[0], 14, 0);
+}
+
 /* The file is judged before the list, the list before the area. */
 static void every_refusal_of_cut(void)
 {
@@ -367,7 +455,7 @@ static void every_refusal_of_widths(void)
 
 static const uint8_t far_front[] = {247, 89, 0, 0, 0, 0, 0, 0, 0, 0, 7, 0, 0, 0, 0, 0, 0, 0, 0, 243, 255, 255, 255, 255};
 static const uint8_t far_end[] = {0, 8, 65, 1, 2, 3, 4, 0, 0, 0, 0, 245};
-static const uint8_t far_record[] = {0, 0, 0, 7, 0, 10, 0, 0, 65, 0, 0, 4, 0, 1, 2, 3};
+static const uint8_t far_record[] = {0, 0, 0, 7, 0, 10, 0, 0, [24] = 65, 0, 0, 4, 0, 1, 2, 3};
 
 static void far_font(void)
 {
@@ -398,6 +486,83 @@ static void far_font(void)
     take_back(&font);
 }
 
+/* ---- names: of one to sixteen bytes n each a record, whose escapement is their number, and one record for any name */
+
+#define LETTER 'n'
+#define ANY 100
+#define LONGEST_KEPT 16
+#define VERY_LONG 70000
+
+static uint8_t names_table[HURLYBURN_WIDTH_RECORD_BYTES * (LONGEST_KEPT + 1)];
+
+static void make_names_table(void)
+{
+    for (size_t length = 0; length <= LONGEST_KEPT; length++) {
+        uint8_t *record = names_table + HURLYBURN_WIDTH_RECORD_BYTES * length;
+        memset(record, 0, HURLYBURN_WIDTH_RECORD_BYTES);
+        record[7] = 1;
+        memset(record + 8, LETTER, length);
+        record[24] = 65;
+        record[27] = length ? (uint8_t)length : ANY;
+    }
+}
+
+/* A name that ends before memory that cannot be read, and the escapement that is to be found. */
+static void named(const struct input *name, size_t length, int64_t escapement)
+{
+    struct numbers answer;
+    lend_numbers(&answer);
+    uint32_t code = hurlyburn_look_up(names_table, sizeof names_table, 0, 1, length ? name->bytes : NULL, length, 65, answer.number,
+                                      HURLYBURN_LOOK_NUMBERS);
+    expect(code == 0 && answer.number[0] == 1 && answer.number[1] == escapement, "another record", "look by a name", length);
+    expect(only_front_numbers_written(&answer, HURLYBURN_LOOK_NUMBERS), "more is written than the answer's numbers", "look by a name", length);
+    code = hurlyburn_look_up(names_table, sizeof names_table, 0, 1, length ? name->bytes : NULL, length, 66, answer.number,
+                             HURLYBURN_LOOK_NUMBERS);
+    expect(code == 0 && answer.number[0] == 0, "a character that no record is for", "look by a name", length);
+    lend_numbers(&answer);
+    code = hurlyburn_look_up(names_table, sizeof names_table - 1, 0, 1, length ? name->bytes : NULL, length, 65, answer.number,
+                             HURLYBURN_LOOK_NUMBERS);
+    expect(code == 14 && answer.number[0] == sizeof names_table - HURLYBURN_WIDTH_RECORD_BYTES, "not 14", "look by a name", length);
+    expect(only_front_numbers_written(&answer, 1), "a refused call writes more than the place", "look by a name", length);
+}
+
+static void name_of(const uint8_t *bytes, size_t length, int64_t escapement)
+{
+    struct input name;
+    if (!lend_copy(bytes, length, &name)) {
+        expect(0, "no memory", "look by a name", length);
+        return;
+    }
+    named(&name, length, escapement);
+    take_back(&name);
+}
+
+/* More than sixteen bytes, and a zero among them at any place, is any name; so is a length that only modulo 2^32 is one. */
+static void every_name(void)
+{
+    static uint8_t bytes[VERY_LONG];
+    memset(bytes, LETTER, sizeof bytes);
+    make_names_table();
+    for (size_t length = 0; length <= 3 * LONGEST_KEPT; length++)
+        name_of(bytes, length, length && length <= LONGEST_KEPT ? (int64_t)length : ANY);
+    name_of(bytes, 255, ANY);
+    name_of(bytes, VERY_LONG, ANY);
+    for (size_t length = 1; length <= LONGEST_KEPT + 1; length++)
+        for (size_t zero = 0; zero < length; zero++) {
+            bytes[zero] = 0;
+            name_of(bytes, length, ANY);
+            bytes[zero] = LETTER;
+        }
+    struct input far;
+    size_t length = (size_t)UINT32_MAX + 2;
+    if (!lend_sparse(length, bytes, LONGEST_KEPT, bytes, LONGEST_KEPT, &far)) {
+        expect(0, "no address space", "look by a name", length);
+        return;
+    }
+    named(&far, length, ANY);
+    take_back(&far);
+}
+
 /* ---- inputs of length 0, lent as NULL */
 
 static const uint8_t no_packets[] = {247, 89, 0, 0, 0, 0, 0, 0, 0, 0, 7, 0, 0, 0, 0, 0, 0, 0, 0, 245};
@@ -418,7 +583,7 @@ static void nothing_lent(void)
     code = hurlyburn_check_table(NULL, 0, answer.number, HURLYBURN_TABLE_NUMBERS);
     expect(code == 0 && answer.number[0] == 0, "the empty table has records", "table", 0);
     lend_numbers(&answer);
-    code = hurlyburn_look_up(NULL, 0, 1, 1, 1, answer.number, HURLYBURN_LOOK_NUMBERS);
+    code = hurlyburn_look_up(NULL, 0, 1, 1, NULL, 0, 1, answer.number, HURLYBURN_LOOK_NUMBERS);
     expect(code == 0 && answer.number[0] == 0 && only_front_numbers_written(&answer, 1), "a character in the empty table", "look", 0);
     lend_numbers(&answer);
     code = hurlyburn_place_page(file.bytes, file.length, widths.bytes, widths.length, RESOLUTION, PAGE, NULL, 0, answer.number,
@@ -432,6 +597,18 @@ static void nothing_lent(void)
     code = hurlyburn_width_table(no_packets, sizeof no_packets, SCALE, NULL, 0, answer.number, HURLYBURN_WIDTH_TABLE_NUMBERS);
     expect(code == 0 && answer.number[0] == 0, "a font without packets has records", "widths", 0);
     expect(hurlyburn_width_table(NULL, 0, 0, NULL, 0, NULL, 0) == HURLYBURN_ARRAY_TOO_SHORT, "an array of none is not 255", "widths", 0);
+    lend_numbers(&answer);
+    code = hurlyburn_widen_table(NULL, 0, NULL, 0, answer.number, HURLYBURN_WIDEN_NUMBERS);
+    expect(code == 0 && answer.number[0] == 0, "the empty table has records", "widen", 0);
+    lend_numbers(&answer);
+    code = hurlyburn_narrow_table(NULL, 0, NULL, 0, answer.number, HURLYBURN_NARROW_NUMBERS);
+    expect(code == 0 && answer.number[0] == 0, "the empty table has records", "narrow", 0);
+    code = hurlyburn_widen_table(old.bytes, old.length, NULL, 0, answer.number, HURLYBURN_WIDEN_NUMBERS);
+    expect(code == 17 && answer.number[0] == 0, "an area of no bytes is not 17", "widen", 0);
+    code = hurlyburn_narrow_table(wide.bytes, wide.length, NULL, 0, answer.number, HURLYBURN_NARROW_NUMBERS);
+    expect(code == 17 && answer.number[0] == 0, "an area of no bytes is not 17", "narrow", 0);
+    expect(hurlyburn_widen_table(NULL, 0, NULL, 0, NULL, 0) == HURLYBURN_ARRAY_TOO_SHORT, "an array of none is not 255", "widen", 0);
+    expect(hurlyburn_narrow_table(NULL, 0, NULL, 0, NULL, 0) == HURLYBURN_ARRAY_TOO_SHORT, "an array of none is not 255", "narrow", 0);
     code = hurlyburn_cut_pages(NULL, 0, NULL, 0, NULL, 0, answer.number, HURLYBURN_CUT_NUMBERS);
     expect(code == 2 && answer.number[0] == 0, "the empty file is not 2 at 0", "cut", 0);
     code = hurlyburn_cut_pages(file.bytes, file.length, both_pages, 2, NULL, 0, answer.number, HURLYBURN_CUT_NUMBERS);
@@ -440,27 +617,46 @@ static void nothing_lent(void)
     expect(hurlyburn_check_file(file.bytes, file.length, NULL, 0) == HURLYBURN_ARRAY_TOO_SHORT, "an array of none is not 255", "check", 0);
 }
 
+/* The old table with zeros for names. */
+static void make_wide(void)
+{
+    size_t records = old.length / HURLYBURN_OLD_WIDTH_RECORD_BYTES;
+    lend_output(HURLYBURN_WIDTH_RECORD_BYTES * records, &wide);
+    memset(wide.bytes, 0, wide.length);
+    for (size_t i = 0; i < records; i++) {
+        memcpy(wide.bytes + HURLYBURN_WIDTH_RECORD_BYTES * i, old.bytes + HURLYBURN_OLD_WIDTH_RECORD_BYTES * i, 8);
+        memcpy(wide.bytes + HURLYBURN_WIDTH_RECORD_BYTES * i + 24, old.bytes + HURLYBURN_OLD_WIDTH_RECORD_BYTES * i + 8, 8);
+    }
+}
+
 int main(int count, char **words)
 {
-    if (count != 5 || !lend_file(words[1], &file) || !lend_file(words[2], &widths) || widths.length < 16 || !lend_file(words[4], &pk) ||
-        pk.length < 42) {
-        puts("use: bounds FILE TABLE FONT PK");
+    if (count != 6 || !lend_file(words[1], &file) || !lend_file(words[2], &widths) || widths.length < HURLYBURN_WIDTH_RECORD_BYTES ||
+        !lend_file(words[4], &pk) || pk.length < 42 || !lend_file(words[5], &old) || old.length < 3 * HURLYBURN_OLD_WIDTH_RECORD_BYTES) {
+        puts("use: bounds FILE TABLE FONT PK OLD-TABLE");
         return 2;
     }
     font = (int32_t)strtoul(words[3], NULL, 10);
+    make_wide();
     for (size_t i = 0; i < CALLS; i++)
         for (size_t less = 0; less < 2; less++)
             every_length(&calls[i], less);
     placed_areas();
     tabled_areas();
+    other_form_areas(&widening, wide.bytes, wide.length);
+    other_form_areas(&narrowing, old.bytes, old.length);
     cut_areas(&cutting[0], 2);
     cut_areas(&cutting[1], 1);
-    cut_edges();
+    edges(&widening);
+    edges(&narrowing);
+    edges(&cutting[0]);
     refused_place(0, PAGE, 12);
     refused_place(RESOLUTION, 0, 15);
     every_refusal_of_widths();
+    every_refusal_of_forms();
     every_refusal_of_cut();
     far_font();
+    every_name();
     nothing_lent();
     printf("%u passed, %u failed\n", passed, failed);
     return failed != 0;
