@@ -1,5 +1,5 @@
-"""The questions of tests/compare as jobs: made-up files, each group for one notion, bars, fonts' scales, widths, PK fonts, files of chosen pages, published
-files, and damaged ones."""
+"""The questions of tests/compare as jobs: made-up files, each group for one notion, bars, fonts' scales, widths, width tables with names, PK fonts, files of
+chosen pages, published files, and damaged ones."""
 
 import contextlib
 import random
@@ -12,6 +12,7 @@ import cut  # noqa: E402
 import damaged  # noqa: E402
 import dvi  # noqa: E402
 import made_up  # noqa: E402
+import named  # noqa: E402
 import packed  # noqa: E402
 import pktype  # noqa: E402
 import published  # noqa: E402
@@ -82,6 +83,7 @@ def ask_all(take, seed, damaged_files):
     made_up.scale_groups(gather, lambda name: random.Random(f"{seed} {name}"), False)
     with gather("lines: scaling") as group:
         single_lines.scaling(group, random.Random(f"{seed} scaling"), 400)
+    named.groups(gather, numbers, False, lambda name: name != "named: lines")
     small = [path.read_bytes() for path in paths if path.stat().st_size <= 2000]
     damaged.groups(gather, random.Random(f"{seed} damaged"), small, damaged_files, False)
     packed.groups(gather, lambda name: random.Random(f"{seed} {name}"), False, lambda name: name != "packed: lines")

@@ -1,5 +1,6 @@
-/* example FILE R PAGE: checks a DVI file through the C interface and prints what is on one page, at R dots per inch, with an empty
-   width table: its rules alone, since every character is missing then. A real caller lends a width table of its fonts.
+/* example FILE R PAGE [TABLE]: checks a DVI file through the C interface and prints what is on one page, at R dots per inch, by a width
+   table of its fonts. The table may be of the old form; it is widened then. Without one the page's rules alone are printed, since every
+   character is missing.
 
        cc -I include include/example.c target/staticlib/libclib.a -o example */
 #include "hurlyburn.h"
@@ -31,14 +32,32 @@ static int refused(uint32_t code, const int64_t *answer)
     return 1;
 }
 
+/* A table as it is to be lent, in memory that the caller frees: as it was read or, where it is of the old form, widened. What is of
+   neither form stays as it is, and placing tells where it is wrong. */
+static uint8_t *in_new_form(uint8_t *table, size_t *length)
+{
+    int64_t answer[HURLYBURN_TABLE_NUMBERS];
+    if (hurlyburn_check_table(table, *length, answer, HURLYBURN_TABLE_NUMBERS) == HURLYBURN_GIVEN)
+        return table;
+    size_t room = *length / HURLYBURN_OLD_WIDTH_RECORD_BYTES * HURLYBURN_WIDTH_RECORD_BYTES;
+    uint8_t *wide = malloc(room + 1);
+    if (!wide || hurlyburn_widen_table(table, *length, wide, room, answer, HURLYBURN_WIDEN_NUMBERS) != HURLYBURN_GIVEN) {
+        free(wide);
+        return table;
+    }
+    free(table);
+    *length = room;
+    return wide;
+}
+
 /* Prints a page's records. The area is doubled until they fit: a refusal writes nothing, so the same call can be made again. */
-static int print_page(const uint8_t *file, size_t length, uint32_t resolution, uint32_t page)
+static int print_page(const uint8_t *file, size_t length, const uint8_t *table, size_t table_length, uint32_t resolution, uint32_t page)
 {
     int64_t answer[HURLYBURN_PLACE_NUMBERS] = {0};
     uint32_t code = 17;
     size_t room = 64 * HURLYBURN_RECORD_BYTES;
     uint8_t *area = malloc(room);
-    while (area && (code = hurlyburn_place_page(file, length, NULL, 0, resolution, page, area, room, answer,
+    while (area && (code = hurlyburn_place_page(file, length, table, table_length, resolution, page, area, room, answer,
                                                 HURLYBURN_PLACE_NUMBERS)) == 17) {
         free(area);
         area = malloc(room *= 2);
@@ -57,23 +76,32 @@ static int print_page(const uint8_t *file, size_t length, uint32_t resolution, u
     return 0;
 }
 
-int main(int count, char **words)
+/* Checks the file, and prints the page if it is right. */
+static int checked(const uint8_t *file, size_t length, const uint8_t *table, size_t table_length, char **words)
 {
-    size_t length;
-    uint8_t *file = count == 4 ? contents(words[1], &length) : NULL;
-    if (!file) {
-        fprintf(stderr, "use: example FILE R PAGE\n");
-        return 2;
-    }
     int64_t answer[HURLYBURN_CHECK_NUMBERS];
     uint32_t code = hurlyburn_check_file(file, length, answer, HURLYBURN_CHECK_NUMBERS);
-    int status;
-    if (code == HURLYBURN_GIVEN) {
-        printf("%lld pages, %lld fonts, depth %lld, post at %lld\n", (long long)answer[0], (long long)answer[1], (long long)answer[2],
-               (long long)answer[3]);
-        status = print_page(file, length, (uint32_t)strtoul(words[2], NULL, 10), (uint32_t)strtoul(words[3], NULL, 10));
-    } else
-        status = refused(code, answer);
+    if (code != HURLYBURN_GIVEN)
+        return refused(code, answer);
+    printf("%lld pages, %lld fonts, depth %lld, post at %lld\n", (long long)answer[0], (long long)answer[1], (long long)answer[2],
+           (long long)answer[3]);
+    return print_page(file, length, table, table_length, (uint32_t)strtoul(words[0], NULL, 10), (uint32_t)strtoul(words[1], NULL, 10));
+}
+
+int main(int count, char **words)
+{
+    size_t length = 0, table_length = 0;
+    uint8_t *file = count == 4 || count == 5 ? contents(words[1], &length) : NULL;
+    uint8_t *table = file && count == 5 ? contents(words[4], &table_length) : NULL;
+    if (!file || (count == 5 && !table)) {
+        fprintf(stderr, "use: example FILE R PAGE [TABLE]\n");
+        free(file);
+        return 2;
+    }
+    if (table)
+        table = in_new_form(table, &table_length);
+    int status = checked(file, length, table, table_length, words + 2);
+    free(table);
     free(file);
     return status;
 }

@@ -2,8 +2,8 @@
    length, inputs of length 0, names of every interesting length, a PK font and a name longer than 2^32 bytes. Takes a DVI file of two
    pages whose first has records; a width table that is right for it, its first record for any name and its last for the name cmr10; the
    number of a font that the file defines; a PK font: no comment, a first packet of the short form without a raster, a second of the
-   long form, the postamble byte at the end; and a width table of the old form, three records at least. Prints each failure, and how
-   many tests passed and failed. */
+   long form, the postamble byte at the end; and a width table of the old form: three records, the last of another check sum than the
+   others. Prints each failure, and how many tests passed and failed. */
 #include "hurlyburn.h"
 #include "lent.h"
 #include <stdio.h>
@@ -399,24 +399,25 @@ static void refused_form(const struct writer *writer, const uint8_t *table, size
     take_output_back(&copy);
 }
 
-/* A key that falls, the first byte of a scale, the byte 0, the first byte of a width, and bytes left over: 14 at the record, before all
-   else. A name is 24 at its record, before the area; the second record's name is judged after the whole table. A zero that is followed by another
-   byte is no name. */
+/* A code that falls, a scale, the byte 0, the first byte of a width, and bytes left over: 14 at the record, before all else. A zero that is
+   followed by another byte is no name, so 14. A name is 24 at its record, before the area and after the whole table: where the first
+   record gets one, the key of the second falls, and where the last is cut, that is 14. */
 static void every_refusal_of_forms(void)
 {
     enum { OLD = HURLYBURN_OLD_WIDTH_RECORD_BYTES, NEW = HURLYBURN_WIDTH_RECORD_BYTES };
-    refused_form(&widening, old.bytes, old.length, OLD, 0, 14, OLD);
+    refused_form(&widening, old.bytes, old.length, OLD + 8, 0, 14, OLD);
     refused_form(&widening, old.bytes, old.length, OLD + 4, 8, 14, OLD);
     refused_form(&widening, old.bytes, old.length, OLD + 9, 1, 14, OLD);
     refused_form(&widening, old.bytes, old.length, OLD + 12, 1, 14, OLD);
     refused_form(&widening, old.bytes, old.length - 1, 0, old.bytes[0], 14, old.length - OLD);
     refused_form(&widening, wide.bytes, wide.length, 0, wide.bytes[0], 14, OLD);
-    refused_form(&narrowing, wide.bytes, wide.length, NEW, 0, 14, NEW);
+    refused_form(&narrowing, wide.bytes, wide.length, NEW + 24, 0, 14, NEW);
     refused_form(&narrowing, wide.bytes, wide.length, NEW + 4, 8, 14, NEW);
     refused_form(&narrowing, wide.bytes, wide.length, NEW + 9, 'a', 14, NEW);
     refused_form(&narrowing, wide.bytes, wide.length, NEW + 23, 'a', 14, NEW);
     refused_form(&narrowing, wide.bytes, wide.length, NEW + 25, 1, 14, NEW);
     refused_form(&narrowing, wide.bytes, wide.length, NEW + 28, 1, 14, NEW);
+    refused_form(&narrowing, wide.bytes, wide.length, 8, 'a', 14, NEW);
     refused_form(&narrowing, wide.bytes, wide.length - 1, NEW + 8, 'a', 14, wide.length - NEW);
     refused_form(&narrowing, wide.bytes, wide.length, NEW + 8, 'a', 24, NEW);
     refused_form(&narrowing, wide.bytes, wide.length, wide.length - NEW + 8, 255, 24, wide.length - NEW);

@@ -9,6 +9,7 @@ import dvi
 import pk
 import tables
 from dvi import MARK, NOTHING, PLAIN_UNITS, big
+from made_up import look
 
 LONGEST = 16_777_216
 MOST_PAGES = 65_535
@@ -207,36 +208,93 @@ def many_records(keep, rng):
         raise AssertionError("the page has not both characters and missing ones")
 
 
+def keys_and_codes(rng, count):
+    """So many keys in their order: check sum and scale, each with all codes for any name, for a name and for one that is alike up to its last byte, or for
+    two of these three."""
+    keys = {(rng.randrange(1 << 32), rng.randrange(1, dvi.GREATEST_SCALE + 1)) for _ in range(count // 512 + 1)}
+    names = [b"", b"cmr10", b"cmr17", bytes(range(1, 17)), bytes([*range(1, 16), 17])]
+    every = []
+    for key in sorted(keys):
+        first = rng.choice([1, 3])
+        for name in rng.choice([names[:1] + names[first : first + 2], names[:1] + names[first : first + 1], names[first : first + 2]]):
+            every += [(*key, name, code) for code in range(256)]
+    return every[:count]
+
+
 def long_tables(keep, rng):
-    """Width tables of 65,536 records and more; look-ups at their ends; wrong records near the end."""
+    """Width tables of 65,536 records and more; look-ups at their ends, by own names and by any; wrong records near the end."""
     for count in (65_536, 300_000):
-        keys = [(rng.randrange(1 << 32), rng.randrange(1, dvi.GREATEST_SCALE + 1)) for _ in range(count // 256 + 1)]
-        every = [(*key, code) for key in sorted(set(keys)) for code in range(256)][:count]
-        rows = [tables.record(*key, rng.randrange(-32768, 32768), tables.made_up_width(rng)) for key in every]
+        every = keys_and_codes(rng, count)
+        rows = [tables.record(c, s, code, rng.randrange(-32768, 32768), tables.made_up_width(rng), name=name) for c, s, name, code in every]
+        found = {key: b"found %d %d %d %d %d" % (dvi.signed(row[26:28]), *row[28:]) for key, row in zip(every, rows)}
         data = b"".join(rows)
         file = keep(data)
+
+        def asked(c, s, name, code):
+            """By the own name first, then by any."""
+            return look(file, c, s, name, code), found.get((c, s, name, code % 256)) or found.get((c, s, b"", code % 256)) or b"absent"
+
+        some = [every[0], every[-1], *rng.sample(every, 30)]
         yield f"a table of {count} records", [(b"table %s" % file, b"right %d" % count)] + [
-            (b"look %s %d %d %d" % (file, c, s, code), b"found ") for c, s, code in (every[0], every[-1], *rng.sample(every, 8))
+            asked(c, s, other, code) for c, s, name, code in some for other in (name, b"", b"cmr1", name + b"0")
         ] + [
-            (b"look %s %d %d %d" % (file, c, s, code - 256), b"found ") for c, s, code in rng.sample(every, 2)
+            asked(c, s, name, code - 256) for c, s, name, code in rng.sample(every, 2)
         ] + [
-            (b"look %s %d %d %d" % (file, c, s + 1, code), b"absent") for c, s, code in (every[-1], *rng.sample(every, 3))
+            asked(c, s + 1, name, code) for c, s, name, code in (every[-1], *rng.sample(every, 3))
         ]
-        last = len(data) - 16
+        last = len(data) - tables.RECORD
         wrong = {
             data[:-4] + b"\1" + data[-3:]: last,
             data[:-7] + b"\1" + data[-6:]: last,
-            data[:last] + data[last - 16 : last]: last,
+            data[:-9] + b"\1" + data[-8:] if 0 in data[last + 8 : -9] else data[: last + 8] + b"\0" + data[last + 9 :]: last,
+            data[:last] + data[last - tables.RECORD : last]: last,
             data + data[:7]: len(data),
-            data[: last - 16] + rows[-1] + rows[-2]: last,
+            data[: last - tables.RECORD] + rows[-1] + rows[-2]: last,
         }
-        c, s, code = every[0]
+        c, s, name, code = every[0]
         yield f"wrong near the end of {count} records", [
             question for table, at in wrong.items() for question in (
                 (b"table %s" % keep(table), b"refused 14 at %d" % at),
-                (b"look %s %d %d %d" % (keep(table), c, s, code), b"refused 14 at %d" % at),
+                (look(keep(table), c, s, name, code), b"refused 14 at %d" % at),
+                (b"narrow %s 0" % keep(table), b"refused 14 at %d" % at),
             )
         ]
+        yield from other_forms(keep, rng, rows)
+
+
+def in_lines(records):
+    return b"".join(b"%s\n" % record.hex().encode() for record in records) + b"end %d" % len(records)
+
+
+def other_forms(keep, rng, named):
+    """As many records, for any names, from the old form to the new one and back: areas that just suffice, are a byte short, and are longer; a byte too many;
+    the last record wrong, and the last one with a name."""
+    keys = sorted({row[:8] + row[24:25] for row in named})
+    old = [key + b"\0" + named[at][26:] for at, key in enumerate(keys)]
+    new = [row[:8] + tables.ANY + row[8:] for row in old]
+    small, large = b"".join(old), b"".join(new)
+    last = rng.choice([b"n", b"n" * 16]).ljust(16, b"\0")
+    with_name = large[:-24] + last + large[-8:]
+    count = len(old)
+    there, back = keep(small), keep(large)
+    yield f"{count} records in the other form", [
+        (b"widen %s %d" % (there, len(large)), in_lines(new)),
+        (b"widen %s %d" % (there, len(large) + 1000), in_lines(new)),
+        (b"widen %s %d" % (there, len(large) - 1), b"refused 17 at 0"),
+        (b"widen %s %d" % (there, len(small)), b"refused 17 at 0"),
+        (b"widen %s 0" % keep(small + b"\0"), b"refused 14 at %d" % len(small)),
+        (b"widen %s 0" % keep(small[:-1]), b"refused 14 at %d" % (len(small) - 16)),
+        (b"widen %s %d" % (keep(small[:-4] + b"\1" + small[-3:]), 2 * len(large)), b"refused 14 at %d" % (len(small) - 16)),
+        (b"widen %s %d" % (keep(small[:-16] + small[-32:-16]), 2 * len(large)), b"refused 14 at %d" % (len(small) - 16)),
+        (b"table %s" % back, b"right %d" % count),
+        (b"narrow %s %d" % (back, len(small)), in_lines(old)),
+        (b"narrow %s %d" % (back, len(small) + 1000), in_lines(old)),
+        (b"narrow %s %d" % (back, len(small) - 1), b"refused 17 at 0"),
+        (b"narrow %s %d" % (keep(large + b"\0"), len(small)), b"refused 14 at %d" % len(large)),
+        (b"narrow %s %d" % (keep(with_name), len(small)), b"refused 24 at %d" % (len(large) - 32)),
+        (b"narrow %s 0" % keep(with_name), b"refused 24 at %d" % (len(large) - 32)),
+        (b"narrow %s 0" % keep(with_name + b"\0"), b"refused 14 at %d" % len(large)),
+    ]
 
 
 def long_fonts(keep):
@@ -248,7 +306,7 @@ def long_fonts(keep):
                      for code, escapement, width in ((3, -2, bytes([255] * 4)), (200, 255, big(700_000, 4))))
     both = b"%s\n%s\nend 2" % (first, second)
 
-    def ask(data, area=32):
+    def ask(data, area=2 * tables.RECORD):
         return b"widths %s 655360 %d" % (keep(data), area)
 
     def in_special(filling):
@@ -256,9 +314,9 @@ def long_fonts(keep):
 
     just = keep(filled(in_special, LONGEST + 1))
     yield "a PK font a byte longer than a DVI file may be", [
-        (b"widths %s 655360 32" % just, both),
-        (b"widths %s 655360 31" % just, b"refused 17 at 0"),
-        (b"widths %s 0 32" % just, b"refused 22 at 0"),
+        (b"widths %s 655360 %d" % (just, 2 * tables.RECORD), both),
+        (b"widths %s 655360 %d" % (just, 2 * tables.RECORD - 1), b"refused 17 at 0"),
+        (b"widths %s 0 %d" % (just, 2 * tables.RECORD), b"refused 22 at 0"),
     ]
     length = 17 << 20
     data, last = filled(in_special, length), length - 1 - len(two)
