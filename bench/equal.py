@@ -198,13 +198,17 @@ def compare_names(comparing, rng):
 
 
 def small_tables():
-    """Three records each, so that one of them has a neighbour on both sides: codes, names, scales and check sums that differ; a name in one of them."""
+    """Three records each, so that one of them has a neighbour on both sides: codes, names, scales and check sums that differ; a name in one of them. Then
+    one record each, whose key is all zeros and all ones but for the scale: no value can stand for the record before the first."""
     record = width_record
     yield b"".join(record(7, SCALE, code, -code, 300_000 + code) for code in (65, 66, 67))
     yield b"".join(record(7, SCALE, 65, 5, 300_000, name) for name in (b"", b"cmr10", b"cmr10 at sixteen"))
     yield record(7, SCALE, 66, 5, 1) + record(7, SCALE, 65, 5, 2, b"n" * 8) + record(7, SCALE, 65, 5, 3, b"n" * 9)
     yield record(6, SCALE, 255, 5, 1) + record(7, 1, 0, 5, 2) + record(7, SCALE, 65, 5, 3)
     yield record(7, SCALE, 65, 5, 1, b"n") + record(7, SCALE + 1, 65, 5, 2) + record(8, 1, 65, 5, 3)
+    for scale, code in itertools.product((0, 1, 134_217_727, GREATEST), (0, 65, 255)):
+        yield record(0, scale, code, 5, 1)
+        yield record(GREATEST, scale, code, 5, 1, b"\xff" * LONGEST_NAME)
 
 
 def with_bytes_changed(table):

@@ -597,12 +597,12 @@ def published_jobs(work, rng, published):
 def published_page_jobs(work, published, count):
     """The fullest page of each of the largest published files, as `published_jobs` kept them, by a table for any names, by one of own names and by one of
     both. The size is the file's: placing judges it whole."""
-    for naming in ("", *NAMINGS):
-        group, table = ("published-pages", "widths") if naming == "" else (f"published-pages-{naming}", f"{naming}.widths")
+    for ending, table in (("", "widths"), *((f"-{naming}", f"{naming}.widths") for naming in NAMINGS)):
         for name, data in sorted(published.items(), key=lambda item: -len(item[1]))[:count]:
             _, _, pages = published_pages(data)
             fullest = max(range(len(pages)), key=lambda index: sum(map(len, pages[index][1])))
-            work.lines.append(f"place {group} {name.removesuffix('.dvi')} {len(data)} {name} {name}.{table} {RESOLUTION} {fullest + 1}")
+            title = name.removesuffix(".dvi") + ending
+            work.lines.append(f"place published-pages{ending} {title} {len(data)} {name} {name}.{table} {RESOLUTION} {fullest + 1}")
 
 
 def published_cut_jobs(work, published, count):

@@ -333,7 +333,7 @@ static inline int64_t scaled(uint64_t sixteenfold, uint8_t first, uint32_t last_
 /* ---- the width table ---- */
 
 /* Places in a record of the new form; an old one has no name, and its last eight bytes stand right behind the scale. */
-enum { NAME = 8, LAST_EIGHT = 24, CODE = LAST_EIGHT, ZERO = CODE + 1, ESCAPEMENT = CODE + 2, WIDTH = CODE + 4 };
+enum { NAME = 8, LAST_EIGHT = 24, CODE = LAST_EIGHT, ESCAPEMENT = CODE + 2, WIDTH = CODE + 4 };
 #define LONGEST_NAME 16u
 
 /* A record's key but for the code: check sum and scale, and the name. */
@@ -398,38 +398,42 @@ static inline int name_then_zeros(const uint64_t name[2])
     return name[1] == 0 ? !has_zero_byte(filled_up(name[0])) : !has_zero_byte(name[0]) && !has_zero_byte(filled_up(name[1]));
 }
 
+/* The zero byte and the width's first, by one number and one branch. */
 static inline int lawful_end(const uint8_t *last_eight)
 {
-    return last_eight[ZERO - CODE] == 0 && (uint8_t)(last_eight[WIDTH - CODE] + 1) <= 1;
+    const uint64_t word = unsigned8(last_eight);
+    return ((word >> 48 & 0xff) == 0) & ((uint8_t)((word >> 24) + 1) <= 1);
 }
 
-static inline int same_font(const uint8_t *one, const uint8_t *other)
-{
-    return ((eight(one) ^ eight(other)) | (eight(one + NAME) ^ eight(other + NAME)) | (eight(one + NAME + 8) ^ eight(other + NAME + 8))) == 0;
-}
-
-/* 14. Where it is right, the place of the first record that has a name, or the table's length. */
+/* 14. Where it is right, the place of the first record that has a name, or the table's length. Check sum, scale and name are judged once
+   for all records that share them. */
 static struct refusal judge_table(const uint8_t *table, size_t length, size_t *named)
 {
     const size_t whole = length - length % WIDTH_RECORD;
     struct key last = { 0, { 0, 0 } }; /* a lawful scale is not 0, so every lawful key is above it */
+    size_t at = 0;
     *named = length;
-    for (size_t at = 0; at < whole; at += WIDTH_RECORD) {
+    while (at < whole) {
         const uint8_t *record = table + at;
-        if (at > 0 && same_font(record, record - WIDTH_RECORD)) {
-            /* what is not the code was judged with the first record of this font */
-            if (record[CODE] <= record[CODE - (int)WIDTH_RECORD])
-                return refuse(14, at);
-        } else {
-            const struct key key = key_of(record);
-            if (!is_less(&last, &key) || !lawful_size((uint32_t)key.sum_and_scale) || !name_then_zeros(key.name))
-                return refuse(14, at);
-            if (has_name(&key) && *named == length)
-                *named = at;
-            last = key;
-        }
-        if (!lawful_end(record + LAST_EIGHT))
+        const struct key key = key_of(record);
+        if (!is_less(&last, &key) || !lawful_size((uint32_t)key.sum_and_scale) || !name_then_zeros(key.name))
             return refuse(14, at);
+        if (has_name(&key) && *named == length)
+            *named = at;
+        last = key;
+        /* as they stand: equality needs no order of bytes */
+        const uint64_t sum_and_scale = eight(record), name = eight(record + NAME), name_end = eight(record + NAME + 8);
+        for (uint8_t code = record[CODE];;) {
+            if (!lawful_end(record + LAST_EIGHT))
+                return refuse(14, at);
+            at += WIDTH_RECORD;
+            record += WIDTH_RECORD;
+            if (at == whole || ((eight(record) ^ sum_and_scale) | (eight(record + NAME) ^ name) | (eight(record + NAME + 8) ^ name_end)) != 0)
+                break;
+            if (record[CODE] <= code)
+                return refuse(14, at);
+            code = record[CODE];
+        }
     }
     if (whole != length)
         return refuse(14, whole);
