@@ -42,6 +42,9 @@ class Group:
     def hold(self, *lines_and_judge):
         """The same."""
 
+    def object(self, words):
+        """The same."""
+
     def jobs(self, name):
         """Those lines that an entry of the bench answers."""
         for line in self.lines:
