@@ -14,8 +14,7 @@
 #define PAGE 1
 #define SCALE 655360
 
-static struct input file, widths, pk, old;
-static struct output wide; /* the old table in the new form, made by hand */
+static struct input file, widths, pk, old, wide; /* wide: the old table in the new form, made by hand */
 static int32_t font;
 static const uint32_t both_pages[] = {1, 2};
 static unsigned passed, failed;
@@ -381,11 +380,18 @@ static void refused_cut(size_t less, const uint32_t *pages, size_t count, uint32
 /* Of a copy of a table with one byte made another, or cut, with room and without. */
 static void refused_form(const struct writer *writer, const uint8_t *table, size_t length, size_t at, uint8_t byte, uint32_t number, size_t place)
 {
-    struct output area, copy;
+    struct input copy;
+    struct output changed, area;
     struct numbers answer;
-    lend_output(length, &copy);
-    memcpy(copy.bytes, table, length);
-    copy.bytes[at] = byte;
+    lend_output(length, &changed);
+    memcpy(changed.bytes, table, length);
+    changed.bytes[at] = byte;
+    int lent = lend_copy(changed.bytes, length, &copy);
+    take_output_back(&changed);
+    if (!lent) {
+        expect(0, "no memory", writer->name, length);
+        return;
+    }
     for (size_t room = 0; room <= AREA; room += AREA) {
         lend_output(room, &area);
         lend_numbers(&answer);
@@ -396,7 +402,7 @@ static void refused_form(const struct writer *writer, const uint8_t *table, size
         expect(only_front_numbers_written(&answer, 1), "a refused call writes more than the place", writer->name, number);
         take_output_back(&area);
     }
-    take_output_back(&copy);
+    take_back(&copy);
 }
 
 /* A code that falls, a scale, the byte 0, the first byte of a width, and bytes left over: 14 at the record, before all else. A zero that is
@@ -619,26 +625,30 @@ static void nothing_lent(void)
 }
 
 /* The old table with zeros for names. */
-static void make_wide(void)
+static int lend_wide(void)
 {
     size_t records = old.length / HURLYBURN_OLD_WIDTH_RECORD_BYTES;
-    lend_output(HURLYBURN_WIDTH_RECORD_BYTES * records, &wide);
-    memset(wide.bytes, 0, wide.length);
+    struct output made;
+    lend_output(HURLYBURN_WIDTH_RECORD_BYTES * records, &made);
+    memset(made.bytes, 0, made.length);
     for (size_t i = 0; i < records; i++) {
-        memcpy(wide.bytes + HURLYBURN_WIDTH_RECORD_BYTES * i, old.bytes + HURLYBURN_OLD_WIDTH_RECORD_BYTES * i, 8);
-        memcpy(wide.bytes + HURLYBURN_WIDTH_RECORD_BYTES * i + 24, old.bytes + HURLYBURN_OLD_WIDTH_RECORD_BYTES * i + 8, 8);
+        memcpy(made.bytes + HURLYBURN_WIDTH_RECORD_BYTES * i, old.bytes + HURLYBURN_OLD_WIDTH_RECORD_BYTES * i, 8);
+        memcpy(made.bytes + HURLYBURN_WIDTH_RECORD_BYTES * i + 24, old.bytes + HURLYBURN_OLD_WIDTH_RECORD_BYTES * i + 8, 8);
     }
+    int lent = lend_copy(made.bytes, made.length, &wide);
+    take_output_back(&made);
+    return lent;
 }
 
 int main(int count, char **words)
 {
     if (count != 6 || !lend_file(words[1], &file) || !lend_file(words[2], &widths) || widths.length < HURLYBURN_WIDTH_RECORD_BYTES ||
-        !lend_file(words[4], &pk) || pk.length < 42 || !lend_file(words[5], &old) || old.length < 3 * HURLYBURN_OLD_WIDTH_RECORD_BYTES) {
+        !lend_file(words[4], &pk) || pk.length < 42 || !lend_file(words[5], &old) || old.length < 3 * HURLYBURN_OLD_WIDTH_RECORD_BYTES ||
+        !lend_wide()) {
         puts("use: bounds FILE TABLE FONT PK OLD-TABLE");
         return 2;
     }
     font = (int32_t)strtoul(words[3], NULL, 10);
-    make_wide();
     for (size_t i = 0; i < CALLS; i++)
         for (size_t less = 0; less < 2; less++)
             every_length(&calls[i], less);
