@@ -538,6 +538,21 @@ def place_jobs(work, rng, sizes):
             work.place_again(f"{group}-{naming}", f"{group}-{naming}-{size}", f"{group}-{size}", named)
 
 
+def one_key_jobs(work, rng, sizes):
+    """Text in 64 fonts of check sum 0 and one scale, which only their names tell apart, by own names and by both."""
+    fonts = [dvi.Font(n, 0, SCALE, name=b"font%d" % n) for n in range(MOST_FONTS)]
+    unnamed = table_for(rng, fonts, unit_of(dvi.TEX_UNITS, RESOLUTION))
+    tables = {naming: (f"widths-one-key-{naming}", with_names(unnamed, fonts, is_named)) for naming, is_named in NAMINGS.items()}
+    for size in sizes:
+        files = []
+        for _ in range(max(1, DIFFERENT_RECORDS // size)):
+            volume = Volume(fonts=fonts)
+            volume.add(*text_page(rng, size, fonts, False))
+            files.append(volume.finished())
+        for naming, table in tables.items():
+            work.place(f"one-key-{naming}", f"one-key-{naming}-{size}", size, files, table)
+
+
 def table_jobs(work, sizes):
     """Tables for any names, of own names, and of both; in each of them look-ups for its last font. A font's own name is not in the first one, as in every
     table that was widened: there, and in the mixed one for most codes, the record for any name is found. A name that no table has is absent in the
@@ -649,8 +664,9 @@ def main():
     page_count_jobs(work, [*steps(64, 4096, 8), MOST_PAGES])
     definition_jobs(work, list(steps(1, MOST_FONTS, 4)))
     place_jobs(work, rng, list(steps(100, 100_000, 10)))
+    one_key_jobs(work, random.Random(SEED), list(steps(100, 100_000, 10)))  # numbers of their own, so that the works after them keep their bytes
     published_page_jobs(work, published, 6)
-    scale_jobs(work, random.Random(SEED))  # numbers of their own, so that the works after them keep their bytes
+    scale_jobs(work, random.Random(SEED))
     table_jobs(work, list(steps(16, 65_536, 4)))
     form_jobs(work, list(steps(16, 65_536, 4)))
     font_jobs(work, rng, list(steps(1 << 16, LONGEST_FILE, 4)))
