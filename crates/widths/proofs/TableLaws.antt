@@ -229,6 +229,20 @@ module _ (named : ℕ) where
           (λ (over : j ≤ i). ⊎-elim (λ (same : j ≡ i). sym same) (λ (past : j < i). absurd (omega (arith, keys-rise j i past i-in))) (eq-or-lt-of-le over))
           (less-or-not i j)
 
+  -- a table of right records and no byte more is right
+  module _ (table : List ℕ) (records : ℕ) (whole : records * size ≡ length table) (right : (index : ℕ) → index < records → rightIn named table index ≡ true) where
+    right-on : (left index : ℕ) → index + left ≡ suc (length table) → index ≤ records → checkedFrom named left table index ≡ given records
+    right-on zero index enough bound = absurd (omega (arith, index-within records))
+    right-on (suc left) index enough bound =
+        ⊎-elim (λ (last : index ≡ records). let over : length table ≤ index * size = omega (arith, ap (λ (n : ℕ). n * size) last) in ended table (suc left) index over ∙ ap given last)
+        (λ (more : index < records).
+        let past : suc index * size ≤ records * size = mul-le-mul-right size more in
+        opened table left index (omega (arith, next-place index)) ∙ simp (right index more) (right-on left (suc index) (omega arith) more))
+        (eq-or-lt-of-le bound)
+
+    pub judged-right : checkedIn named table ≡ given records
+    judged-right = right-on (suc (length table)) 0 (omega arith) (omega arith)
+
   -- the width of a record is bytes, as the table is
   pub width-bytes : (table : List ℕ) → ((i : ℕ) → getD table i 0 < 256) → (index : ℕ) → LastBytes (recordIn named table index .width)
   unfolding recordIn
