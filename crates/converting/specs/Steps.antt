@@ -5,9 +5,12 @@ use mathlib.Core.Bool.{Bool, true, not}
 use mathlib.Core.List.{List}
 use lib.Dec.{ltb}
 use lib.ListN.{getD}
-use Rattle.refusals.specs.Answer.{Answer, given, refusal}
+use Rattle.refusals.specs.Numbers.{namedRecord}
+use Rattle.refusals.specs.Answer.{Answer, refused, given, refusal}
 use Rattle.numbers.specs.Bytes.{unsignedAt}
 use Rattle.numbers.specs.Sizes.{lawfulSize}
+use Rattle.widths.specs.declared.table.Table.{Table}
+use Rattle.widths.specs.declared.table.Table.the-variants.{Right, Wrong}
 use Rattle.converting.specs.declared.old.OldKey.{OldKey}
 use Rattle.converting.specs.declared.Converted.{Converted}
 use Rattle.converting.specs.declared.Converted.the-variants as Converted
@@ -30,6 +33,11 @@ oldReaches key least = not (ltb (oldKeyNumber key) (oldKeyNumber least))
 -- what a next key must reach: where a key of its head can have its code, its scale is lawful
 abbrev pub OldLeastKey : OldKey → Type 0
 OldLeastKey least = (least .code ≤ 256) × (least .code < 256 → lawfulSize (least .head % 2 ^ 32) ≡ true)
+
+-- the search for a name: 24 at the first record that has one, or how many records
+abbrev pub namedSays : Table → Answer ℕ
+namedSays (Right records) = given records
+namedSays (Wrong place) = refused namedRecord place
 
 -- what the code's answer says
 abbrev pub convertedSays : Converted → Answer ℕ

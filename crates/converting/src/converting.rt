@@ -6,26 +6,32 @@ use widths::table;
 use widths::table::Table;
 ghost use mathlib.Core.Path.{_≡_};
 ghost use mathlib.Core.List.{_++_};
+ghost use mathlib.Core.Bool.{not};
 ghost use Prim.Native.Nat.{_+_, _*_, _≤_};
+ghost use lib.Dec.{eqb};
 ghost use lib.ListN.{length, drop};
+ghost use lib.Seq.{sets};
 ghost use Rattle.refusals.specs.Answer.{given};
-ghost use Rattle.widths.specs.Table.{sizeWith, checkedTable};
-ghost use Rattle.widths.specs.Steps.{tableSays};
+ghost use Rattle.widths.specs.Table.{sizeWith, recordAt, checkedTable};
 ghost use Rattle.converting.specs.Converting.{inForm, unnamedFrom, widenTable, narrowTable, widenedArea, narrowedArea};
-ghost use Rattle.converting.specs.Steps.{convertedSays};
+ghost use Rattle.converting.specs.Steps.{namedSays, convertedSays};
 
 // The bytes of a record before its name, check sum and scale, and those behind it: eight each.
 const SIDE: usize = 8;
 
 // One record in another form: the bytes before the name, zeros for the name, the bytes behind it.
-fn put_record(table: &[u8], from: usize, at: usize, out: &mut [u8], to: usize, written: usize) {
+fn put_record(table: &[u8], from: usize, at: usize, out: &mut [u8], to: usize, written: usize)
+    requires { ⌜ (at + sizeWith from ≤ length (now table)) × (to ≤ 16) × (written + sizeWith to ≤ length (now out)) ⌝ }
+    ensures { λ _. ⌜ now (out .exit) ≡ sets (now (out .entry)) written (inForm from to 1 (drop at (now (table .entry)))) ⌝ }
+{
     let zeros = [0u8; names::NAME_SIZE];
-    areas::paste(out, written, &table[at..at + SIDE]);
-    areas::paste(out, written + SIDE, &zeros[..to]);
+    areas::paste(&mut *out, written, &table[at..at + SIDE]);
+    areas::paste(&mut *out, written + SIDE, &zeros[..to]);
+    let behind = at + SIDE + from;
     areas::paste(
-        out,
+        &mut *out,
         written + SIDE + to,
-        &table[at + SIDE + from..at + SIDE + from + SIDE],
+        &table[behind..behind + SIDE],
     );
 }
 
@@ -45,14 +51,27 @@ fn write_records(table: &[u8], from: usize, records: usize, out: &mut [u8], to: 
     }
 }
 
+// Whether the record at a place has a name: one that is not sixteen zeros.
+fn is_named(table: &[u8], at: usize) -> bool
+    requires { ⌜ at + 32 ≤ length (now table) ⌝ }
+    ensures { λ r. ⌜ r ≡ not (eqb (recordAt (now (table .entry)) at .name) 0) ⌝ }
+{
+    let name = names::name_at(table, at + SIDE);
+    if name.high != 0 {
+        return true;
+    }
+    name.low != 0
+}
+
 // The place of the first of the records of a right table that has a name, or how many records there are.
 fn first_named(table: &[u8], records: usize) -> Table
     requires { ⌜ checkedTable (now table) ≡ given records ⌝ }
+    ensures { λ r. ⌜ namedSays r ≡ unnamedFrom records (now (table .entry)) 0 ⌝ }
 {
     let mut index: usize = 0;
     while index < records {
         let at = index * table::RECORD_SIZE;
-        if !names::is_any(names::name_at(table, at + SIDE)) {
+        if is_named(table, at) {
             return Table::Wrong(at);
         }
         index += 1;
