@@ -86,8 +86,8 @@ module _ (pk : List ℕ) (scale : ℕ) (noted entry : List ℕ) (checksum : ℕ)
         noted
         entry
         checksum
-        (cond (ltb 0 (getD noted code 0)) (take written out ++ entryBytes (entryAt checksum scale pk (getD noted code 0)) ++ drop (written + 16) out) out)
-        (cond (ltb 0 (getD noted code 0)) (written + 16) written)
+        (cond (ltb 0 (getD noted code 0)) (take written out ++ entryBytes (entryAt checksum scale pk (getD noted code 0)) ++ drop (written + widthRecordSize) out) out)
+        (cond (ltb 0 (getD noted code 0)) (written + widthRecordSize) written)
         (code + 1)
     writing-on =
         record {

@@ -20,7 +20,7 @@ use Rattle.packed.specs.Noting.{NotedAt, none, one, IsPacket}
 
 -- ---- a record
 
-pub entry-length : (e : Entry) → length (entryBytes e) ≡ 16
+pub entry-length : (e : Entry) → length (entryBytes e) ≡ widthRecordSize
 unfolding entryBytes bytesOf
 entry-length e = refl
 
@@ -52,16 +52,16 @@ area-length done entry h =
 
 -- one entry more
 pub area-more : (done : List Entry) (e : Entry) (entry : List ℕ) (written : ℕ) → written ≡ widthRecordSize * length done
-    → take written (areaWith done entry) ++ entryBytes e ++ drop (written + 16) (areaWith done entry) ≡ areaWith (done ++ (e ∷ [])) entry
+    → take written (areaWith done entry) ++ entryBytes e ++ drop (written + widthRecordSize) (areaWith done entry) ≡ areaWith (done ++ (e ∷ [])) entry
 area-more done e entry written size =
     let long : length (tableBytes done) ≡ written = table-length done ∙ sym size in
     let rest = drop (widthRecordSize * length done) entry in
     let front : take written (areaWith done entry) ≡ tableBytes done = take-at (tableBytes done) rest written long in
-    let count : widthRecordSize * length done + 16 ≡ widthRecordSize * length (done ++ (e ∷ [])) = omega (arith, length-append done (e ∷ [])) in
-    let back : drop (written + 16) (areaWith done entry) ≡ drop (widthRecordSize * length (done ++ (e ∷ []))) entry =
-    sym (drop-drop 16 written (areaWith done entry))
-    ∙ ap (drop 16) (drop-at (tableBytes done) rest written long)
-    ∙ drop-drop 16 (widthRecordSize * length done) entry
+    let count : widthRecordSize * length done + widthRecordSize ≡ widthRecordSize * length (done ++ (e ∷ [])) = omega (arith, length-append done (e ∷ [])) in
+    let back : drop (written + widthRecordSize) (areaWith done entry) ≡ drop (widthRecordSize * length (done ++ (e ∷ []))) entry =
+    sym (drop-drop widthRecordSize written (areaWith done entry))
+    ∙ ap (drop widthRecordSize) (drop-at (tableBytes done) rest written long)
+    ∙ drop-drop widthRecordSize (widthRecordSize * length done) entry
     ∙ ap (λ (n : ℕ). drop n entry) count in
     let bytes : tableBytes (done ++ (e ∷ [])) ≡ tableBytes done ++ entryBytes e = table-append done (e ∷ []) ∙ ap (λ (l : List ℕ). tableBytes done ++ l) (append-nil (entryBytes e)) in
     ap₂ (λ (a b : List ℕ). a ++ entryBytes e ++ b) front back ∙ ap (λ (l : List ℕ). l ++ drop (widthRecordSize * length (done ++ (e ∷ []))) entry) (sym bytes)
@@ -126,8 +126,8 @@ module _ (scale checksum : ℕ) (past : List Command) (pk entry : List ℕ) (cod
       past
       entry
       (code + 1)
-      (cond (ltb 0 at) (written + 16) written)
-      (cond (ltb 0 at) (take written out ++ entryBytes (entryAt checksum scale pk at) ++ drop (written + 16) out) out)
+      (cond (ltb 0 at) (written + widthRecordSize) written)
+      (cond (ltb 0 at) (take written out ++ entryBytes (entryAt checksum scale pk at) ++ drop (written + widthRecordSize) out) out)
   below-next (none blank empty) =
       rw (le-ltb 0 at (omega (arith, blank))) (
       record {
@@ -147,7 +147,7 @@ module _ (scale checksum : ℕ) (past : List Command) (pk entry : List ℕ) (cod
         all = append-assoc (b .done) (make c ∷ []) later ∙ ap (λ (l : List Command). b .done ++ (map make l ++ later)) (sym only) ∙ all-next;
         ends = omega (arith, b .ends, length-append (b .done) (make c ∷ []));
         area =
-            ap₂ (λ (l : List ℕ) (e : Entry). take written l ++ entryBytes e ++ drop (written + 16) l) (b .area) (same-entry checksum scale code at pk c is)
+            ap₂ (λ (l : List ℕ) (e : Entry). take written l ++ entryBytes e ++ drop (written + widthRecordSize) l) (b .area) (same-entry checksum scale code at pk c is)
             ∙ area-more (b .done) (make c) entry written (b .ends);
         small = omega arith;
       }

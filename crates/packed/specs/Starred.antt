@@ -35,9 +35,9 @@ long = 7 ∷ 0 ∷ 0 ∷ 0 ∷ 28 ∷ 0 ∷ 0 ∷ 0 ∷ 2 ∷ 255 ∷ 255 ∷ 25
 abbrev pub between : List ℕ
 between = 240 ∷ 2 ∷ 245 ∷ 247 ∷ 241 ∷ 0 ∷ 0 ∷ 244 ∷ 9 ∷ 9 ∷ 9 ∷ 9 ∷ 246 ∷ []
 
--- the record of a packet at scale 655,360, which is 0 10 0 0, behind the check sum: code, zero, escapement, width
+-- the record of a packet at scale 655,360, which is 0 10 0 0, for any name, by what stands behind the name: code, zero, escapement, width
 abbrev pub recordFor : List ℕ → List ℕ
-recordFor behind = 1 ∷ 2 ∷ 3 ∷ 4 ∷ 0 ∷ 10 ∷ 0 ∷ 0 ∷ behind
+recordFor behind = (1 ∷ 2 ∷ 3 ∷ 4 ∷ 0 ∷ 10 ∷ 0 ∷ 0 ∷ []) ++ replicate 16 0 ++ behind
 
 -- a file, a scale and the area's bytes, and the table's bytes or the refusal
 pub record FontExample : Type 0 where
@@ -46,9 +46,9 @@ pub record FontExample : Type 0 where
   pub room : ℕ
   pub printed : Answer (List ℕ)
 
--- an example at scale 655,360 with an area of 48 bytes
+-- an example at scale 655,360 with an area of 96 bytes
 abbrev pub example : List ℕ → Answer (List ℕ) → FontExample
-example pk printed = record { pk = pk; scale = 655360; room = 48; printed = printed }
+example pk printed = record { pk = pk; scale = 655360; room = 96; printed = printed }
 
 -- Ξ alone; no packet; three packets with falling codes; Ξ twice; 32,770 pixels; code 258; first width byte 1; an opcode of no command; Ξ cut, without postamble, with a special behind it; another identification; a packet of one byte too few; a scale of 0; an area too short
 abbrev pub fontExamples : List FontExample
@@ -71,7 +71,7 @@ fontExamples =
     ∷ example (set opening 1 88 ++ (245 ∷ [])) (refused misplacedInFont 0)
     ∷ example (opening ++ set (take 10 xi) 1 7 ++ (245 ∷ [])) (refused packetTooShort 19)
     ∷ record { pk = []; scale = 0; room = 0; printed = refused wrongScale 0 }
-    ∷ record { pk = opening ++ xi ++ (245 ∷ []); scale = 655360; room = 15; printed = refused areaTooShort 0 }
+    ∷ record { pk = opening ++ xi ++ (245 ∷ []); scale = 655360; room = 31; printed = refused areaTooShort 0 }
     ∷ []
 
 -- what the definitions give for an example

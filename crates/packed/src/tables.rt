@@ -11,20 +11,19 @@ ghost use mathlib.Core.List.{_++_};
 ghost use Prim.Native.Nat.{_+_, _≤_, _<_};
 ghost use lib.Dec.{ltb};
 ghost use lib.ListN.{length, take, drop};
-ghost use Rattle.numbers.specs.Bytes.{unsignedAt};
+ghost use Rattle.numbers.specs.Bytes.{unsignedAt, bytesOf, signedBytesOf};
 ghost use Rattle.widths.specs.Table.{widthRecordSize};
 ghost use Rattle.widths.specs.Entries.{entryBytes};
 ghost use Rattle.packed.specs.Table.{checksumIn, tableMade, recordsMade, tableArea};
 ghost use Rattle.packed.specs.Steps.{entryFrom, entryAt, InBytes, Puttable, Writable, WrittenBy, madeSays};
 
-// The bytes of a width record.
-fn entry_bytes(checksum: u64, scale: u64, packet: Packet) -> [u8; 16]
-    requires { ⌜ InBytes packet ⌝ }
-    ensures { λ r. ⌜ r ≡ entryBytes (entryFrom checksum scale packet) ⌝ }
+// How many bytes a record has before its name, which are check sum and scale; behind it there are as many.
+const SIDE: usize = 8;
+
+// The bytes of a record before its name.
+fn bytes_before(checksum: u64, scale: u64) -> [u8; SIDE]
+    ensures { λ r. ⌜ r ≡ bytesOf 4 checksum ++ bytesOf 4 scale ⌝ }
 {
-    let code = packet.code;
-    let width = packet.width;
-    let escapement = numbers::to_twos(65536, packet.escapement);
     [
         (checksum / 256 / 256 / 256 % 256) as u8,
         (checksum / 256 / 256 % 256) as u8,
@@ -34,6 +33,18 @@ fn entry_bytes(checksum: u64, scale: u64, packet: Packet) -> [u8; 16]
         (scale / 256 / 256 % 256) as u8,
         (scale / 256 % 256) as u8,
         (scale % 256) as u8,
+    ]
+}
+
+// The bytes of a record behind its name.
+fn bytes_behind(packet: Packet) -> [u8; SIDE]
+    requires { ⌜ InBytes packet ⌝ }
+    ensures { λ r. ⌜ r ≡ bytesOf 1 (packet .code) ++ (bytesOf 1 0 ++ (signedBytesOf 2 (packet .escapement) ++ bytesOf 4 (packet .width))) ⌝ }
+{
+    let code = packet.code;
+    let width = packet.width;
+    let escapement = numbers::to_twos(65536, packet.escapement);
+    [
         (code % 256) as u8,
         0,
         (escapement / 256 % 256) as u8,
@@ -43,6 +54,19 @@ fn entry_bytes(checksum: u64, scale: u64, packet: Packet) -> [u8; 16]
         (width / 256 % 256) as u8,
         (width % 256) as u8,
     ]
+}
+
+// The bytes of a width record for any name: where the name stands, the zeros stay.
+fn entry_bytes(checksum: u64, scale: u64, packet: Packet) -> [u8; table::RECORD_SIZE]
+    requires { ⌜ InBytes packet ⌝ }
+    ensures { λ r. ⌜ r ≡ entryBytes (entryFrom checksum scale packet) ⌝ }
+{
+    let before = bytes_before(checksum, scale);
+    let behind = bytes_behind(packet);
+    let mut bytes = [0u8; table::RECORD_SIZE];
+    areas::paste(&mut bytes, 0, &before);
+    areas::paste(&mut bytes, SIDE + names::NAME_SIZE, &behind);
+    bytes
 }
 
 // The check sum of a font; its preamble starts the file and is all there.

@@ -2,6 +2,7 @@
 use Rattle.packed.proofs.Written.{entry-length, read-entry}
 use Rattle.packed.specs.Steps.{entryAt}
 use Rattle.packed.specs.Commands.{formOf}
+use Rattle.widths.specs.Table.{widthRecordSize}
 use Rattle.widths.specs.Entries.{entryBytes}
 use borrow.Author.Tests.{lt-ltb, le-ltb}
 use denote.Ref.{now}
@@ -70,7 +71,7 @@ returns-2 c =
       c .before .before .paste .ensures
           ∙ ap (λ (l : List ℕ). take (a .written) area ++ l ++ drop (a .written + length l) area) bytes-are
           ∙ ap (λ (n : ℕ). take (a .written) area ++ entryBytes here ++ drop (a .written + n) area) (entry-length here)
-          ∙ sym (ap (λ (t : Bool). cond t (take (a .written) area ++ entryBytes here ++ drop (a .written + 16) area) area) some),
+          ∙ sym (ap (λ (t : Bool). cond t (take (a .written) area ++ entryBytes here ++ drop (a .written + widthRecordSize) area) area) some),
     )
 
 pub put-record-spec : {M : Type 1} → statement M

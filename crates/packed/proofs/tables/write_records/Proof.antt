@@ -8,6 +8,7 @@ use lib.Dec.{ltb}
 use lib.ListN.{getD}
 use denote.Ref.{now}
 use borrow.Author.Needs.{needs}
+use Rattle.widths.specs.Table.{widthRecordSize}
 use Rattle.packed.proofs.Writing.{Writing, judged-preambled, writing-start, putting, writing-on, writing-length, writing-end}
 use Rattle.packed.proofs.tables.write_records.Statement.{statement}
 use Rattle.packed.proofs.tables.write_records.Tie as tie
@@ -64,7 +65,7 @@ loop-again c =
     (λ (n : ℕ). Writing (now (a .pk)) (a .scale) (now (a .places)) (now (a .out)) (c .before .before .before .before .before .before .before .checksum-of .result) (put .last .1 .1 .1 .1 .0) n (l .code + 1))
     (sym (put .ensures .0))
     (subst
-    (λ (area : List ℕ). Writing (now (a .pk)) (a .scale) (now (a .places)) (now (a .out)) (c .before .before .before .before .before .before .before .checksum-of .result) area (cond (ltb 0 (getD (now (a .places)) (l .code) 0)) (l .written + 16) (l .written)) (l .code + 1))
+    (λ (area : List ℕ). Writing (now (a .pk)) (a .scale) (now (a .places)) (now (a .out)) (c .before .before .before .before .before .before .before .checksum-of .result) area (cond (ltb 0 (getD (now (a .places)) (l .code) 0)) (l .written + widthRecordSize) (l .written)) (l .code + 1))
     (sym (put .ensures .1))
     on)
 
