@@ -14,6 +14,7 @@ use Rattle.packed.specs.Commands.{formOf, fixedBytes, countedBytes}
 use Rattle.packed.specs.Packets.{codeIn, widthIn, escapementIn}
 use Rattle.packed.specs.Rules.{fontFault}
 use Rattle.packed.specs.Judged.{fontJudgedFrom, fontJudged}
+use Rattle.widths.specs.Table.{widthRecordSize}
 use Rattle.widths.specs.Entries.{entryBytes}
 use Rattle.packed.specs.Table.{tableMade, recordsMade, tableArea}
 use Rattle.packed.specs.Starred.{opening, xi, recordFor}
@@ -31,20 +32,20 @@ xiFont = opening ++ xi ++ (245 ∷ 246 ∷ [])
 abbrev xiRecord : List ℕ
 xiRecord = recordFor (4 ∷ 0 ∷ 0 ∷ 25 ∷ 0 ∷ 9 ∷ 199 ∷ 28 ∷ [])
 
-xi-made : recordsMade (tableMade xiFont 655360 16) ≡ given 1
+xi-made : recordsMade (tableMade xiFont 655360 widthRecordSize) ≡ given 1
 unfolding unsignedAt formOf fixedBytes countedBytes codeIn widthIn escapementIn fontFault fontJudgedFrom fontJudged
 xi-made = refl
 
-xi-area : tableArea (replicate 16 0) (tableMade xiFont 655360 16) ≡ xiRecord
+xi-area : tableArea (replicate widthRecordSize 0) (tableMade xiFont 655360 widthRecordSize) ≡ xiRecord
 unfolding unsignedAt bytesOf formOf fixedBytes countedBytes codeIn widthIn escapementIn fontFault fontJudgedFrom fontJudged entryBytes
 xi-area = refl
 
-empty-refused : recordsMade (tableMade [] 655360 16) ≡ refused fontEnds 0
+empty-refused : recordsMade (tableMade [] 655360 widthRecordSize) ≡ refused fontEnds 0
 unfolding fontJudgedFrom fontJudged
 empty-refused = refl
 
 module _ (κs : Lfts 2) (pk : _) (scale : ℕ) (area : _) (is : IsXi (now pk) scale (now area)) (r : TableMade) (x : _) (post : width-table.Post κs (pk, (scale, (area, tt))) r x) where
-  same : tableMade (now pk) scale (length (now area)) ≡ tableMade xiFont 655360 16
+  same : tableMade (now pk) scale (length (now area)) ≡ tableMade xiFont 655360 widthRecordSize
   same = cc (is .pk-is, is .scale-is, ap length (is .area-is))
 
   -- invented counts: one record, and no other number
@@ -55,7 +56,7 @@ module _ (κs : Lfts 2) (pk : _) (scale : ℕ) (area : _) (is : IsXi (now pk) sc
   pub not-refusing-every-font : NotMade r → ⊥
   not-refusing-every-font refuses = subst NotMade not-invented-records refuses
 
-  -- the sixteen bytes, each as worked by hand
+  -- the bytes of the record, each as worked by hand
   pub record-as-worked : now (x .1 .1 .0) ≡ recordFor (4 ∷ 0 ∷ 0 ∷ 25 ∷ 0 ∷ 9 ∷ 199 ∷ 28 ∷ [])
   record-as-worked = post .1 .0 ∙ ap₂ tableArea (is .area-is) same ∙ xi-area
 
@@ -68,7 +69,7 @@ module _ (κs : Lfts 2) (pk : _) (scale : ℕ) (area : _) (is : IsXi (now pk) sc
 pub not-one-constant-table : (κs κs′ : Lfts 2) (pk none : _) (scale : ℕ) (area : _) (r : TableMade) (x y : _) → IsXi (now pk) scale (now area) → now none ≡ []
     → width-table.Post κs (pk, (scale, (area, tt))) r x → width-table.Post κs′ (none, (scale, (area, tt))) r y → ⊥
 not-one-constant-table κs κs′ pk none scale area r x y is empty p q =
-    let other : tableMade (now none) scale (length (now area)) ≡ tableMade [] 655360 16 = cc (empty, is .scale-is, ap length (is .area-is)) in
+    let other : tableMade (now none) scale (length (now area)) ≡ tableMade [] 655360 widthRecordSize = cc (empty, is .scale-is, ap length (is .area-is)) in
     let told : _≡_ {A = Answer ℕ} (given 1) (refused fontEnds 0) =
     sym (p .0 ∙ ap recordsMade (same κs pk scale area is r x p) ∙ xi-made) ∙ q .0 ∙ ap recordsMade other ∙ empty-refused in
     given-not-refused 1 fontEnds 0 told

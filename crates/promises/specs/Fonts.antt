@@ -10,6 +10,7 @@ use Rattle.refusals.specs.Answer.{Answer, given, refuseIf}
 use Rattle.numbers.specs.Parts.{up, dn}
 use Rattle.numbers.specs.Bytes.{unsignedAt, bytesOf}
 use Rattle.numbers.specs.Sizes.{lawfulSize}
+use Rattle.names.specs.Names.{nameSize}
 use Rattle.widths.specs.Scaling.{fixWord, lawfulFirst}
 use Rattle.widths.specs.Table.{widthRecordSize, WidthRecord, recordOf, checkedTable}
 use Rattle.widths.specs.Entries.{Entry, tableBytes}
@@ -53,10 +54,12 @@ pub record Fits (e : Entry) : Type 0 where
   pub first-right : lawfulFirst (e .width / 16777216) ≡ true
   pub escapement-right : lawfulEscapement (e .escapement) ≡ true
 
--- a record reads as an entry; of the check sum, that its four bytes are the entry's (rule 6.1)
+-- a record reads as an entry, for any name; of the check sum, that its four bytes are the entry's (rules 6.1, 6.10)
 pub record Reads (r : WidthRecord) (e : Entry) : Type 0 where
   pub sum-is : r .checksum ≡ unsignedAt (bytesOf 4 (e .checksum)) 0 4
   pub scale-is : r .scale ≡ e .scale
+  pub name-is : r .name ≡ 0
+  pub name-zeros : r .name-bytes ≡ replicate nameSize 0
   pub code-is : r .code ≡ e .code
   pub zero-is : r .zero-byte ≡ 0
   pub escapement-is : r .escapement ≡ e .escapement
@@ -113,11 +116,11 @@ pub record FontRefused (pk : List ℕ) (number at : ℕ) : Type 0 where
   pub due : DueInFont (upon [] list) rest number
   pub there : at ≡ place (upon [] list)
 
--- the call is for the font of appendix C's packet, at scale 655,360, with an area of sixteen zeros
+-- the call is for the font of appendix C's packet, at scale 655,360, with an area of zeros for one record
 pub record IsXi (pk : List ℕ) (scale : ℕ) (area : List ℕ) : Type 0 where
   pub pk-is : pk ≡ opening ++ xi ++ (245 ∷ 246 ∷ [])
   pub scale-is : scale ≡ 655360
-  pub area-is : area ≡ replicate 16 0
+  pub area-is : area ≡ replicate widthRecordSize 0
 
 -- e is the number nearest to z 65,536ths, and the upper one where two are as near: 65,536 e is z or up to half a pixel above it, or less than half a pixel below it; the parts of z and e on the sides
 -- on which they count (rule 11.7)
