@@ -40,19 +40,29 @@ paste-requires-2 : tie.Need-paste-requires-2
 paste-requires-2 c κs = search needs
 
 -- zeros, with the bytes before the name put at the front and those behind it at their place
-whole : (e : Entry) (before behind once twice : List ℕ) → before ≡ bytesOf 4 (e .checksum) ++ bytesOf 4 (e .scale)
-    → behind ≡ bytesOf 1 (e .code) ++ (bytesOf 1 0 ++ (signedBytesOf 2 (e .escapement) ++ bytesOf 4 (e .width)))
-    → once ≡ take 0 (replicate widthRecordSize 0) ++ before ++ drop (0 + length before) (replicate widthRecordSize 0)
-    → twice ≡ take (8 + nameSize) once ++ behind ++ drop (8 + nameSize + length behind) once → twice ≡ entryBytes e
+whole : (e : Entry) (before behind zeros once twice : List ℕ) → once ≡ take 0 zeros ++ before ++ drop (0 + length before) zeros
+    → twice ≡ take (8 + nameSize) once ++ behind ++ drop (8 + nameSize + length behind) once → zeros ≡ replicate widthRecordSize 0 → before ≡ bytesOf 4 (e .checksum) ++ bytesOf 4 (e .scale)
+    → behind ≡ bytesOf 1 (e .code) ++ (bytesOf 1 0 ++ (signedBytesOf 2 (e .escapement) ++ bytesOf 4 (e .width))) → twice ≡ entryBytes e
 unfolding entryBytes bytesOf
-whole e before behind once twice before-is behind-is once-is twice-is = rw (twice-is, once-is, before-is, behind-is) refl
+whole e before behind zeros once twice once-is twice-is blank before-is behind-is = rw (twice-is, once-is, before-is, behind-is, blank) refl
 
 returns : tie.Need-returns
 returns c =
     let start = c .before .before .before .before .before .before .before .before .before .before in
     let first = c .before .before .before .before .before .before .before .before .before .bytes-before in
     let second = c .before .before .before .before .before .before .before .before .bytes-behind in
-    whole (entryFrom (start .args .checksum) (start .args .scale) (start .args .packet)) (first .result) (second .result) _ _ (first .ensures) (second .ensures) (c .before .before .before .before .before .paste .ensures) (c .before .paste2 .ensures)
+    whole
+    (entryFrom (start .args .checksum) (start .args .scale) (start .args .packet))
+    (first .result)
+    (second .result)
+    _
+    _
+    _
+    (c .before .before .before .before .before .paste .ensures)
+    (c .before .paste2 .ensures)
+    refl
+    (first .ensures)
+    (second .ensures)
 
 pub entry-bytes-spec : {M : Type 1} → statement M
 entry-bytes-spec =
