@@ -28,7 +28,7 @@ use Rattle.page.proofs.RefusedWith.{page-refused-with}
 
 -- a number of the list
 abbrev Low : ℕ → Type 0
-Low number = (1 ≤ number) × (number ≤ 23)
+Low number = (1 ≤ number) × (number ≤ 24)
 
 -- what is refused only with numbers of the list
 listed : {A : Type 0} (May : ℕ → ℕ → Type 0) (answer : Answer A) → ((number place : ℕ) → May number place → Low number) → RefusedOnly May answer → Listed answer
@@ -81,9 +81,9 @@ scaled-listed scale w = listed WidthRefusal (scaledWidth scale w) width-low (wid
 pub table-listed : (table : List ℕ) → Listed (checkedTable table)
 table-listed table = listed (TableRefusal widthRecordSize table) (checkedTable table) (table-low table) (table-refused-with table)
 
-pub looked-listed : (table : List ℕ) (checksum scale : ℕ) (character : ℤ) → Listed (lookedUp table checksum scale character)
-looked-listed table checksum scale character =
-    listed (TableRefusal widthRecordSize table) (lookedUp table checksum scale character) (table-low table) (look-up-refused-with table checksum scale character)
+pub looked-listed : (table : List ℕ) (checksum scale : ℕ) (name : List ℕ) (character : ℤ) → Listed (lookedUp table checksum scale name character)
+looked-listed table checksum scale name character =
+    listed (TableRefusal widthRecordSize table) (lookedUp table checksum scale name character) (table-low table) (look-up-refused-with table checksum scale name character)
 
 pub placed-listed : (file table : List ℕ) (resolution page room : ℕ) → Listed (placedCounts (placedPage file table resolution page room))
 placed-listed file table resolution page room =
@@ -93,4 +93,4 @@ pub made-listed : (pk : List ℕ) (scale room : ℕ) → Listed (recordsMade (ta
 made-listed pk scale room = listed (MadeRefusal pk) (recordsMade (tableMade pk scale room)) (made-low pk) (made-refused-with pk scale room)
 
 pub cut-listed : (file list : List ℕ) (room : ℕ) → Listed (bytesCut (cutPages file list room))
-cut-listed file list room = listed (CutRefusal file) (bytesCut (cutPages file list room)) (λ number place may. cut-numbers file may) (cut-refused-with file list room)
+cut-listed file list room = listed (CutRefusal file) (bytesCut (cutPages file list room)) (λ number place may. let (low, high) = cut-numbers file may in (low, omega arith)) (cut-refused-with file list room)

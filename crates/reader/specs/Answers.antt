@@ -68,7 +68,7 @@ abbrev pub roundedAnswer : Rounded → Answer ℤ
 roundedAnswer (Rounded.To n) = given n
 roundedAnswer (Rounded.Refused number place) = refused number place
 
--- width_table: how many records (rule 9.9)
+-- width_table, widen_table, narrow_table: how many records (rules 9.9, 9.11, 9.12)
 abbrev pub madeAnswer : TableMade → Answer ℕ
 madeAnswer (TableMade.Records records) = given records
 madeAnswer (TableMade.Refused number place) = refused number place

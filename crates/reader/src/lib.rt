@@ -1,5 +1,6 @@
 // The front door: every public entry, and nothing else. None has a `requires`: what an input breaks is refused, by number and place.
 use commands::Read;
+use converting::Converted;
 use cutting::Cut;
 use packed::Made;
 use packed::tables;
@@ -8,7 +9,6 @@ use page::placing;
 use units::UnitFound;
 use volume::Checked;
 use volume::Named;
-use volume::names;
 use volume::scanning;
 use widths::FixWord;
 use widths::scaling;
@@ -27,6 +27,7 @@ ghost use Rattle.units.specs.Rounding.{roundedDistance};
 ghost use Rattle.widths.specs.Scaling.{fixWord, scaledWidth};
 ghost use Rattle.widths.specs.Table.{checkedTable};
 ghost use Rattle.widths.specs.LookUp.{lookedUp};
+ghost use Rattle.converting.specs.Converting.{widenTable, narrowTable, widenedArea, narrowedArea};
 ghost use Rattle.packed.specs.Table.{tableMade, recordsMade, tableArea};
 ghost use Rattle.cutting.specs.CutFile.{cutPages, bytesCut, cutArea};
 ghost use Rattle.page.specs.Answers.{placedPage, placedCounts, areaAfter};
@@ -109,7 +110,7 @@ pub fn font_name<'a>(file: &'a [u8], font: i32, number: &mut u8, place: &mut usi
     ensures { λ r. ⌜ nameAnswer (now (number .exit)) (now (place .exit)) (length (now r)) ≡ namePlace (now (file .entry)) font ⌝ }
     ensures { λ r. ⌜ (now (number .exit) ≡ 0 → now (place .exit) + length (now r) ≤ length (now (file .entry))) ⌝ }
 {
-    match names::name_place(file, font as i64) {
+    match volume::names::name_place(file, font as i64) {
         Named::At(part) => {
             let start = part.start;
             let end = part.end;
@@ -215,9 +216,10 @@ pub enum LookedUp {
     },
 }
 
-// What a width table says of a character: by check sum, scale and code mod 256. The table is judged first.
-pub fn look_up(table: &[u8], checksum: u32, scale: u32, code: i32) -> LookedUp
-    ensures { λ r. ⌜ lookedAnswer r ≡ lookedUp (now (table .entry)) checksum scale code ⌝ }
+// What a width table says of a character: by check sum, scale, the font's name without its area, and code mod 256. The table is judged first. A record of the font's
+// own name is preferred to one of any name, which has sixteen zeros.
+pub fn look_up(table: &[u8], checksum: u32, scale: u32, name: &[u8], code: i32) -> LookedUp
+    ensures { λ r. ⌜ lookedAnswer r ≡ lookedUp (now (table .entry)) checksum scale (now (name .entry)) code ⌝ }
 {
     match table::check_table(table) {
         Table::Wrong(place) => LookedUp::Refused {
@@ -226,7 +228,16 @@ pub fn look_up(table: &[u8], checksum: u32, scale: u32, code: i32) -> LookedUp
         },
         Table::Right(records) => {
             let byte = numbers::to_twos(256, code as i64);
-            match table::find(table, records, checksum as u64, scale as u64, byte) {
+            let sought = names::sought_name(name);
+            match table::find(
+                table,
+                records,
+                checksum as u64,
+                scale as u64,
+                sought,
+                byte,
+                0,
+            ) {
                 Place::Nowhere => LookedUp::Absent,
                 Place::At(index) => {
                     let metric = table::metric_of(table, records, index);
@@ -244,14 +255,14 @@ pub fn look_up(table: &[u8], checksum: u32, scale: u32, code: i32) -> LookedUp
     }
 }
 
-// How many records were written, or refusal 17 to 22
+// How many records were written, or refusal 14, 17 to 22 or 24
 pub enum TableMade {
     Records(usize),
     Refused { number: u8, place: usize },
 }
 
-// The width table of a PK font at a scale: a record for each packet, in the order of codes, is written into the output area, 16 bytes each. A refusal leaves every
-// byte of the area.
+// The width table of a PK font at a scale: a record for each packet, in the order of codes, is written into the output area, 32 bytes each, with sixteen zeros for
+// the name. A refusal leaves every byte of the area.
 pub fn width_table(pk: &[u8], scale: u32, out: &mut [u8]) -> TableMade
     ensures { λ r. ⌜ madeAnswer r ≡ recordsMade (tableMade (now (pk .entry)) scale (length (now (out .entry)))) ⌝ }
     ensures { λ _. ⌜ now (out .exit) ≡ tableArea (now (out .entry)) (tableMade (now (pk .entry)) scale (length (now (out .entry)))) ⌝ }
@@ -260,6 +271,37 @@ pub fn width_table(pk: &[u8], scale: u32, out: &mut [u8]) -> TableMade
     match tables::width_table(pk, scale as u64, out) {
         Made::Records(records) => TableMade::Records(records),
         Made::Refused(reason) => TableMade::Refused {
+            number: reason.number,
+            place: reason.place,
+        },
+    }
+}
+
+// A width table of the old form, 16 bytes a record, in the new form, 32 bytes each with sixteen zeros for the name: it is written into the output area. A refusal
+// leaves every byte of the area.
+pub fn widen_table(old: &[u8], out: &mut [u8]) -> TableMade
+    ensures { λ r. ⌜ madeAnswer r ≡ widenTable (now (old .entry)) (length (now (out .entry))) ⌝ }
+    ensures { λ _. ⌜ now (out .exit) ≡ widenedArea (now (old .entry)) (now (out .entry)) (widenTable (now (old .entry)) (length (now (out .entry)))) ⌝ }
+    ensures { λ r. ⌜ (NotMade r → now (out .exit) ≡ now (out .entry)) ⌝ }
+{
+    match converting::converting::widen_table(old, out) {
+        Converted::Records(records) => TableMade::Records(records),
+        Converted::Refused(reason) => TableMade::Refused {
+            number: reason.number,
+            place: reason.place,
+        },
+    }
+}
+
+// A width table none of whose records has a name, in the old form: it is written into the output area, 16 bytes a record. A refusal leaves every byte of the area.
+pub fn narrow_table(table: &[u8], out: &mut [u8]) -> TableMade
+    ensures { λ r. ⌜ madeAnswer r ≡ narrowTable (now (table .entry)) (length (now (out .entry))) ⌝ }
+    ensures { λ _. ⌜ now (out .exit) ≡ narrowedArea (now (table .entry)) (now (out .entry)) (narrowTable (now (table .entry)) (length (now (out .entry)))) ⌝ }
+    ensures { λ r. ⌜ (NotMade r → now (out .exit) ≡ now (out .entry)) ⌝ }
+{
+    match converting::converting::narrow_table(table, out) {
+        Converted::Records(records) => TableMade::Records(records),
+        Converted::Refused(reason) => TableMade::Refused {
             number: reason.number,
             place: reason.place,
         },
