@@ -1,14 +1,28 @@
 -- Records in another form: how many bytes they have, one record after the other, and each byte of a record. Assumes nothing.
 use Prim.Native.Nat.{ℕ, zero, suc, _+_, _*_, _≤_, _<_}
-use mathlib.Core.Path.{_≡_, sym, ap, ap₂, _∙_}
+use mathlib.Core.Path.{_≡_, refl, sym, ap, ap₂, _∙_}
 use mathlib.Core.List.{List, _++_, append-assoc}
 use native.Mathlib.Nat.{suc-mul, zero-mul, zero-add, suc-add, mul-le-mul-right}
+use native.Mathlib.Numerals.{add-one}
 use native.Mathlib.Omega.{arith}
 use lib.ListN.{length, getD, take, drop, replicate, length-append, length-drop, length-replicate, getD-replicate, List·getD-append}
 use lib.Seq.{sets, length-take-le, drop-drop, drop-at, getD-take, getD-drop, getD-append-add}
 use Rattle.areas.proofs.Pasting.{sets-behind}
 use Rattle.widths.specs.Table.{sizeWith}
 use Rattle.converting.specs.Converting.{inForm}
+
+-- ---- places
+
+-- a record among others lies where they do
+pub record-fits : (size records index at room : ℕ) → records * size ≤ room → index < records → at ≡ index * size → at + size ≤ room
+record-fits size records index at room fits inside at-is =
+    let past : suc index * size ≤ records * size = mul-le-mul-right size inside in omega (arith, suc-mul index size)
+
+-- the place of the record after so many more
+pub next-place : (size index at : ℕ) → at ≡ index * size → at + size ≡ (index + 1) * size
+next-place size index at at-is = omega (arith, suc-mul index size, ap (λ (n : ℕ). n * size) (add-one index))
+
+-- ---- parts
 
 -- a list of four parts with more behind it
 behind-four : (a b c d more : List ℕ) → a ++ (b ++ (c ++ d)) ++ more ≡ a ++ (b ++ (c ++ (d ++ more)))
@@ -29,13 +43,13 @@ module _ (from to : ℕ) where
 
   -- a table that begins with a whole record
   module _ (table : List ℕ) (whole : sizeWith from ≤ length table) where
-    front-length : length (front table) ≡ 8
+    pub front-length : length (front table) ≡ 8
     front-length = length-take-le 8 table (omega arith)
 
-    back-length : length (back table) ≡ 8
+    pub back-length : length (back table) ≡ 8
     back-length = length-take-le 8 (drop (8 + from) table) (omega (arith, length-drop (8 + from) table))
 
-  name-length : length name ≡ to
+  pub name-length : length name ≡ to
   name-length = length-replicate {A = ℕ} to 0
 
   -- ---- how many bytes
@@ -126,7 +140,7 @@ module _ (from to : ℕ) where
     rest = drop (first * sizeWith from) table
 
     before : first * sizeWith from + sizeWith from ≤ length table
-    before = let past : suc first * sizeWith from ≤ records * sizeWith from = mul-le-mul-right (sizeWith from) (omega arith) in omega (arith, suc-mul first (sizeWith from))
+    before = record-fits (sizeWith from) records first (first * sizeWith from) (length table) fits (omega arith) refl
 
     whole-rest : sizeWith from ≤ length rest
     whole-rest = omega (arith, before, length-drop (first * sizeWith from) table)

@@ -2,3 +2,8 @@ pub mod Forms
 pub mod Written
 pub mod Unnamed
 pub mod Answered
+pub mod Alike
+pub mod Conversions
+pub mod Widened
+pub mod Named
+pub mod RefusedWith

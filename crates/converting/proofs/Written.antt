@@ -1,9 +1,7 @@
 -- A record written into the area, in three parts, and all of them one after the other. Assumes nothing.
-use Prim.Native.Nat.{ℕ, zero, suc, _+_, _-_, _*_, _≤_, _<_}
+use Prim.Native.Nat.{ℕ, zero, suc, _+_, _-_, _*_, _≤_}
 use mathlib.Core.Path.{_≡_, refl, sym, ap, ap₂, _∙_}
 use mathlib.Core.List.{List, _∷_, _++_, append-assoc, append-nil}
-use native.Mathlib.Nat.{suc-mul, mul-le-mul-right}
-use native.Mathlib.Numerals.{add-one}
 use native.Mathlib.Omega.{arith}
 use lib.ListN.{length, take, drop, replicate, length-append, length-drop}
 use lib.Seq.{sets, sets-eq, length-sets, length-take-le, drop-drop}
@@ -11,15 +9,6 @@ use Rattle.areas.proofs.Pasting.{sets-behind}
 use Rattle.widths.specs.Table.{sizeWith}
 use Rattle.converting.specs.Converting.{inForm}
 use Rattle.converting.proofs.Forms.{form-length}
-
--- a record among others lies where they do
-pub record-fits : (size records index at room : ℕ) → records * size ≤ room → index < records → at ≡ index * size → at + size ≤ room
-record-fits size records index at room fits inside at-is =
-    let past : suc index * size ≤ records * size = mul-le-mul-right size inside in omega (arith, suc-mul index size)
-
--- the place of the record after so many more
-pub next-place : (size index at : ℕ) → at ≡ index * size → at + size ≡ (index + 1) * size
-next-place size index at at-is = omega (arith, suc-mul index size, ap (λ (n : ℕ). n * size) (add-one index))
 
 -- ---- one record
 

@@ -45,8 +45,8 @@ fn write_records(table: &[u8], from: usize, records: usize, out: &mut [u8], to: 
     let mut index: usize = 0;
     while index < records {
         put_record(table, from, at, &mut *out, to, written);
-        at += from + 16;
-        written += to + 16;
+        at += from + old::RECORD_SIZE;
+        written += to + old::RECORD_SIZE;
         index += 1;
     }
 }

@@ -98,7 +98,7 @@ past-block : (block byte key other : ℕ) → byte < 256 → block * 256 + 256 �
 past-block block byte key other small h more e = omega arith
 
 -- either way the same was found
-or-same : (l : LookUp) → orElse l l ≡ l
+pub or-same : (l : LookUp) → orElse l l ≡ l
 or-same (found m) = refl
 or-same absent = refl
 

@@ -13,7 +13,7 @@ use Rattle.widths.specs.Table.{oldRecordSize, checkedTable}
 use Rattle.converting.specs.Steps.{namedSays}
 use Rattle.converting.specs.Converting.{unnamedFrom, narrowedArea}
 use Rattle.converting.proofs.Answered.{known, answered-refused, answered-short, answered-given, too-few, enough}
-use Rattle.converting.proofs.Unnamed.{unnamed-count}
+use Rattle.converting.proofs.Unnamed.{unnamed-all}
 use Rattle.converting.proofs.converting.narrow_table.Statement.{statement}
 use Rattle.converting.proofs.converting.narrow_table.Tie as tie
 
@@ -45,7 +45,7 @@ unnamed : (c : tie.After-enum-told) → judgedOf (c .before .before .before .bef
 unnamed c =
     let records = c .before .before .before .before .records .given .0 .0 in
     let answer : namedSays (c .before .before .first-named .result) ≡ given (c .enum-told .given .0 .0) = ap namedSays (c .enum-told .given .1) in
-    let count : 0 + records ≡ c .enum-told .given .0 .0 = unnamed-count (now (c .before .before .before .before .before .before .before .before .before .args .widths)) records 0 (c .enum-told .given .0 .0) (sym (c .before .before .first-named .ensures) ∙ answer) in
+    let count : 0 + records ≡ c .enum-told .given .0 .0 = unnamed-all (now (c .before .before .before .before .before .before .before .before .before .args .widths)) records 0 (c .enum-told .given .0 .0) (λ j h. absurd (omega arith)) (sym (c .before .before .first-named .ensures) ∙ answer) .0 in
     let same : c .enum-told .given .0 .0 ≡ records = omega arith in
     searched (c .before .before) ∙ answer ∙ ap given same
 

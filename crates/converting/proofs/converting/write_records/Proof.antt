@@ -9,8 +9,8 @@ use lib.Seq.{sets, length-sets}
 use denote.Ref.{now}
 use Rattle.widths.specs.Table.{sizeWith}
 use Rattle.converting.specs.Converting.{inForm}
-use Rattle.converting.proofs.Written.{record-fits, next-place, all-written}
-use Rattle.converting.proofs.Forms.{form-written}
+use Rattle.converting.proofs.Written.{all-written}
+use Rattle.converting.proofs.Forms.{record-fits, next-place, form-written}
 use Rattle.converting.proofs.converting.write_records.Statement.{statement}
 use Rattle.converting.proofs.converting.write_records.Tie as tie
 
