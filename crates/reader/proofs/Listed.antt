@@ -5,15 +5,17 @@ use mathlib.Core.Logic.{inl, inr}
 use native.Mathlib.Omega.{arith}
 use lib.IntN.{ℤ}
 use Rattle.refusals.specs.Answer.{Answer}
-use Rattle.refusals.specs.RefusedOnly.{RefusedOnly, Listed, FileRefusal, CommandRefusal, NameRefusal, DistanceRefusal, WidthRefusal, TableRefusal, PageRefusal, MadeRefusal, CutRefusal}
+use Rattle.refusals.specs.RefusedOnly.{RefusedOnly, Listed, FileRefusal, CommandRefusal, NameRefusal, DistanceRefusal, WidthRefusal, TableRefusal, PageRefusal, MadeRefusal, CutRefusal, WidenRefusal, NarrowRefusal}
 use Rattle.refusals.proofs.RefusedOnly.{only-wider, file-numbers, name-numbers, unit-numbers, page-numbers, made-numbers, cut-numbers}
 use Rattle.units.specs.Rounding.{roundedDistance}
 use Rattle.units.proofs.RefusedWith.{distance-refused-with}
 use Rattle.widths.specs.declared.FixWord.{FixWord}
 use Rattle.widths.specs.Scaling.{scaledWidth}
-use Rattle.widths.specs.Table.{widthRecordSize, checkedTable}
+use Rattle.widths.specs.Table.{widthRecordSize, oldRecordSize, checkedTable}
 use Rattle.widths.specs.LookUp.{lookedUp}
 use Rattle.widths.proofs.RefusedWith.{width-refused-with, table-refused-with, look-up-refused-with}
+use Rattle.converting.specs.Converting.{widenTable, narrowTable}
+use Rattle.converting.proofs.RefusedWith.{widen-refused-with, narrow-refused-with}
 use Rattle.commands.specs.Reading.{commandRead}
 use Rattle.commands.proofs.RefusedWith.{command-refused-with}
 use Rattle.volume.specs.Judged.{judged}
@@ -61,6 +63,15 @@ page-low file table number place may = let (low, high) = page-numbers file width
 made-low : (pk : List ℕ) (number place : ℕ) → MadeRefusal pk number place → Low number
 made-low pk number place may = let (low, high) = made-numbers pk may in (omega arith, omega arith)
 
+widen-low : (old : List ℕ) (number place : ℕ) → WidenRefusal oldRecordSize old number place → Low number
+widen-low old number place (inl (is, there, below)) = (omega (arith, is), omega (arith, is))
+widen-low old number place (inr (is, there)) = (omega (arith, is), omega (arith, is))
+
+narrow-low : (table : List ℕ) (number place : ℕ) → NarrowRefusal widthRecordSize table number place → Low number
+narrow-low table number place (inl (is, there, below)) = (omega (arith, is), omega (arith, is))
+narrow-low table number place (inr (inl (is, there, below))) = (omega (arith, is), omega (arith, is))
+narrow-low table number place (inr (inr (is, there))) = (omega (arith, is), omega (arith, is))
+
 -- ---- of each entry
 
 pub command-listed : (file : List ℕ) (at : ℕ) → Listed (commandRead file at)
@@ -94,3 +105,9 @@ made-listed pk scale room = listed (MadeRefusal pk) (recordsMade (tableMade pk s
 
 pub cut-listed : (file list : List ℕ) (room : ℕ) → Listed (bytesCut (cutPages file list room))
 cut-listed file list room = listed (CutRefusal file) (bytesCut (cutPages file list room)) (λ number place may. let (low, high) = cut-numbers file may in (low, omega arith)) (cut-refused-with file list room)
+
+pub widened-listed : (old : List ℕ) (room : ℕ) → Listed (widenTable old room)
+widened-listed old room = listed (WidenRefusal oldRecordSize old) (widenTable old room) (widen-low old) (widen-refused-with old room)
+
+pub narrowed-listed : (table : List ℕ) (room : ℕ) → Listed (narrowTable table room)
+narrowed-listed table room = listed (NarrowRefusal widthRecordSize table) (narrowTable table room) (narrow-low table) (narrow-refused-with table room)
