@@ -22,7 +22,7 @@ whole named table records judged = omega (arith, table-size named table records 
 
 -- ---- an old table in the new form
 
-module _ (old : List ℕ) (records : ℕ) (judged : oldTable old ≡ given records) where
+module _ (old : List ℕ) (records : ℕ) where
   abbrev widened : List ℕ
   widened = inForm 0 nameSize records old
 
@@ -30,42 +30,40 @@ module _ (old : List ℕ) (records : ℕ) (judged : oldTable old ≡ given recor
   none-old : NoNames 0 old records
   none-old index inside i h = absurd (omega arith)
 
-  none-new : NoNames nameSize widened records
-  none-new = form-unnamed 0 nameSize records old none-old (whole 0 old records judged)
+  none-new : oldTable old ≡ given records → NoNames nameSize widened records
+  none-new judged = form-unnamed 0 nameSize records old none-old (whole 0 old records judged)
 
   -- a right old table in the new form is right, with as many records
-  pub widened-right : Bytes old → checkedTable (inForm 0 nameSize records old) ≡ given records
-  widened-right bytes = form-right 0 nameSize records old none-old bytes judged
+  pub widened-right : Bytes old → oldTable old ≡ given records → checkedTable (inForm 0 nameSize records old) ≡ given records
+  widened-right bytes judged = form-right 0 nameSize records old none-old bytes judged
 
   -- in the new form each character is found as it was in the old table, whatever name is sought
-  pub widened-looks : (checksum scale name byte : ℕ) → lookedFor records (inForm 0 nameSize records old) checksum scale name byte ≡ oldWalk records old checksum scale byte
-  widened-looks checksum scale name byte =
-      any-name nameSize widened checksum scale byte records name none-new
+  pub widened-looks : oldTable old ≡ given records → (checksum scale name byte : ℕ)
+      → lookedFor records (inForm 0 nameSize records old) checksum scale name byte ≡ oldWalk records old checksum scale byte
+  widened-looks judged checksum scale name byte =
+      any-name nameSize widened checksum scale byte records name (none-new judged)
       ∙ form-walk 0 nameSize records old none-old (whole 0 old records judged) checksum scale 0 byte
 
-  -- so look_up answers of it what it answered of the old table
-  pub widened-looks-up : Bytes old → (checksum scale : ℕ) (name : List ℕ) (code : ℤ)
+  -- so look_up answers of it what a look-up in the old table finds
+  pub widened-looks-up : Bytes old → oldTable old ≡ given records → (checksum scale : ℕ) (name : List ℕ) (code : ℤ)
       → lookedUp (inForm 0 nameSize records old) checksum scale name code ≡ given (oldWalk records old checksum scale (codeByte code))
-  widened-looks-up bytes checksum scale name code =
-      ap (λ (a : Answer ℕ). andThen a (λ n. given (lookedFor n widened checksum scale (nameNumber (soughtName name)) (codeByte code)))) (widened-right bytes)
-      ∙ ap given (widened-looks checksum scale (nameNumber (soughtName name)) (codeByte code))
+  widened-looks-up bytes judged checksum scale name code =
+      ap (λ (a : Answer ℕ). andThen a (λ n. given (lookedFor n widened checksum scale (nameNumber (soughtName name)) (codeByte code)))) (widened-right bytes judged)
+      ∙ ap given (widened-looks judged checksum scale (nameNumber (soughtName name)) (codeByte code))
 
   -- narrowed again, it is the old table, byte by byte
-  pub narrowed-again : inForm nameSize 0 records (inForm 0 nameSize records old) ≡ old
-  narrowed-again = form-again 0 nameSize records old none-old (table-size 0 old records judged)
+  pub narrowed-again : oldTable old ≡ given records → inForm nameSize 0 records (inForm 0 nameSize records old) ≡ old
+  narrowed-again judged = form-again 0 nameSize records old none-old (table-size 0 old records judged)
 
-  -- narrow_table takes it, whatever it holds: only the room can be short
-  pub narrow-of-widened : Bytes old → (room : ℕ) → narrowTable (inForm 0 nameSize records old) room ≡ withRoom room (sizeWith 0) records
-  narrow-of-widened bytes room =
-      ap (λ (a : Answer ℕ). andThen (andThen a (λ n. unnamedFrom n widened 0)) (withRoom room (sizeWith 0))) (widened-right bytes)
-      ∙ ap (λ (a : Answer ℕ). andThen a (withRoom room (sizeWith 0))) (unnamed-given widened records 0 records (omega arith) (λ index inside. no-number nameSize widened index (none-new index inside)))
+  -- narrow_table takes it: only the room can be short
+  pub narrow-of-widened : Bytes old → oldTable old ≡ given records → (room : ℕ) → narrowTable (inForm 0 nameSize records old) room ≡ withRoom room (sizeWith 0) records
+  narrow-of-widened bytes judged room =
+      ap (λ (a : Answer ℕ). andThen (andThen a (λ n. unnamedFrom n widened 0)) (withRoom room (sizeWith 0))) (widened-right bytes judged)
+      ∙ ap (λ (a : Answer ℕ). andThen a (withRoom room (sizeWith 0))) (unnamed-given widened records 0 records (omega arith) (λ index inside. no-number nameSize widened index (none-new judged index inside)))
 
 -- ---- a new table without names in the old form
 
 module _ (table : List ℕ) (records : ℕ) (judged : checkedTable table ≡ given records) (unnamed : unnamedFrom records table 0 ≡ given records) where
-  abbrev narrowed : List ℕ
-  narrowed = inForm nameSize 0 records table
-
   none : NoNames nameSize table records
   none index inside = none-by-number nameSize table index (unnamed-all table records 0 records (λ j h. absurd (omega arith)) unnamed .1 index inside)
 

@@ -42,12 +42,12 @@ fn write_records(table: &[u8], from: usize, records: usize, out: &mut [u8], to: 
 {
     let mut at: usize = 0;
     let mut written: usize = 0;
-    let mut index: usize = 0;
-    while index < records {
+    let mut done: usize = 0;
+    while done < records {
         put_record(table, from, at, &mut *out, to, written);
         at += from + old::RECORD_SIZE;
         written += to + old::RECORD_SIZE;
-        index += 1;
+        done += 1;
     }
 }
 
