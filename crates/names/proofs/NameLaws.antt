@@ -69,18 +69,19 @@ module _ (name : List ℕ) (short : length name ≤ 16) where
       ∙ ap (λ (l : List ℕ). name ++ l) (sym (replicate-append-replicate (16 - length name) (length name) 0))
       ∙ sym (append-assoc name (replicate (16 - length name) 0) (replicate (length name) 0))
 
-  abbrev padded : List ℕ
+  -- the name with zeros up to sixteen bytes
+  abbrev pub padded : List ℕ
   padded = name ++ replicate (16 - length name) 0
 
-  long : length padded ≡ 16
-  long = length-append name (replicate (16 - length name) 0) ∙ ap (λ (n : ℕ). length name + n) (length-replicate (16 - length name) 0) ∙ omega arith
+  pub padded-length : length padded ≡ 16
+  padded-length = length-append name (replicate (16 - length name) 0) ∙ ap (λ (n : ℕ). length name + n) (length-replicate (16 - length name) 0) ∙ omega arith
 
   pub without-zero : hasZero name ≡ false → nameAt padded 0 ≡ soughtName name
   unfolding soughtName
   without-zero e =
       ap₂ (λ (high low : ℕ). record { high = high; low = low })
-      (sym (ap (λ (l : List ℕ). unsignedAt l 0 8) filled ∙ unsigned-front padded (replicate (length name) 0) 0 8 (omega (arith, long))))
-      (sym (ap (λ (l : List ℕ). unsignedAt l 8 8) filled ∙ unsigned-front padded (replicate (length name) 0) 8 8 (omega (arith, long))))
+      (sym (ap (λ (l : List ℕ). unsignedAt l 0 8) filled ∙ unsigned-front padded (replicate (length name) 0) 0 8 (omega (arith, padded-length))))
+      (sym (ap (λ (l : List ℕ). unsignedAt l 8 8) filled ∙ unsigned-front padded (replicate (length name) 0) 8 8 (omega (arith, padded-length))))
       ∙ ap₂ (λ (t u : Bool). cond (t && not u) (nameAt (name ++ replicate 16 0) 0) anyName) (sym (le-leb (length name) 16 short)) (sym e)
 
   -- the zeros that a name is put into stay behind it

@@ -19,6 +19,8 @@ use Rattle.reader.proofs.scale_width.Reads as scale-width
 use Rattle.reader.proofs.check_table.Reads as check-table
 use Rattle.reader.proofs.look_up.Reads as look-up
 use Rattle.reader.proofs.width_table.Reads as width-table
+use Rattle.reader.proofs.widen_table.Reads as widen-table
+use Rattle.reader.proofs.narrow_table.Reads as narrow-table
 use Rattle.reader.proofs.cut_pages.Reads as cut-pages
 use Rattle.reader.proofs.place_page.Reads as place-page
 use Rattle.promises.proofs.OneToOne.{command-one-to-one, file-one-to-one, name-one-to-one, rounded-one-to-one, scaled-one-to-one, table-one-to-one, looked-one-to-one, made-one-to-one, cut-one-to-one, placed-one-to-one}
@@ -45,13 +47,22 @@ scale-width-outcomes κs a r s x y p q = scaled-one-to-one r s (p ∙ sym q)
 pub check-table-outcomes : (κs : Lfts 1) → (a : _) → (r s : TableChecked) → (x y : _) → check-table.Post κs a r x → check-table.Post κs a s y → r ≡ s
 check-table-outcomes κs a r s x y p q = table-one-to-one r s (p ∙ sym q)
 
-pub look-up-outcomes : (κs : Lfts 1) → (a : _) → (r s : LookedUp) → (x y : _) → look-up.Post κs a r x → look-up.Post κs a s y → r ≡ s
+pub look-up-outcomes : (κs : Lfts 2) → (a : _) → (r s : LookedUp) → (x y : _) → look-up.Post κs a r x → look-up.Post κs a s y → r ≡ s
 look-up-outcomes κs a r s x y p q = looked-one-to-one r s (p ∙ sym q)
 
 -- of a font: the number of records or the refusal, and every byte of the output area
 pub width-table-outcomes : (κs : Lfts 2) → (a : _) → (r s : TableMade) → (x y : _) → width-table.Post κs a r x → width-table.Post κs a s y
     → (r ≡ s) × (now (x .1 .1 .0) ≡ now (y .1 .1 .0))
 width-table-outcomes κs a r s x y p q = (made-one-to-one r s (p .0 ∙ sym (q .0)), p .1 .0 ∙ sym (q .1 .0))
+
+-- of a table in its other form: the same
+pub widen-table-outcomes : (κs : Lfts 2) → (a : _) → (r s : TableMade) → (x y : _) → widen-table.Post κs a r x → widen-table.Post κs a s y
+    → (r ≡ s) × (now (x .1 .0) ≡ now (y .1 .0))
+widen-table-outcomes κs a r s x y p q = (made-one-to-one r s (p .0 ∙ sym (q .0)), p .1 .0 ∙ sym (q .1 .0))
+
+pub narrow-table-outcomes : (κs : Lfts 2) → (a : _) → (r s : TableMade) → (x y : _) → narrow-table.Post κs a r x → narrow-table.Post κs a s y
+    → (r ≡ s) × (now (x .1 .0) ≡ now (y .1 .0))
+narrow-table-outcomes κs a r s x y p q = (made-one-to-one r s (p .0 ∙ sym (q .0)), p .1 .0 ∙ sym (q .1 .0))
 
 -- of chosen pages: the number of bytes or the refusal, and every byte of the output area
 pub cut-pages-outcomes : (κs : Lfts 3) → (a : _) → (r s : PagesCut) → (x y : _) → cut-pages.Post κs a r x → cut-pages.Post κs a s y

@@ -7,11 +7,12 @@ use lib.ListN.{length}
 use contract.Lifetimes.{Lfts}
 use denote.Ref.{now}
 use Rattle.refusals.specs.Answer.{Answer}
-use Rattle.refusals.specs.RefusedOnly.{RefusedOnly, FileRefusal, CommandRefusal, NameRefusal, DistanceRefusal, WidthRefusal, TableRefusal, PageRefusal, MadeRefusal, CutRefusal}
+use Rattle.refusals.specs.RefusedOnly.{RefusedOnly, FileRefusal, CommandRefusal, NameRefusal, DistanceRefusal, WidthRefusal, TableRefusal, PageRefusal, MadeRefusal, CutRefusal, WidenRefusal, NarrowRefusal}
 use Rattle.units.proofs.RefusedWith.{distance-refused-with}
 use Rattle.widths.specs.Scaling.{fixWord}
-use Rattle.widths.specs.Table.{widthRecordSize}
+use Rattle.widths.specs.Table.{widthRecordSize, oldRecordSize}
 use Rattle.widths.proofs.RefusedWith.{width-refused-with, table-refused-with, look-up-refused-with}
+use Rattle.converting.proofs.RefusedWith.{widen-refused-with, narrow-refused-with}
 use Rattle.commands.proofs.RefusedWith.{command-refused-with}
 use Rattle.volume.proofs.RefusedWith.{file-refused-with, name-refused-with}
 use Rattle.page.proofs.RefusedWith.{page-refused-with}
@@ -35,6 +36,8 @@ use Rattle.reader.proofs.scale_width.Reads as scale-width
 use Rattle.reader.proofs.check_table.Reads as check-table
 use Rattle.reader.proofs.look_up.Reads as look-up
 use Rattle.reader.proofs.width_table.Reads as width-table
+use Rattle.reader.proofs.widen_table.Reads as widen-table
+use Rattle.reader.proofs.narrow_table.Reads as narrow-table
 use Rattle.reader.proofs.cut_pages.Reads as cut-pages
 use Rattle.reader.proofs.place_page.Reads as place-page
 
@@ -75,11 +78,11 @@ pub check-table-refusals : (κs : Lfts 1) → (table : _) → (r : TableChecked)
 check-table-refusals κs table r x post = said (TableRefusal widthRecordSize (now table)) post (table-refused-with (now table))
 
 -- as check_table
-pub look-up-refusals : (κs : Lfts 1) → (table : _) → (checksum scale : ℕ) → (code : ℤ) → (r : LookedUp) → (x : _)
-    → look-up.Post κs (table, (checksum, (scale, (code, tt)))) r x
+pub look-up-refusals : (κs : Lfts 2) → (table : _) → (checksum scale : ℕ) → (name : _) → (code : ℤ) → (r : LookedUp) → (x : _)
+    → look-up.Post κs (table, (checksum, (scale, (name, (code, tt))))) r x
     → RefusedOnly (TableRefusal widthRecordSize (now table)) (lookedAnswer r)
-look-up-refusals κs table checksum scale code r x post =
-    said (TableRefusal widthRecordSize (now table)) post (look-up-refused-with (now table) checksum scale code)
+look-up-refusals κs table checksum scale name code r x post =
+    said (TableRefusal widthRecordSize (now table)) post (look-up-refused-with (now table) checksum scale (now name) code)
 
 -- as check_file; 12, 13, 15 or 17 at 0; as check_table; 16 in the file
 pub place-page-refusals : (κs : Lfts 3) → (file table : _) → (resolution page : ℕ) → (area : _) → (r : Placed) → (x : _)
@@ -97,3 +100,13 @@ width-table-refusals κs pk scale area r x post = said (MadeRefusal (now pk)) (p
 pub cut-pages-refusals : (κs : Lfts 3) → (file pages area : _) → (r : PagesCut) → (x : _) → cut-pages.Post κs (file, (pages, (area, tt))) r x
     → RefusedOnly (CutRefusal (now file)) (cutAnswer r)
 cut-pages-refusals κs file pages area r x post = said (CutRefusal (now file)) (post .0) (cut-refused-with (now file) (now pages) (length (now area)))
+
+-- 14 at the first byte of an old record that begins in the table; 17 at 0
+pub widen-table-refusals : (κs : Lfts 2) → (old area : _) → (r : TableMade) → (x : _) → widen-table.Post κs (old, (area, tt)) r x
+    → RefusedOnly (WidenRefusal oldRecordSize (now old)) (madeAnswer r)
+widen-table-refusals κs old area r x post = said (WidenRefusal oldRecordSize (now old)) (post .0) (widen-refused-with (now old) (length (now area)))
+
+-- 14 and 24 at the first byte of a record that begins in the table; 17 at 0
+pub narrow-table-refusals : (κs : Lfts 2) → (table area : _) → (r : TableMade) → (x : _) → narrow-table.Post κs (table, (area, tt)) r x
+    → RefusedOnly (NarrowRefusal widthRecordSize (now table)) (madeAnswer r)
+narrow-table-refusals κs table area r x post = said (NarrowRefusal widthRecordSize (now table)) (post .0) (narrow-refused-with (now table) (length (now area)))

@@ -6,3 +6,4 @@ pub mod StatedDepth
 pub mod Bars
 pub mod Fonts
 pub mod Cuts
+pub mod OldTables

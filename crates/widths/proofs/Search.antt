@@ -77,6 +77,12 @@ module _ (table : List ℕ) (records : ℕ) (judged : checkedTable table ≡ giv
         (λ j low high same. absurd (below-not-same (keys-rise nameSize table records judged j index high inside) (same ∙ sym here)))
         (key-for table index checksum scale name byte k sought h is e))
 
+    -- a record that is for a character is the one that the walk finds
+    pub own-found : (index : ℕ) → index < records → isFor (recordOf table index) checksum scale name byte ≡ true → walk records table checksum scale name byte ≡ found (metricOf (recordOf table index))
+    own-found index inside is =
+        hits table checksum scale name byte records 0 index (omega arith) (omega arith)
+        (λ j low high same. below-not-same (keys-rise nameSize table records judged j index high inside) (same ∙ sym (for-key table index checksum scale name byte is))) is
+
     -- no record has the character's key where it is not in the first whose key is not below it
     pub walk-misses : (index : ℕ) → FirstNotBelow table records (characterKey checksum scale name byte) index → (index < records → recordOf table index .key ≡ characterKey checksum scale name byte → ⊥)
         → absent ≡ walk records table checksum scale name byte
