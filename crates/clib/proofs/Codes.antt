@@ -1,4 +1,4 @@
--- The code that a call returns tells how it ended: 0 a result, 255 an array too short, 1 to 23 a refusal, whatever the inputs. Assumes nothing.
+-- The code that a call returns tells how it ended: 0 a result, 255 an array too short, 1 to 24 a refusal, whatever the inputs. Assumes nothing.
 use Prim.Native.Nat.{ℕ, _≤_, _<_}
 use mathlib.Core.Path.{_≡_, refl}
 use mathlib.Core.Bool.{Bool, true, false, cond}
@@ -29,7 +29,7 @@ module _ {A : Type 0} (least : ℕ) (array : List ℕ) (answer : Answer A) (list
   number-is (refused number at) l e = absurd (omega (arith, l .0, e))
   number-is (given a) l e = tt
 
-  number-low : (a : Answer A) → Listed a → numberOf a ≤ 23
+  number-low : (a : Answer A) → Listed a → numberOf a ≤ 24
   number-low (refused number at) l = l .1
   number-low (given a) l = omega arith
 
@@ -71,8 +71,9 @@ scale-width-code array scale w = tells 1 array (scaledWidth scale w) (scaled-lis
 pub check-table-code : (array table : List ℕ) → Tells 1 array (checkedTable table)
 check-table-code array table = tells 1 array (checkedTable table) (table-listed table)
 
-pub look-up-code : (array table : List ℕ) (checksum scale : ℕ) (character : ℤ) → Tells 6 array (lookedUp table checksum scale character)
-look-up-code array table checksum scale character = tells 6 array (lookedUp table checksum scale character) (looked-listed table checksum scale character)
+pub look-up-code : (array table : List ℕ) (checksum scale : ℕ) (name : List ℕ) (character : ℤ) → Tells 6 array (lookedUp table checksum scale name character)
+look-up-code array table checksum scale name character =
+    tells 6 array (lookedUp table checksum scale name character) (looked-listed table checksum scale name character)
 
 pub font-name-code : (array file : List ℕ) (font : ℤ) → Tells 2 array (namePlace file font)
 font-name-code array file font = tells 2 array (namePlace file font) (name-listed file font)

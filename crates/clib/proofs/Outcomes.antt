@@ -40,8 +40,8 @@ pub check-table-outcomes : (κs : Lfts 2) → (a : _) → (r s : ℕ) → (x y :
     → (r ≡ s) × (now (x .1 .0) ≡ now (y .1 .0))
 check-table-outcomes κs a r s x y p q = (p .0 ∙ sym (q .0), p .1 ∙ sym (q .1))
 
-pub look-up-outcomes : (κs : Lfts 2) → (a : _) → (r s : ℕ) → (x y : _) → look-up.Post κs a r x → look-up.Post κs a s y
-    → (r ≡ s) × (now (x .1 .1 .1 .1 .0) ≡ now (y .1 .1 .1 .1 .0))
+pub look-up-outcomes : (κs : Lfts 3) → (a : _) → (r s : ℕ) → (x y : _) → look-up.Post κs a r x → look-up.Post κs a s y
+    → (r ≡ s) × (now (x .1 .1 .1 .1 .1 .0) ≡ now (y .1 .1 .1 .1 .1 .0))
 look-up-outcomes κs a r s x y p q = (p .0 ∙ sym (q .0), p .1 ∙ sym (q .1))
 
 -- the array, then the area

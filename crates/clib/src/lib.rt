@@ -168,22 +168,23 @@ pub extern "C" fn hurlyburn_check_table(table: &[u8], answer: &mut [u64]) -> u32
     }
 }
 
-// What a width table says of a character: 1, escapement and the fix word's four bytes; or 0 where it is absent.
+// What a width table says of a character of a font, by the font's name without its area: 1, escapement and the fix word's four bytes; or 0 where it is absent.
 #[no_mangle]
 pub extern "C" fn hurlyburn_look_up(
     table: &[u8],
     checksum: u32,
     scale: u32,
+    name: &[u8],
     character: i32,
     answer: &mut [u64],
 ) -> u32
-    ensures { λ r. ⌜ r ≡ code 6 (now (answer .entry)) (lookedUp (now (table .entry)) checksum scale character) ⌝ }
-    ensures { λ _. ⌜ now (answer .exit) ≡ arrayAfter 6 lookedNumbers (now (answer .entry)) (lookedUp (now (table .entry)) checksum scale character) ⌝ }
+    ensures { λ r. ⌜ r ≡ code 6 (now (answer .entry)) (lookedUp (now (table .entry)) checksum scale (now (name .entry)) character) ⌝ }
+    ensures { λ _. ⌜ now (answer .exit) ≡ arrayAfter 6 lookedNumbers (now (answer .entry)) (lookedUp (now (table .entry)) checksum scale (now (name .entry)) character) ⌝ }
 {
     if answer.len() < 6 {
         return answers::ARRAY_TOO_SHORT;
     }
-    match reader::look_up(table, checksum, scale, character) {
+    match reader::look_up(table, checksum, scale, name, character) {
         LookedUp::Found {
             escapement,
             b0,

@@ -17,15 +17,15 @@ use Rattle.clib.proofs.hurlyburn_look_up.Statement.{statement}
 use Rattle.clib.proofs.hurlyburn_look_up.Tie as tie
 
 -- what the reader answered
-looked-is : (p : tie.After-look-up) → let a = p .before .before .before .before .args in lookedAnswer (p .look-up .result) ≡ lookedUp (now (a .table)) (a .checksum) (a .scale) (a .character)
+looked-is : (p : tie.After-look-up) → let a = p .before .before .before .before .before .args in lookedAnswer (p .look-up .result) ≡ lookedUp (now (a .table)) (a .checksum) (a .scale) (now (a .name)) (a .character)
 looked-is p =
-    let s = p .before .before .before .before in
-    p .look-up .ensures ∙ ap (lookedUp (now (s .args .table)) (s .args .checksum) (s .args .scale)) (toZ-ofZ (s .fits .character))
+    let s = p .before .before .before .before .before in
+    p .look-up .ensures ∙ ap (lookedUp (now (s .args .table)) (s .args .checksum) (s .args .scale) (now (s .args .name))) (toZ-ofZ (s .fits .character))
 
 returns : tie.Need-returns
 returns c =
-    let a = c .before .before .before .args in
-    leaves-short 6 lookedNumbers (now (a .answer)) (lookedUp (now (a .table)) (a .checksum) (a .scale) (a .character)) (omega (arith, c .if1 .taken))
+    let a = c .before .before .before .before .args in
+    leaves-short 6 lookedNumbers (now (a .answer)) (lookedUp (now (a .table)) (a .checksum) (a .scale) (now (a .name)) (a .character)) (omega (arith, c .if1 .taken))
 
 look-up-requires : tie.Need-look-up-requires
 look-up-requires c κs = search needs
@@ -36,9 +36,6 @@ enum-known-escapement c = search needs
 word-of-requires : tie.Need-word-of-requires
 word-of-requires c κs = search needs
 
-cast-t20 : tie.Need-cast-t20
-cast-t20 c = search needs
-
 cast-t21 : tie.Need-cast-t21
 cast-t21 c = search needs
 
@@ -47,6 +44,9 @@ cast-t22 c = search needs
 
 cast-t23 : tie.Need-cast-t23
 cast-t23 c = search needs
+
+cast-t24 : tie.Need-cast-t24
+cast-t24 c = search needs
 
 slice-aggregate-give : tie.Need-slice-aggregate-give
 slice-aggregate-give c = search needs
@@ -74,12 +74,12 @@ same-length c = search needs
 
 returns-2 : tie.Need-returns-2
 returns-2 c =
-    let a = c .before .before .before .before .before .before .before .before .before .before .before .before .before .args in
+    let a = c .before .before .before .before .before .before .before .before .before .before .before .before .before .before .args in
     let g = c .before .before .give in
     let f = c .before .before .before .before .before .before .before .escapement .given .0 in
     let e : toZ w64 (ofZ w64 (f .0)) ≡ f .0 = search needs in
     let w : c .before .before .before .before .before .word-of .result ≡ toTwos (2 ^ 64) (f .0) = c .before .before .before .before .before .word-of .ensures ∙ ap (toTwos (2 ^ 64)) e in
-    leaves-given 6 lookedNumbers (now (a .answer)) (lookedUp (now (a .table)) (a .checksum) (a .scale) (a .character)) (omega (arith, c .before .before .before .before .before .before .before .before .before .before .if1 .left)) _
+    leaves-given 6 lookedNumbers (now (a .answer)) (lookedUp (now (a .table)) (a .checksum) (a .scale) (now (a .name)) (a .character)) (omega (arith, c .before .before .before .before .before .before .before .before .before .before .if1 .left)) _
     (sym (looked-is (c .before .before .before .before .before .before .before .before .before)) ∙ ap lookedAnswer (c .before .before .before .before .before .before .before .escapement .given .1)) (g .result) (g .last .0)
     (g .ensures .0, g .ensures .1 ∙ ap (λ (word : ℕ). inFront (1 ∷ word ∷ f .1 .0 ∷ f .1 .1 .0 ∷ f .1 .1 .1 .0 ∷ f .1 .1 .1 .1 .0 ∷ []) (now (a .answer))) w)
 
@@ -88,9 +88,9 @@ same-length-2 c = search needs
 
 returns-3 : tie.Need-returns-3
 returns-3 c =
-    let a = c .before .before .before .before .before .before .before .before .before .before .before .args in
+    let a = c .before .before .before .before .before .before .before .before .before .before .before .before .args in
     let g = c .before .before .give2 in
-    leaves-given 6 lookedNumbers (now (a .answer)) (lookedUp (now (a .table)) (a .checksum) (a .scale) (a .character)) (omega (arith, c .before .before .before .before .before .before .before .before .if1 .left)) _
+    leaves-given 6 lookedNumbers (now (a .answer)) (lookedUp (now (a .table)) (a .checksum) (a .scale) (now (a .name)) (a .character)) (omega (arith, c .before .before .before .before .before .before .before .before .if1 .left)) _
     (sym (looked-is (c .before .before .before .before .before .before .before)) ∙ ap lookedAnswer (c .before .before .before .before .before .enum-told .given .1)) (g .result) (g .last .0) (g .ensures)
 
 same-length-3 : tie.Need-same-length-3
@@ -98,9 +98,9 @@ same-length-3 c = search needs
 
 returns-4 : tie.Need-returns-4
 returns-4 c =
-    let a = c .before .before .before .before .before .before .before .before .before .before .before .args in
+    let a = c .before .before .before .before .before .before .before .before .before .before .before .before .args in
     let g = c .before .before .refuse in
-    leaves-refused 6 lookedNumbers (now (a .answer)) (lookedUp (now (a .table)) (a .checksum) (a .scale) (a .character)) (omega (arith, c .before .before .before .before .before .before .before .before .if1 .left)) _ _
+    leaves-refused 6 lookedNumbers (now (a .answer)) (lookedUp (now (a .table)) (a .checksum) (a .scale) (now (a .name)) (a .character)) (omega (arith, c .before .before .before .before .before .before .before .before .if1 .left)) _ _
     (sym (looked-is (c .before .before .before .before .before .before .before)) ∙ ap lookedAnswer (c .before .before .before .before .before .number .given .1)) (g .result) (g .last .0) (g .ensures)
 
 pub hurlyburn-look-up-spec : {M : Type 1} → statement M
@@ -111,10 +111,10 @@ hurlyburn-look-up-spec =
     look-up-requires
     enum-known-escapement
     word-of-requires
-    cast-t20
     cast-t21
     cast-t22
     cast-t23
+    cast-t24
     slice-aggregate-give
     give-requires
     enum-told
