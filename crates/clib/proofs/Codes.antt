@@ -16,12 +16,13 @@ use Rattle.widths.specs.declared.FixWord.{FixWord}
 use Rattle.widths.specs.Scaling.{scaledWidth}
 use Rattle.widths.specs.Table.{checkedTable}
 use Rattle.widths.specs.LookUp.{lookedUp}
+use Rattle.converting.specs.Converting.{widenTable, narrowTable}
 use Rattle.volume.specs.Judged.{judged}
 use Rattle.volume.specs.Names.{namePlace}
 use Rattle.packed.specs.Table.{tableMade, recordsMade}
 use Rattle.cutting.specs.CutFile.{cutPages, bytesCut}
 use Rattle.page.specs.Answers.{placedPage, placedCounts}
-use Rattle.reader.proofs.Listed.{command-listed, file-listed, name-listed, rounded-listed, scaled-listed, table-listed, looked-listed, placed-listed, made-listed, cut-listed}
+use Rattle.reader.proofs.Listed.{command-listed, file-listed, name-listed, rounded-listed, scaled-listed, table-listed, looked-listed, placed-listed, made-listed, cut-listed, widened-listed, narrowed-listed}
 use Rattle.clib.specs.Answers.{numberOf, Given, code, Tells}
 
 module _ {A : Type 0} (least : ℕ) (array : List ℕ) (answer : Answer A) (listed : Listed answer) where
@@ -80,6 +81,12 @@ font-name-code array file font = tells 2 array (namePlace file font) (name-liste
 
 pub width-table-code : (array pk : List ℕ) (scale room : ℕ) → Tells 1 array (recordsMade (tableMade pk scale room))
 width-table-code array pk scale room = tells 1 array (recordsMade (tableMade pk scale room)) (made-listed pk scale room)
+
+pub widen-table-code : (array old : List ℕ) (room : ℕ) → Tells 1 array (widenTable old room)
+widen-table-code array old room = tells 1 array (widenTable old room) (widened-listed old room)
+
+pub narrow-table-code : (array table : List ℕ) (room : ℕ) → Tells 1 array (narrowTable table room)
+narrow-table-code array table room = tells 1 array (narrowTable table room) (narrowed-listed table room)
 
 pub cut-pages-code : (array file list : List ℕ) (room : ℕ) → Tells 1 array (bytesCut (cutPages file list room))
 cut-pages-code array file list room = tells 1 array (bytesCut (cutPages file list room)) (cut-listed file list room)

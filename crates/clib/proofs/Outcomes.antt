@@ -12,6 +12,8 @@ use Rattle.clib.proofs.hurlyburn_scale_width.Reads as scale-width
 use Rattle.clib.proofs.hurlyburn_check_table.Reads as check-table
 use Rattle.clib.proofs.hurlyburn_look_up.Reads as look-up
 use Rattle.clib.proofs.hurlyburn_width_table.Reads as width-table
+use Rattle.clib.proofs.hurlyburn_widen_table.Reads as widen-table
+use Rattle.clib.proofs.hurlyburn_narrow_table.Reads as narrow-table
 use Rattle.clib.proofs.hurlyburn_cut_pages.Reads as cut-pages
 use Rattle.clib.proofs.hurlyburn_font_name.Reads as font-name
 
@@ -48,6 +50,16 @@ look-up-outcomes κs a r s x y p q = (p .0 ∙ sym (q .0), p .1 ∙ sym (q .1))
 pub width-table-outcomes : (κs : Lfts 3) → (a : _) → (r s : ℕ) → (x y : _) → width-table.Post κs a r x → width-table.Post κs a s y
     → (r ≡ s) × (now (x .1 .1 .1 .0) ≡ now (y .1 .1 .1 .0)) × (now (x .1 .1 .0) ≡ now (y .1 .1 .0))
 width-table-outcomes κs a r s x y p q = (p .0 ∙ sym (q .0), p .1 .0 ∙ sym (q .1 .0), p .1 .1 ∙ sym (q .1 .1))
+
+-- the array, then the area
+pub widen-table-outcomes : (κs : Lfts 3) → (a : _) → (r s : ℕ) → (x y : _) → widen-table.Post κs a r x → widen-table.Post κs a s y
+    → (r ≡ s) × (now (x .1 .1 .0) ≡ now (y .1 .1 .0)) × (now (x .1 .0) ≡ now (y .1 .0))
+widen-table-outcomes κs a r s x y p q = (p .0 ∙ sym (q .0), p .1 .0 ∙ sym (q .1 .0), p .1 .1 ∙ sym (q .1 .1))
+
+-- the array, then the area
+pub narrow-table-outcomes : (κs : Lfts 3) → (a : _) → (r s : ℕ) → (x y : _) → narrow-table.Post κs a r x → narrow-table.Post κs a s y
+    → (r ≡ s) × (now (x .1 .1 .0) ≡ now (y .1 .1 .0)) × (now (x .1 .0) ≡ now (y .1 .0))
+narrow-table-outcomes κs a r s x y p q = (p .0 ∙ sym (q .0), p .1 .0 ∙ sym (q .1 .0), p .1 .1 ∙ sym (q .1 .1))
 
 -- the array, then the area
 pub cut-pages-outcomes : (κs : Lfts 4) → (a : _) → (r s : ℕ) → (x y : _) → cut-pages.Post κs a r x → cut-pages.Post κs a s y

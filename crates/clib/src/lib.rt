@@ -20,6 +20,7 @@ ghost use Rattle.units.specs.Rounding.{roundedDistance};
 ghost use Rattle.widths.specs.Scaling.{fixWord, scaledWidth};
 ghost use Rattle.widths.specs.Table.{checkedTable};
 ghost use Rattle.widths.specs.LookUp.{lookedUp};
+ghost use Rattle.converting.specs.Converting.{widenTable, narrowTable, widenedArea, narrowedArea};
 ghost use Rattle.packed.specs.Table.{tableMade, recordsMade, tableArea};
 ghost use Rattle.cutting.specs.CutFile.{cutPages, bytesCut, cutArea};
 ghost use Rattle.page.specs.Answers.{placedPage, placedCounts, areaAfter};
@@ -220,6 +221,44 @@ pub extern "C" fn hurlyburn_width_table(
         return answers::ARRAY_TOO_SHORT;
     }
     match reader::width_table(pk, scale, area) {
+        TableMade::Records(records) => {
+            let numbers = [records as u64];
+            answers::give(answer, &numbers)
+        }
+        TableMade::Refused { number, place } => answers::refuse(answer, number, place),
+    }
+}
+
+// A width table of the old form in the new one, written into the area: records.
+#[no_mangle]
+pub extern "C" fn hurlyburn_widen_table(old: &[u8], area: &mut [u8], answer: &mut [u64]) -> u32
+    ensures { λ r. ⌜ r ≡ code 1 (now (answer .entry)) (widenTable (now (old .entry)) (length (now (area .entry)))) ⌝ }
+    ensures { λ _. ⌜ now (answer .exit) ≡ arrayAfter 1 tableNumbers (now (answer .entry)) (widenTable (now (old .entry)) (length (now (area .entry)))) ⌝ }
+    ensures { λ _. ⌜ now (area .exit) ≡ ifRoom 1 (now (answer .entry)) (widenedArea (now (old .entry)) (now (area .entry)) (widenTable (now (old .entry)) (length (now (area .entry))))) (now (area .entry)) ⌝ }
+{
+    if answer.len() < 1 {
+        return answers::ARRAY_TOO_SHORT;
+    }
+    match reader::widen_table(old, area) {
+        TableMade::Records(records) => {
+            let numbers = [records as u64];
+            answers::give(answer, &numbers)
+        }
+        TableMade::Refused { number, place } => answers::refuse(answer, number, place),
+    }
+}
+
+// A width table none of whose records has a name, in the old form, written into the area: records.
+#[no_mangle]
+pub extern "C" fn hurlyburn_narrow_table(table: &[u8], area: &mut [u8], answer: &mut [u64]) -> u32
+    ensures { λ r. ⌜ r ≡ code 1 (now (answer .entry)) (narrowTable (now (table .entry)) (length (now (area .entry)))) ⌝ }
+    ensures { λ _. ⌜ now (answer .exit) ≡ arrayAfter 1 tableNumbers (now (answer .entry)) (narrowTable (now (table .entry)) (length (now (area .entry)))) ⌝ }
+    ensures { λ _. ⌜ now (area .exit) ≡ ifRoom 1 (now (answer .entry)) (narrowedArea (now (table .entry)) (now (area .entry)) (narrowTable (now (table .entry)) (length (now (area .entry))))) (now (area .entry)) ⌝ }
+{
+    if answer.len() < 1 {
+        return answers::ARRAY_TOO_SHORT;
+    }
+    match reader::narrow_table(table, area) {
         TableMade::Records(records) => {
             let numbers = [records as u64];
             answers::give(answer, &numbers)
