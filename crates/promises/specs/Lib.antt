@@ -7,3 +7,4 @@ pub mod Bars
 pub mod Fonts
 pub mod Cuts
 pub mod OldTables
+pub mod TwoFonts
