@@ -287,13 +287,13 @@ pub fn find(
     requires { ⌜ (checksum < 2 ^ 32) × (scale < 2 ^ 32) × InEights name × (byte < 256) ⌝ }
     ensures { λ r. ⌜ (foundAt (now (table .entry)) r ≡ lookedFor records (now (table .entry)) checksum scale (nameNumber name) byte) × Among records r ⌝ }
 {
+    let any = Name { high: 0, low: 0 };
     match find_key(table, records, key_of(checksum, scale, name, byte), hint) {
         Place::At(index) => Place::At(index),
         Place::Nowhere => {
             if names::is_any(name) {
                 return Place::Nowhere;
             }
-            let any = Name { high: 0, low: 0 };
             find_key(table, records, key_of(checksum, scale, any, byte), hint)
         }
     }
