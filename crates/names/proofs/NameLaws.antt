@@ -1,17 +1,15 @@
 -- Names byte by byte, and the name that a font seeks. Assumes nothing.
-use Prim.Native.Nat.{ℕ, zero, suc, _+_, _-_, _*_, _^_, _≤_, _<_}
-use mathlib.Core.Path.{_≡_, refl, sym, ap, ap₂, _∙_}
+use Prim.Native.Nat.{ℕ, zero, suc, _+_, _-_, _≤_, _<_}
+use mathlib.Core.Path.{_≡_, sym, ap, ap₂, _∙_}
 use mathlib.Core.Bool.{Bool, true, false, cond, not, _&&_, _||_}
-use mathlib.Core.List.{List, [], _∷_, _++_, append-assoc}
+use mathlib.Core.List.{List, _∷_, _++_, append-assoc}
 use native.Mathlib.Omega.{arith}
-use lib.Dec.{leb, eqb}
 use lib.ListN.{length, getD, take, drop, replicate, length-append, length-replicate, replicate-append-replicate}
 use lib.Seq.{drop-cons}
 use borrow.Author.Tests.{eq-eqb, ne-eqb, le-leb, lt-leb}
 use Rattle.numbers.specs.Bytes.{unsignedAt}
 use Rattle.numbers.proofs.Bytes.{unsigned-join, unsigned-front}
-use Rattle.names.specs.declared.Name.{Name}
-use Rattle.names.specs.Names.{hasZero, allZeros, nameThenZeros, nameAt, nameNumber, anyName, fitsRecord, soughtName}
+use Rattle.names.specs.Names.{hasZero, allZeros, nameThenZeros, nameAt, nameNumber, anyName, soughtName}
 
 -- ---- a byte more
 

@@ -1,7 +1,7 @@
 -- Numbers in two digits of any base: the first digit decides, and where it is the same the second. Assumes nothing.
 use mathlib.Core.Path.{_≡_, refl, sym, ap, _∙_}
 use mathlib.Core.Logic.{_⊎_, inl, inr, ⊎-elim}
-use mathlib.Core.Bool.{Bool, true, false, cond, _&&_}
+use mathlib.Core.Bool.{Bool, true, false, _&&_}
 use Prim.Native.Nat.{ℕ, suc, _+_, _*_, _≤_, _<_}
 use native.Mathlib.Nat.{add-mul, mul-assoc, add-assoc, mul-le-mul-right}
 use native.Mathlib.Numerals.{lt-of-le-of-ne}

@@ -1,8 +1,8 @@
 -- Width tables in their other form: what calls of widen_table and narrow_table give, and that what they give is to the other entries what it was. Stated of the
 -- contracts themselves. Assumes nothing.
 use Prim.Native.Nat.{ℕ, _*_, _≤_}
-use mathlib.Core.Path.{_≡_, refl, sym, ap, fun-ext, subst, _∙_}
-use mathlib.Core.List.{List, _++_}
+use mathlib.Core.Path.{_≡_, sym, ap, fun-ext, subst, _∙_}
+use mathlib.Core.List.{List}
 use native.Mathlib.Omega.{arith}
 use contract.Lifetimes.{Lfts}
 use denote.Ref.{now}
@@ -10,7 +10,7 @@ use lib.IntN.{ℤ}
 use lib.ListN.{length, take, drop}
 use lib.Seq.{take-at, drop-at}
 use Rattle.refusals.specs.Numbers.{namedRecord, noSuchPage}
-use Rattle.refusals.specs.Answer.{Answer, refused, given, refuseIf, andThen}
+use Rattle.refusals.specs.Answer.{Answer, given, refuseIf, andThen}
 use Rattle.refusals.proofs.Answer.{given-same}
 use Rattle.names.specs.Names.{nameSize, nameNumber}
 use Rattle.units.specs.declared.Ratio.{Ratio}
@@ -19,7 +19,7 @@ use Rattle.widths.specs.AsBytes.{Bytes}
 use Rattle.widths.specs.Table.{sizeWith, checkedIn, checkedTable, oldTable}
 use Rattle.widths.specs.LookUp.{LookUp, codeByte}
 use Rattle.widths.proofs.TableLaws.{table-size}
-use Rattle.converting.specs.Converting.{inForm, widenTable, narrowTable, convertedArea}
+use Rattle.converting.specs.Converting.{inForm, convertedArea}
 use Rattle.converting.specs.Named.{Unnamed, FirstNamed}
 use Rattle.converting.proofs.Forms.{form-length}
 use Rattle.converting.proofs.Named.{widen-given, narrow-given, narrow-named}
@@ -37,7 +37,7 @@ use Rattle.reader.specs.declared.TableChecked.{TableChecked}
 use Rattle.reader.specs.declared.TableMade.{TableMade}
 use Rattle.reader.specs.declared.TableMade.the-variants as TableMade
 use Rattle.reader.specs.declared.Placed.{Placed}
-use Rattle.reader.specs.Answers.{tableAnswer, madeAnswer, placedAnswer}
+use Rattle.reader.specs.Answers.{tableAnswer, placedAnswer}
 use Rattle.reader.proofs.check_table.Reads as check-table
 use Rattle.reader.proofs.widen_table.Reads as widen-table
 use Rattle.reader.proofs.narrow_table.Reads as narrow-table

@@ -3,7 +3,7 @@ use Prim.Native.Nat.{ℕ}
 use mathlib.Core.Path.{_≡_, refl}
 use mathlib.Core.List.{List, [], _∷_, _++_}
 use lib.ListN.{replicate}
-use lib.IntN.{ℤ, pos}
+use lib.IntN.{pos}
 use Rattle.refusals.specs.Answer.{given}
 use Rattle.numbers.specs.Bytes.{unsignedAt}
 use Rattle.names.specs.Names.{soughtName}

@@ -3,14 +3,14 @@ use mathlib.Core.Path.{_≡_, refl, sym, ap, subst, _∙_}
 use mathlib.Core.Logic.{⊎-elim}
 use mathlib.Core.Bool.{Bool, true, false}
 use mathlib.Core.List.{List}
-use Prim.Native.Nat.{ℕ, zero, suc, _+_, _*_, _≤_, _<_, _^_}
+use Prim.Native.Nat.{ℕ, zero, suc, _+_, _*_, _≤_, _<_}
 use native.Mathlib.Nat.{lt-trans, eq-or-lt-of-le}
 use native.Mathlib.Omega.{arith}
 use borrow.Author.Count.{below-more}
 use Rattle.refusals.specs.Answer.{given}
 use Rattle.widths.specs.declared.table.Key.{Key}
 use Rattle.names.specs.Names.{nameSize}
-use Rattle.widths.specs.Table.{widthRecordSize, recordIn, recordOf, checkedTable}
+use Rattle.widths.specs.Table.{widthRecordSize, recordOf, checkedTable}
 use Rattle.widths.specs.LookUp.{LookUp, found, absent, metricOf, isFor, walkFrom, walk, orElse, lookedFor}
 use Rattle.widths.specs.Steps.{blockNumber, keyNumber, KeyIs, KeyAt, FirstNotBelow}
 use Rattle.numbers.proofs.Radix.{less-or-not}

@@ -7,7 +7,7 @@ use mathlib.Core.List.{List}
 use Prim.Native.Nat.{ℕ, zero, suc, _+_, _*_, _/_, _≤_, _<_}
 use native.Mathlib.Nat.{lt-trans, eq-or-lt-of-le, zero-mul, suc-mul, le-mul-of-pos-right, mul-le-mul-right, mul-div-cancel}
 use native.Mathlib.Omega.{arith}
-use lib.Dec.{ltb, leb, eqb}
+use lib.Dec.{ltb, leb}
 use lib.ListN.{length, getD}
 use borrow.Author.Tests.{ltb-true, ltb-false, leb-true, leb-false, lt-ltb, le-ltb, lt-leb, le-leb, not-false}
 use Rattle.refusals.specs.Numbers.{wrongWidthTable}
@@ -16,7 +16,6 @@ use Rattle.refusals.proofs.Answer.{given-next, given-same}
 use Rattle.numbers.specs.Bytes.{unsignedAt}
 use Rattle.numbers.specs.Sizes.{lawfulSize}
 use Rattle.names.specs.Names.{nameThenZeros}
-use Rattle.widths.specs.Scaling.{lawfulFirst}
 use Rattle.widths.specs.Steps.{lawfulBlock, lawfulRest}
 use Rattle.widths.specs.AsBytes.{LastBytes}
 use Rattle.numbers.proofs.Radix.{less-or-not}

@@ -1,25 +1,19 @@
+-- `names::name_at` meets its contract. Assumes nothing.
 use Prim.Native.Nat.{ℕ}
 use mathlib.Core.Path.{ap₂}
 use borrow.Author.Needs.{needs}
 use Rattle.names.proofs.name_at.Statement.{statement}
 use Rattle.names.proofs.name_at.Tie as tie
-use Rattle.names.proofs.name_at.Reads as reads
-use Rattle.names.proofs.name_at.Lts as lts
-use Rattle.numbers.proofs.unsigned_at.Reads as unsigned-at-reads
 
--- src/lib.rt:23:15
 unsigned-at-requires : tie.Need-unsigned-at-requires
 unsigned-at-requires c κs = search needs
 
--- src/lib.rt:24:42
 add-unsigned-at : tie.Need-add-unsigned-at
 add-unsigned-at c = search needs
 
--- src/lib.rt:24:14
 unsigned-at-requires-2 : tie.Need-unsigned-at-requires-2
 unsigned-at-requires-2 c κs = search needs
 
--- src/lib.rt:18:1
 returns : tie.Need-returns
 returns c = (ap₂ (λ (high low : ℕ). record { high = high; low = low }) (c .before .unsigned-at .ensures .0) (c .unsigned-at2 .ensures .0), (c .before .unsigned-at .ensures .1, c .unsigned-at2 .ensures .1))
 

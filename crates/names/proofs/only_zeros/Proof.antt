@@ -1,3 +1,4 @@
+-- `names::only_zeros` meets its contract: what is left of the bytes decides. Assumes nothing.
 use Rattle.names.proofs.NameLaws.{zeros-broken, zeros-later}
 use Rattle.names.specs.Names.{allZeros}
 use lib.ListN.{length, drop, drop-of-length-le}
@@ -5,11 +6,9 @@ use denote.Ref.{now}
 use native.Mathlib.Numerals.{add-one}
 use native.Mathlib.Omega.{arith}
 use mathlib.Core.Path.{_≡_, refl, sym, ap, _∙_}
-use Prim.Native.Nat.{ℕ, _-_, _≤_}
+use Prim.Native.Nat.{ℕ, _-_}
 use Rattle.names.proofs.only_zeros.Statement.{statement}
 use Rattle.names.proofs.only_zeros.Tie as tie
-use Rattle.names.proofs.only_zeros.Reads as reads
-use Rattle.names.proofs.only_zeros.Lts as lts
 
 abbrev Inv-loop : tie.InvT-loop
 Inv-loop bytes from index₀ index = allZeros (drop from bytes) ≡ allZeros (drop index bytes)
@@ -17,31 +16,24 @@ Inv-loop bytes from index₀ index = allZeros (drop from bytes) ≡ allZeros (dr
 abbrev μ-loop : tie.MeasureT-loop
 μ-loop bytes from index₀ index = length bytes - index
 
--- src/lib.rt:63:5
 loop-holds : tie.Need-loop-holds Inv-loop μ-loop
 loop-holds c = refl
 
--- src/lib.rt:64:12
 shared-slice-read-if1 : tie.Need-shared-slice-read-if1 Inv-loop μ-loop
 shared-slice-read-if1 c = omega arith
 
--- src/lib.rt:65:13
 returns : tie.Need-returns Inv-loop μ-loop
 returns c = sym (c .before .before .before .loop .inv ∙ zeros-broken (now (c .before .before .before .before .args .bytes)) (c .before .before .before .loop .index) (omega arith) (c .if1 .taken))
 
--- src/lib.rt:67:9
 add-index : tie.Need-add-index Inv-loop μ-loop
 add-index c = omega arith
 
--- src/lib.rt:63:5
 loop-less : tie.Need-loop-less Inv-loop μ-loop
 loop-less c = omega arith
 
--- src/lib.rt:63:5
 loop-again : tie.Need-loop-again Inv-loop μ-loop
 loop-again c = c .before .before .before .loop .inv ∙ zeros-later (now (c .before .before .before .before .args .bytes)) (c .before .before .before .loop .index) (omega arith) (c .if1 .left) ∙ ap (λ (n : ℕ). allZeros (drop n (now (c .before .before .before .before .args .bytes)))) (sym (add-one (c .before .before .before .loop .index)))
 
--- src/lib.rt:59:1
 returns-2 : tie.Need-returns-2 Inv-loop μ-loop
 returns-2 c = sym (c .before .loop .inv ∙ ap allZeros (drop-of-length-le (now (c .before .before .args .bytes)) {i = c .before .loop .index} (omega arith)))
 

@@ -1,6 +1,6 @@
 -- `packed::tables::bytes_behind` meets its contract: each byte is a remainder. Assumes nothing.
 use Prim.Native.Nat.{ℕ, _^_}
-use mathlib.Core.Path.{_≡_, ap, _∙_}
+use mathlib.Core.Path.{ap, _∙_}
 use mathlib.Core.List.{_++_}
 use native.Mathlib.Omega.{arith}
 use Rattle.numbers.specs.Bytes.{bytesOf}

@@ -1,5 +1,5 @@
 -- `page::placing::place_accepted` meets its contract: 12 to 15 in their order, then the page's commands. Assumes nothing.
-use mathlib.Core.Path.{_≡_, refl, sym, ap, ap₂, _∙_, subst}
+use mathlib.Core.Path.{_≡_, refl, sym, ap, _∙_}
 use Prim.Native.Nat.{ℕ, _<_, _≤_}
 use native.Mathlib.Omega.{arith}
 use borrow.Author.Needs.{needs}
@@ -8,7 +8,6 @@ use denote.Ref.{now}
 use Rattle.refusals.specs.Numbers.{noSuchPage}
 use Rattle.refusals.specs.Answer.{Answer, refused, given, andThen}
 use Rattle.units.specs.declared.Ratio.{Ratio}
-use Rattle.units.specs.declared.UnitFound.{UnitFound}
 use Rattle.units.specs.Unit.{unitOf, drift}
 use Rattle.units.specs.Steps.{unitAnswer}
 use Rattle.widths.specs.declared.table.Table.{Table}

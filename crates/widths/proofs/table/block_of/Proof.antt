@@ -1,7 +1,8 @@
+-- `widths::table::block_of` meets its contract: where the first record that is not below a name's first key has another name, no record has it. Assumes nothing.
 use Rattle.widths.proofs.Search.{seeks-any, past-name}
 use Rattle.widths.proofs.TableLaws.{record-inside}
 use Rattle.widths.proofs.Keys.{in-key, key-is}
-use Rattle.widths.specs.Steps.{blockNumber, keyNumber}
+use Rattle.widths.specs.Steps.{blockNumber}
 use Rattle.widths.specs.Table.{widthRecordSize, recordOf}
 use Rattle.names.specs.Names.{nameSize, nameNumber}
 use borrow.Author.Tests.{eqb-false}
@@ -9,16 +10,10 @@ use denote.Ref.{now}
 use lib.ListN.{length}
 use native.Mathlib.Omega.{arith}
 use Prim.Native.Nat.{ℕ, _+_, _*_, _≤_}
-use mathlib.Core.Path.{_≡_, sym, subst, _∙_}
+use mathlib.Core.Path.{sym, subst, _∙_}
 use borrow.Author.Needs.{needs}
 use Rattle.widths.proofs.table.block_of.Statement.{statement}
 use Rattle.widths.proofs.table.block_of.Tie as tie
-use Rattle.widths.proofs.table.block_of.Reads as reads
-use Rattle.widths.proofs.table.block_of.Lts as lts
-use Rattle.widths.proofs.table.first_near.Reads as first-near-reads
-use Rattle.widths.proofs.table.key_at.Reads as key-at-reads
-use Rattle.widths.proofs.table.key_of.Reads as key-of-reads
-use Rattle.widths.proofs.table.same_block.Reads as same-block-reads
 
 -- the record that was found lies within the table
 inside : (c : tie.Then1) → let s = c .before .before .before .before in c .before .first-near .result * widthRecordSize + widthRecordSize ≤ length (now (s .args .table))
@@ -26,31 +21,24 @@ inside c =
     let s = c .before .before .before .before in
     record-inside nameSize (now (s .args .table)) (s .args .records) (s .pre .0) (c .before .first-near .result) (c .if1 .taken)
 
--- src/table.rt:313:9
 key-of-requires : tie.Need-key-of-requires
 key-of-requires c κs = search needs
 
--- src/table.rt:314:9
 first-near-requires : tie.Need-first-near-requires
 first-near-requires c κs = search needs
 
--- src/table.rt:316:37
 mul-key-at : tie.Need-mul-key-at
 mul-key-at c = omega (arith, inside c)
 
--- src/table.rt:316:23
 key-at-requires : tie.Need-key-at-requires
 key-at-requires c κs = inside c
 
--- src/table.rt:316:12
 same-block-requires : tie.Need-same-block-requires
 same-block-requires c κs = (in-key (c .key-at .ensures), in-key (c .before .before .before .key-of .ensures))
 
--- src/table.rt:317:13
 returns : tie.Need-returns
 returns c = search needs
 
--- src/table.rt:301:1
 returns-2 : tie.Need-returns-2
 returns-2 c =
     let s = c .before .before .before .before .before .before .before in
@@ -66,7 +54,6 @@ returns-2 c =
           (subst (λ (n : ℕ). blockNumber (sought .result) * 256 + n ≤ recordOf table (first .result) .key) (sought .ensures .code-is) (first .ensures .above (first .result) (omega arith) h))),
     )
 
--- src/table.rt:301:1
 returns-3 : tie.Need-returns-3
 returns-3 c =
     let s = c .before .before .before .before in

@@ -1,3 +1,4 @@
+-- `widths::table::find_key` meets its contract: a record with the key is the one that the walk finds. Assumes nothing.
 use Rattle.widths.proofs.Search.{walk-finds, walk-misses}
 use Rattle.widths.proofs.TableLaws.{record-inside}
 use Rattle.widths.proofs.Keys.{in-key, key-is, key-number}
@@ -9,15 +10,10 @@ use denote.Ref.{now}
 use lib.ListN.{length}
 use native.Mathlib.Omega.{arith}
 use Prim.Native.Nat.{ℕ, _+_, _*_, _≤_}
-use mathlib.Core.Path.{_≡_, sym, subst, _∙_}
+use mathlib.Core.Path.{sym, subst, _∙_}
 use borrow.Author.Needs.{needs}
 use Rattle.widths.proofs.table.find_key.Statement.{statement}
 use Rattle.widths.proofs.table.find_key.Tie as tie
-use Rattle.widths.proofs.table.find_key.Reads as reads
-use Rattle.widths.proofs.table.find_key.Lts as lts
-use Rattle.widths.proofs.table.first_not_below.Reads as first-not-below-reads
-use Rattle.widths.proofs.table.key_at.Reads as key-at-reads
-use Rattle.widths.proofs.table.same.Reads as same-reads
 
 -- the records that are looked at lie within the table
 hinted : (c : tie.Then1) → let s = c .before .before in s .args .hint * widthRecordSize + widthRecordSize ≤ length (now (s .args .table))
@@ -28,49 +24,39 @@ found-inside c =
     let s = c .before .before .before .before in
     record-inside nameSize (now (s .args .table)) (s .args .records) (s .pre .0) (c .before .first-not-below .result) (c .if3 .taken)
 
--- src/table.rt:263:31
 mul-key-at : tie.Need-mul-key-at
 mul-key-at c = omega (arith, hinted c)
 
--- src/table.rt:263:17
 key-at-requires : tie.Need-key-at-requires
 key-at-requires c κs = hinted c
 
--- src/table.rt:263:12
 same-requires : tie.Need-same-requires
 same-requires c κs = (in-key (c .key-at .ensures), c .before .before .before .pre .1 .0, c .key-at .ensures .code-below, c .before .before .before .pre .1 .1)
 
--- src/table.rt:264:13
 returns : tie.Need-returns
 returns c =
     let s = c .before .before .before .before .before in
     let key = c .before .before .key-at in
     (λ checksum scale name byte is. walk-finds (now (s .args .table)) (s .args .records) (s .pre .0) checksum scale name byte (s .args .hint) (key .result) (s .args .key) (c .before .before .before .if1 .taken) (key .ensures) is (eqb-true (keyNumber (key .result)) (keyNumber (s .args .key)) (sym (c .before .same .ensures) ∙ c .if2 .taken)), c .before .before .before .if1 .taken)
 
--- src/table.rt:267:9
 first-not-below-requires : tie.Need-first-not-below-requires
 first-not-below-requires c κs = search needs
 
--- src/table.rt:269:31
 mul-key-at-2 : tie.Need-mul-key-at-2
 mul-key-at-2 c = omega (arith, found-inside c)
 
--- src/table.rt:269:17
 key-at-requires-2 : tie.Need-key-at-requires-2
 key-at-requires-2 c κs = found-inside c
 
--- src/table.rt:269:12
 same-requires-2 : tie.Need-same-requires-2
 same-requires-2 c κs = (in-key (c .key-at2 .ensures), c .before .before .before .before .before .pre .1 .0, c .key-at2 .ensures .code-below, c .before .before .before .before .before .pre .1 .1)
 
--- src/table.rt:270:13
 returns-2 : tie.Need-returns-2
 returns-2 c =
     let s = c .before .before .before .before .before .before .before in
     let key = c .before .before .key-at2 in
     (λ checksum scale name byte is. walk-finds (now (s .args .table)) (s .args .records) (s .pre .0) checksum scale name byte (c .before .before .before .before .first-not-below .result) (key .result) (s .args .key) (c .before .before .before .if3 .taken) (key .ensures) is (eqb-true (keyNumber (key .result)) (keyNumber (s .args .key)) (sym (c .before .same2 .ensures) ∙ c .if4 .taken)), c .before .before .before .if3 .taken)
 
--- src/table.rt:257:1
 returns-3 : tie.Need-returns-3
 returns-3 c =
     let s = c .before .before .before .before .before .before .before in
@@ -81,7 +67,6 @@ returns-3 c =
       tt,
     )
 
--- src/table.rt:257:1
 returns-4 : tie.Need-returns-4
 returns-4 c =
     let s = c .before .before .before .before in

@@ -1,3 +1,4 @@
+-- `widths::table::key_at` meets its contract: eight bytes as one number are check sum and scale joined, sixteen as two are the name. Assumes nothing.
 use Rattle.names.proofs.NameLaws.{number-at}
 use Rattle.names.specs.Names.{nameNumber}
 use Rattle.numbers.proofs.Bytes.{unsigned-join, unsigned-below}
@@ -8,37 +9,25 @@ use mathlib.Core.Path.{ap, _∙_}
 use borrow.Author.Needs.{needs}
 use Rattle.widths.proofs.table.key_at.Statement.{statement}
 use Rattle.widths.proofs.table.key_at.Tie as tie
-use Rattle.widths.proofs.table.key_at.Reads as reads
-use Rattle.widths.proofs.table.key_at.Lts as lts
-use Rattle.names.proofs.name_at.Reads as name-at-reads
-use Rattle.numbers.proofs.unsigned_at.Reads as unsigned-at-reads
-use Rattle.numbers.proofs.wide.Reads as wide-reads
 
--- src/table.rt:78:36
 add-wide : tie.Need-add-wide
 add-wide c = search needs
 
--- src/table.rt:78:30
 shared-slice-read-wide : tie.Need-shared-slice-read-wide
 shared-slice-read-wide c = search needs
 
--- src/table.rt:78:9
 wide-requires : tie.Need-wide-requires
 wide-requires c κs = search needs
 
--- src/table.rt:79:38
 add-name-at : tie.Need-add-name-at
 add-name-at c = search needs
 
--- src/table.rt:79:9
 name-at-requires : tie.Need-name-at-requires
 name-at-requires c κs = search needs
 
--- src/table.rt:81:15
 unsigned-at-requires : tie.Need-unsigned-at-requires
 unsigned-at-requires c κs = search needs
 
--- src/table.rt:74:1
 returns : tie.Need-returns
 returns c =
     let table = now (c .before .before .before .before .before .args .table) in

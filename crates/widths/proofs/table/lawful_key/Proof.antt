@@ -1,3 +1,4 @@
+-- `widths::table::lawful_key` meets its contract. Assumes nothing.
 use Rattle.widths.proofs.Keys.{in-key, code-reaches}
 use Rattle.widths.specs.Steps.{blockNumber, keyNumber, KeyAt, reaches, LeastKey, lawfulBlock}
 use Rattle.widths.specs.Table.{recordAt}
@@ -9,19 +10,13 @@ use denote.Ref.{now}
 use lib.ListN.{length, take, drop}
 use lib.Dec.{ltb, leb}
 use native.Mathlib.Omega.{arith}
-use Prim.Native.Nat.{ℕ, _+_, _-_, _%_, _^_, _≤_, _<_}
+use Prim.Native.Nat.{ℕ, _+_, _-_, _%_, _^_, _≤_}
 use mathlib.Core.List.{List}
 use mathlib.Core.Bool.{Bool, true, false, not, _&&_}
-use mathlib.Core.Path.{_≡_, refl, sym, ap, subst, _∙_}
+use mathlib.Core.Path.{_≡_, refl, sym, ap, _∙_}
 use borrow.Author.Needs.{needs}
 use Rattle.widths.proofs.table.lawful_key.Statement.{statement}
 use Rattle.widths.proofs.table.lawful_key.Tie as tie
-use Rattle.widths.proofs.table.lawful_key.Reads as reads
-use Rattle.widths.proofs.table.lawful_key.Lts as lts
-use Rattle.names.proofs.lawful_name.Reads as lawful-name-reads
-use Rattle.numbers.proofs.lawful_size.Reads as lawful-size-reads
-use Rattle.widths.proofs.table.below.Reads as below-reads
-use Rattle.widths.proofs.table.same_block.Reads as same-block-reads
 
 -- where check sum, scale and name are those of the key before, the codes decide, and the record's scale and name are lawful
 by-code : (table : List ℕ) (at : ℕ) (key least : Key) → at + 32 ≤ length table → KeyAt table at key → LeastKey table least → blockNumber key ≡ blockNumber least
@@ -43,63 +38,50 @@ past-least table at key least is not-below =
     let scale-is : recordAt table at .scale ≡ key .head % 2 ^ 32 = omega (arith, is .head-is, is .scale-below) in
     ap (λ (t : Bool). not t && lawfulBlock (recordAt table at)) not-below ∙ ap (λ (n : ℕ). lawfulSize n && nameThenZeros (recordAt table at .name-bytes)) scale-is
 
--- src/table.rt:136:8
 same-block-requires : tie.Need-same-block-requires
 same-block-requires c κs = (in-key (c .before .pre .1), c .before .pre .2 .0)
 
--- src/table.rt:137:9
 returns : tie.Need-returns
 returns c =
     let s = c .before .before .before .before .before in
     by-code (now (s .args .table)) (s .args .at) (s .args .key) (s .args .least) (s .pre .0) (s .pre .1) (s .pre .2)
     (eqb-true (blockNumber (s .args .key)) (blockNumber (s .args .least)) (sym (c .before .before .before .same-block .ensures) ∙ c .before .before .if1 .taken))
 
--- src/table.rt:139:8
 below-requires : tie.Need-below-requires
 below-requires c κs = let s = c .before .before .before in (in-key (s .pre .1), s .pre .2 .0, s .pre .1 .code-below)
 
--- src/table.rt:140:9
 returns-2 : tie.Need-returns-2
 returns-2 c =
     let s = c .before .before .before .before .before in
     sym (ap (λ (t : Bool). not t && lawfulBlock (recordAt (now (s .args .table)) (s .args .at))) (sym (c .before .below .ensures) ∙ c .if2 .taken))
 
--- src/table.rt:142:9
 lawful-size-requires : tie.Need-lawful-size-requires
 lawful-size-requires c κs = search needs
 
--- src/table.rt:143:9
 returns-3 : tie.Need-returns-3
 returns-3 c =
     let s = c .before .before .before .before .before .before .before .before in
     sym (past-least (now (s .args .table)) (s .args .at) (s .args .key) (s .args .least) (s .pre .1) (sym (c .before .before .before .before .below .ensures) ∙ c .before .before .before .if2 .left)
     ∙ ap (λ (t : Bool). t && nameThenZeros (recordAt (now (s .args .table)) (s .args .at) .name-bytes)) (sym (c .before .lawful-size .ensures) ∙ not-true _ (c .if3 .taken)))
 
--- src/table.rt:145:31
 add-lawful-name : tie.Need-add-lawful-name
 add-lawful-name c = search needs
 
--- src/table.rt:145:45
 add-lawful-name-2 : tie.Need-add-lawful-name-2
 add-lawful-name-2 c = search needs
 
--- src/table.rt:145:24
 sub-lawful-name : tie.Need-sub-lawful-name
 sub-lawful-name c = search needs
 
--- src/table.rt:145:24
 part-lawful-name-start : tie.Need-part-lawful-name-start
 part-lawful-name-start c = search needs
 
--- src/table.rt:145:24
 part-lawful-name-end : tie.Need-part-lawful-name-end
 part-lawful-name-end c = search needs
 
--- src/table.rt:145:5
 lawful-name-requires : tie.Need-lawful-name-requires
 lawful-name-requires c κs = search needs
 
--- src/table.rt:132:1
 returns-4 : tie.Need-returns-4
 returns-4 c =
     let s = c .before .before .before .before .before .before .before .before .before .before in

@@ -1,44 +1,34 @@
+-- `widths::table::reached` meets its contract. Assumes nothing.
 use Rattle.widths.proofs.TableLaws.{record-inside}
 use Rattle.widths.proofs.Keys.{in-key, key-is}
 use Rattle.widths.specs.Steps.{keyNumber}
-use Rattle.widths.specs.Table.{widthRecordSize, recordOf}
+use Rattle.widths.specs.Table.{widthRecordSize}
 use Rattle.names.specs.Names.{nameSize}
 use borrow.Author.Tests.{ltb-false, not-true}
 use denote.Ref.{now}
 use lib.ListN.{length}
-use lib.Dec.{ltb}
 use native.Mathlib.Omega.{arith}
 use Prim.Native.Nat.{ℕ, _+_, _*_, _≤_}
-use mathlib.Core.Path.{_≡_, sym, ap, subst, _∙_}
-use borrow.Author.Needs.{needs}
+use mathlib.Core.Path.{sym, subst, _∙_}
 use Rattle.widths.proofs.table.reached.Statement.{statement}
 use Rattle.widths.proofs.table.reached.Tie as tie
-use Rattle.widths.proofs.table.reached.Reads as reads
-use Rattle.widths.proofs.table.reached.Lts as lts
-use Rattle.widths.proofs.table.below.Reads as below-reads
-use Rattle.widths.proofs.table.key_at.Reads as key-at-reads
 
 -- the record lies within the table
 inside : (c : tie.Else1) → let s = c .before .before in s .args .index * widthRecordSize + widthRecordSize ≤ length (now (s .args .table))
 inside c = let s = c .before .before in record-inside nameSize (now (s .args .table)) (s .args .records) (s .pre .0) (s .args .index) (omega arith)
 
--- src/table.rt:221:9
 returns : tie.Need-returns
 returns c = λ e h. absurd (omega arith)
 
--- src/table.rt:223:26
 mul-key-at : tie.Need-mul-key-at
 mul-key-at c = omega (arith, inside c)
 
--- src/table.rt:223:12
 key-at-requires : tie.Need-key-at-requires
 key-at-requires c κs = inside c
 
--- src/table.rt:223:6
 below-requires : tie.Need-below-requires
 below-requires c κs = (in-key (c .key-at .ensures), c .before .before .before .pre .1 .1, c .key-at .ensures .code-below)
 
--- src/table.rt:215:1
 returns-2 : tie.Need-returns-2
 returns-2 c = λ e h.
     let s = c .before .before .before .before in

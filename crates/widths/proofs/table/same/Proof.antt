@@ -1,3 +1,4 @@
+-- `widths::table::same` meets its contract. Assumes nothing.
 use Rattle.widths.specs.Steps.{blockNumber}
 use Rattle.numbers.proofs.Radix.{digits-equal}
 use borrow.Author.Tests.{not-true, not-false}
@@ -7,20 +8,14 @@ use mathlib.Core.Path.{sym, ap, _∙_}
 use borrow.Author.Needs.{needs}
 use Rattle.widths.proofs.table.same.Statement.{statement}
 use Rattle.widths.proofs.table.same.Tie as tie
-use Rattle.widths.proofs.table.same.Reads as reads
-use Rattle.widths.proofs.table.same.Lts as lts
-use Rattle.widths.proofs.table.same_block.Reads as same-block-reads
 
--- src/table.rt:107:9
 same-block-requires : tie.Need-same-block-requires
 same-block-requires c κs = search needs
 
--- src/table.rt:108:9
 returns : tie.Need-returns
 returns c = let s = c .before .before in
     ap (λ (t : Bool). t && eqb (s .args .a .code) (s .args .b .code)) (sym (not-true _ (c .if1 .taken)) ∙ c .before .same-block .ensures) ∙ digits-equal (blockNumber (s .args .a)) (blockNumber (s .args .b)) 256 (s .args .a .code) (s .args .b .code) (s .pre .2) (s .pre .3)
 
--- src/table.rt:103:1
 returns-2 : tie.Need-returns-2
 returns-2 c = let s = c .before .before .before .before in
     sym (ap (λ (t : Bool). t && eqb (s .args .a .code) (s .args .b .code)) (sym (c .before .before .before .same-block .ensures) ∙ not-false _ (c .before .before .if1 .left))) ∙ digits-equal (blockNumber (s .args .a)) (blockNumber (s .args .b)) 256 (s .args .a .code) (s .args .b .code) (s .pre .2) (s .pre .3)

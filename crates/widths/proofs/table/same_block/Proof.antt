@@ -1,3 +1,4 @@
+-- `widths::table::same_block` meets its contract: one number for check sum, scale and name has the same parts. Assumes nothing.
 use Rattle.widths.proofs.Keys.{same-parts}
 use Rattle.widths.specs.Steps.{blockNumber}
 use Rattle.numbers.proofs.Radix.{same-equal}
@@ -6,18 +7,13 @@ use Prim.Native.Nat.{ℕ, _*_, _+_, _^_}
 use mathlib.Core.Path.{sym, ap₂}
 use Rattle.widths.proofs.table.same_block.Statement.{statement}
 use Rattle.widths.proofs.table.same_block.Tie as tie
-use Rattle.widths.proofs.table.same_block.Reads as reads
-use Rattle.widths.proofs.table.same_block.Lts as lts
 
--- src/table.rt:94:9
 returns : tie.Need-returns
 returns c = let s = c .before .before .before in sym (ne-eqb (blockNumber (s .args .a)) (blockNumber (s .args .b)) (λ e. c .if1 .taken (same-parts (s .args .a) (s .args .b) (s .pre .0) (s .pre .1) e .head-same)))
 
--- src/table.rt:97:9
 returns-2 : tie.Need-returns-2
 returns-2 c = let s = c .before .before .before .before .before .before in sym (ne-eqb (blockNumber (s .args .a)) (blockNumber (s .args .b)) (λ e. c .if2 .taken (same-parts (s .args .a) (s .args .b) (s .pre .0) (s .pre .1) e .high-same)))
 
--- src/table.rt:89:1
 returns-3 : tie.Need-returns-3
 returns-3 c =
     let s = c .before .before .before .before .before .before .before .before in
