@@ -1,12 +1,11 @@
 // The question about a PK font, which is read into the buffer that is lent.
 use crate::lines::word;
+use crate::records;
 use crate::rooms;
 use asking::files;
 use asking::words;
 use asking::words::Unsigned;
 use asking::words::Unsigned32;
-use printing::line::Line;
-use printing::rows;
 use reader::TableMade;
 use widths::table;
 
@@ -37,15 +36,7 @@ fn widths_in(line: &[u8], file: &mut [u8], area: &mut [u8]) {
 
 fn made(pk: &[u8], scale: u32, area: &mut [u8]) {
     match reader::width_table(pk, scale, area) {
-        TableMade::Records(records) => {
-            let end = table::RECORD_SIZE * records;
-            rows::print(&area[..end], table::RECORD_SIZE);
-            Line::empty()
-                .text(b"end")
-                .count(records as u64)
-                .text(b"\n")
-                .print();
-        }
+        TableMade::Records(records) => records::print(area, records, table::RECORD_SIZE),
         TableMade::Refused { number, place } => printing::refused(number, place),
     }
 }

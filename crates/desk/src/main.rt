@@ -2,10 +2,12 @@
 mod cuts_asked;
 mod files_asked;
 mod fonts_asked;
+mod forms_asked;
 mod lines;
 mod numbers_asked;
 mod pages_asked;
 mod questions;
+mod records;
 mod rooms;
 mod tables_asked;
 

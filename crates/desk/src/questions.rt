@@ -2,6 +2,8 @@
 use crate::cuts_asked;
 use crate::files_asked;
 use crate::fonts_asked;
+use crate::forms_asked;
+use crate::forms_asked::Form;
 use crate::lines;
 use crate::numbers_asked;
 use crate::pages_asked;
@@ -18,6 +20,8 @@ enum Question {
     Table,
     Look,
     Widths,
+    // a table in its other form
+    Convert(Form),
     Place,
     // of so many pages
     Cut(usize),
@@ -38,9 +42,6 @@ fn question_of(line: &[u8]) -> Question {
     }
     if count == 4 {
         return of_four(name);
-    }
-    if count == 5 {
-        return of_five(name);
     }
     if count == 6 {
         return of_six(name);
@@ -76,6 +77,12 @@ fn of_three(name: &[u8]) -> Question {
     if check::same(name, b"spell") {
         return Question::Spell;
     }
+    if check::same(name, b"widen") {
+        return Question::Convert(Form::New);
+    }
+    if check::same(name, b"narrow") {
+        return Question::Convert(Form::Old);
+    }
     Question::Nothing
 }
 
@@ -86,19 +93,15 @@ fn of_four(name: &[u8]) -> Question {
     Question::Nothing
 }
 
-fn of_five(name: &[u8]) -> Question {
-    if check::same(name, b"look") {
-        return Question::Look;
-    }
-    Question::Nothing
-}
-
 fn of_six(name: &[u8]) -> Question {
     if check::same(name, b"round") {
         return Question::Round;
     }
     if check::same(name, b"scale") {
         return Question::Scale;
+    }
+    if check::same(name, b"look") {
+        return Question::Look;
     }
     if check::same(name, b"place") {
         return Question::Place;
@@ -117,6 +120,7 @@ pub fn answer(line: &[u8], file: &mut [u8], widths: &mut [u8], area: &mut [u8]) 
         Question::Table => tables_asked::table(line, widths).print(),
         Question::Look => tables_asked::look(line, widths).print(),
         Question::Widths => fonts_asked::widths(line, file, area),
+        Question::Convert(to) => forms_asked::convert(line, to, widths, area),
         Question::Place => pages_asked::place(line, file, widths, area),
         Question::Cut(pages) => cuts_asked::cut(line, pages, file, area),
         Question::Nothing => asking::no_input(),

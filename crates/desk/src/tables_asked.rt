@@ -1,6 +1,7 @@
 // Questions about a width table, which is read into the buffer that is lent.
 use crate::lines::word;
 use asking::files;
+use asking::spelled;
 use asking::words;
 use asking::words::Signed32;
 use asking::words::Unsigned32;
@@ -10,7 +11,7 @@ use reader::LookedUp;
 use reader::TableChecked;
 ghost use Prim.Native.Nat.{_≤_};
 
-// table FILE
+// table TABLE
 pub fn table(line: &[u8], widths: &mut [u8]) -> Line
     ensures { λ r. ⌜ r .length ≤ 160 ⌝ }
 {
@@ -34,8 +35,20 @@ fn checked(widths: &[u8]) -> Line
     }
 }
 
-// look FILE CHECKSUM SCALE CODE
+// look TABLE CHECKSUM SCALE NAME CODE, of a name of 255 bytes at most
 pub fn look(line: &[u8], widths: &mut [u8]) -> Line
+    ensures { λ r. ⌜ r .length ≤ 160 ⌝ }
+{
+    let mut name = [0u8; 255];
+    let said = spelled::read_bytes(word(line, 4), &mut name);
+    if !said.right {
+        return asking::no_input_line();
+    }
+    let count = said.length;
+    look_named(line, &name[..count], widths)
+}
+
+fn look_named(line: &[u8], name: &[u8], widths: &mut [u8]) -> Line
     ensures { λ r. ⌜ r .length ≤ 160 ⌝ }
 {
     let Unsigned32::Is(checksum) = words::read_unsigned32(word(line, 2)) else {
@@ -44,7 +57,7 @@ pub fn look(line: &[u8], widths: &mut [u8]) -> Line
     let Unsigned32::Is(scale) = words::read_unsigned32(word(line, 3)) else {
         return asking::no_input_line();
     };
-    let Signed32::Is(code) = words::read_signed32(word(line, 4)) else {
+    let Signed32::Is(code) = words::read_signed32(word(line, 5)) else {
         return asking::no_input_line();
     };
     let found = files::read_whole(word(line, 1), widths);
@@ -52,13 +65,13 @@ pub fn look(line: &[u8], widths: &mut [u8]) -> Line
         return asking::no_input_line();
     }
     let length = found.length;
-    looked(&widths[..length], checksum, scale, code)
+    looked(&widths[..length], checksum, scale, name, code)
 }
 
-fn looked(widths: &[u8], checksum: u32, scale: u32, code: i32) -> Line
+fn looked(widths: &[u8], checksum: u32, scale: u32, name: &[u8], code: i32) -> Line
     ensures { λ r. ⌜ r .length ≤ 160 ⌝ }
 {
-    match reader::look_up(widths, checksum, scale, code) {
+    match reader::look_up(widths, checksum, scale, name, code) {
         LookedUp::Found {
             escapement,
             b0,
