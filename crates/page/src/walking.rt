@@ -130,7 +130,8 @@ pub fn walk(
                 page = page.pop(last);
             }
             Turn::Select(font) => {
-                hint = exchanged(&mut hints, page.font.number, font.number, hint);
+                let before = page.font;
+                hint = exchanged(&mut hints, before.number, font.number, hint);
                 kept = kept_for(widths, terms.rows, font, &mut starts);
                 page = page.select(font);
             }

@@ -372,20 +372,20 @@ exchanged-requires c κs = tt
 
 kept-for-requires : tie.Need-kept-for-requires Inv-loop μ-loop
 kept-for-requires c κs =
-    let n = c .before .before .before .before .before .before .before .before in
-    let v = c .before .before .before .before .turn5 .given in
+    let n = c .before .before .before .before .before .before .before .before .before in
+    let v = c .before .before .before .before .before .turn5 .given in
     (here (read n) .ready .right, safe (read n) (Turn.Select (v .0 .0)) (v .1))
 
 select-requires : tie.Need-select-requires Inv-loop μ-loop
 select-requires c κs = tt
 
 loop-less-9 : tie.Need-loop-less-9 Inv-loop μ-loop
-loop-less-9 c = less (read (c .before .before .before .before .before .before .before .before .before .before))
+loop-less-9 c = less (read (c .before .before .before .before .before .before .before .before .before .before .before))
 
 loop-again-9 : tie.Need-loop-again-9 Inv-loop μ-loop
 loop-again-9 c =
-    let n = c .before .before .before .before .before .before .before .before .before .before in
-    let v = c .before .before .before .before .before .before .turn5 .given in
+    let n = c .before .before .before .before .before .before .before .before .before .before .before in
+    let v = c .before .before .before .before .before .before .before .turn5 .given in
     let sound = here (read n) .sound in
     let is = c .select .ensures in
     to-state n (Turn.Select (v .0 .0)) (v .1) refl (record { level = before n .now; saved = savedOf (before n .depth) (before n .stack); font = v .0 .0 }) refl
