@@ -2,6 +2,7 @@
 -- contracts themselves. Assumes nothing.
 use Prim.Native.Nat.{ℕ, _*_, _≤_}
 use mathlib.Core.Path.{_≡_, sym, ap, fun-ext, subst, _∙_}
+use mathlib.Core.Bool.{Bool}
 use mathlib.Core.List.{List}
 use native.Mathlib.Omega.{arith}
 use contract.Lifetimes.{Lfts}
@@ -9,7 +10,8 @@ use denote.Ref.{now}
 use lib.IntN.{ℤ}
 use lib.ListN.{length, take, drop}
 use lib.Seq.{take-at, drop-at}
-use Rattle.refusals.specs.Numbers.{namedRecord, noSuchPage}
+use borrow.Author.Tests.{le-ltb}
+use Rattle.refusals.specs.Numbers.{noSuchPage, areaTooShort, namedRecord}
 use Rattle.refusals.specs.Answer.{Answer, given, refuseIf, andThen}
 use Rattle.refusals.proofs.Answer.{given-same}
 use Rattle.names.specs.Names.{nameSize, nameNumber}
@@ -19,11 +21,11 @@ use Rattle.widths.specs.AsBytes.{Bytes}
 use Rattle.widths.specs.Table.{sizeWith, checkedIn, checkedTable, oldTable}
 use Rattle.widths.specs.LookUp.{LookUp, codeByte}
 use Rattle.widths.proofs.TableLaws.{table-size}
-use Rattle.converting.specs.Converting.{inForm, convertedArea}
+use Rattle.converting.specs.Converting.{inForm, narrowTable, convertedArea}
 use Rattle.converting.specs.Named.{Unnamed, FirstNamed}
 use Rattle.converting.proofs.Forms.{form-length}
 use Rattle.converting.proofs.Named.{widen-given, narrow-given, narrow-named}
-use Rattle.converting.proofs.Widened.{widened-right, widened-looks, narrowed-again}
+use Rattle.converting.proofs.Widened.{widened-right, widened-looks, narrowed-again, narrow-of-widened}
 use Rattle.list.specs.Past.{num, den, mag}
 use Rattle.volume.specs.declared.Summary.{Summary}
 use Rattle.volume.specs.Judged.{judged}
@@ -42,6 +44,7 @@ use Rattle.reader.proofs.check_table.Reads as check-table
 use Rattle.reader.proofs.widen_table.Reads as widen-table
 use Rattle.reader.proofs.narrow_table.Reads as narrow-table
 use Rattle.reader.proofs.place_page.Reads as place-page
+use Rattle.promises.proofs.OneToOne.{made-one-to-one}
 use Rattle.promises.specs.OldTables.{oldLook, oldPlacedPage, Converts}
 
 -- ---- what a call gives
@@ -75,6 +78,25 @@ pub narrow-table-names : (κs : Lfts 2) → (table area : _) → (place : ℕ) �
     → (records : ℕ) × (checkedTable (now table) ≡ given records) × FirstNamed (now table) records place
 narrow-table-names κs table area place x post = narrow-named (now table) (length (now area)) place .0 (sym (post .0))
 
+-- ---- when a call gives records
+
+-- an old table that is right is taken where the area has room
+pub widen-table-takes : (κs : Lfts 2) → (old area : _) → (r : TableMade) → (x : _) → widen-table.Post κs (old, (area, tt)) r x
+    → (records : ℕ) → oldTable (now old) ≡ given records → records * sizeWith nameSize ≤ length (now area) → r ≡ TableMade.Records records
+widen-table-takes κs old area r x post records right room = made-one-to-one r (TableMade.Records records) (post .0 ∙ widen-given (now old) (length (now area)) records .1 (right, room))
+
+-- so is a right table without names
+pub narrow-table-takes : (κs : Lfts 2) → (table area : _) → (r : TableMade) → (x : _) → narrow-table.Post κs (table, (area, tt)) r x
+    → (records : ℕ) → checkedTable (now table) ≡ given records → Unnamed (now table) records → records * sizeWith 0 ≤ length (now area) → r ≡ TableMade.Records records
+narrow-table-takes κs table area r x post records right none room =
+    made-one-to-one r (TableMade.Records records) (post .0 ∙ narrow-given (now table) (length (now area)) records .1 (right, none, room))
+
+-- and every right table with a name is refused with 24, whatever the area
+pub names-are-told : (κs : Lfts 2) → (table area : _) → (r : TableMade) → (x : _) → narrow-table.Post κs (table, (area, tt)) r x
+    → (records place : ℕ) → checkedTable (now table) ≡ given records → FirstNamed (now table) records place → r ≡ TableMade.Refused namedRecord place
+names-are-told κs table area r x post records place right first =
+    made-one-to-one r (TableMade.Refused namedRecord place) (post .0 ∙ narrow-named (now table) (length (now area)) place .1 (records, right, first))
+
 -- ---- the widened table and the other entries
 
 module _ (old : List ℕ) (records : ℕ) (right : oldTable old ≡ given records) where
@@ -85,6 +107,14 @@ module _ (old : List ℕ) (records : ℕ) (right : oldTable old ≡ given record
   pub widened-table-checked : Bytes old → (κs : Lfts 1) → (table : _) → (r : TableChecked) → (x : _) → now table ≡ inForm 0 nameSize records old → check-table.Post κs (table, tt) r x
       → tableAnswer r ≡ given records
   widened-table-checked bytes κs table r x is post = post ∙ ap checkedTable is ∙ widened-right old records bytes right
+
+  -- it goes back where the area has room
+  pub widened-table-taken-back : Bytes old → (κs : Lfts 2) → (table area : _) → (r : TableMade) → (x : _) → now table ≡ inForm 0 nameSize records old → records * sizeWith 0 ≤ length (now area)
+      → narrow-table.Post κs (table, (area, tt)) r x → r ≡ TableMade.Records records
+  widened-table-taken-back bytes κs table area r x is room post =
+      made-one-to-one r (TableMade.Records records)
+      (post .0 ∙ ap (λ (t : List ℕ). narrowTable t (length (now area))) is ∙ narrow-of-widened old records bytes right (length (now area))
+      ∙ ap (λ (short : Bool). refuseIf short areaTooShort 0 (given records)) (le-ltb (length (now area)) (records * sizeWith 0) room))
 
   -- it is narrowed to the old table, byte by byte
   pub widened-table-narrowed : (κs : Lfts 2) → (table area : _) → (count : ℕ) → (x : _) → Bytes old → now table ≡ inForm 0 nameSize records old

@@ -12,7 +12,7 @@ use contract.Lifetimes.{Lfts}
 use Rattle.refusals.specs.Numbers.{noSuchPage, positionOutOfRange, areaTooShort}
 use Rattle.refusals.specs.Answer.{Answer, refused, given, refuseIf, andThen}
 use Rattle.refusals.specs.RefusedOnly.{FileRefusal, UnitRefusal, TableRefusal}
-use Rattle.refusals.proofs.Answer.{given-not-refused, given-next, given-same}
+use Rattle.refusals.proofs.Answer.{given-not-refused, given-next, given-same, then-given, then-refused, refused-next}
 use Rattle.refusals.proofs.RefusedOnly.{only-refused, file-numbers, unit-numbers}
 use Rattle.units.proofs.RefusedWith.{unit-refused-with}
 use Rattle.widths.specs.Table.{widthRecordSize, checkedTable}
@@ -36,25 +36,6 @@ use Rattle.reader.specs.Answers.{Refuses}
 use Rattle.reader.proofs.place_page.Reads as place-page
 use Rattle.promises.specs.Calls.{Arguments, file, table, resolution, page, area, meant, unitHere, own, Grounds, groundsSetting, seenBy}
 use Rattle.promises.proofs.OneToOne.{placed-one-to-one}
-
--- ---- what an answer was made from
-
--- what is given in the end went on from a result
-then-given : {A B : Type 0} (answer : Answer A) (next : A → Answer B) (b : B) → andThen answer next ≡ given b → (a : A) × (answer ≡ given a) × (next a ≡ given b)
-then-given (refused n place) next b e = absurd (given-not-refused b n place (sym e))
-then-given (given a) next b e = (a, refl, e)
-
--- so did a refusal that the first answer is not
-then-refused : {A B : Type 0} (answer : Answer A) (next : A → Answer B) (n place : ℕ) → (answer ≡ refused n place → ⊥) → andThen answer next ≡ refused n place
-    → (a : A) × (answer ≡ given a) × (next a ≡ refused n place)
-then-refused (refused number there) next n place passed e = absurd (passed (ap₂ refused (cc) (cc)))
-then-refused (given a) next n place passed e = (a, refl, e)
-
--- and one with another number than the test before it
-refused-next : {A : Type 0} (t : Bool) (number there n place : ℕ) (next : Answer A) → (number ≡ n → ⊥) → refuseIf t number there next ≡ refused n place
-    → (t ≡ false) × (next ≡ refused n place)
-refused-next true number there n place next other e = absurd (other (cc))
-refused-next false number there n place next other e = (refl, e)
 
 -- records have 20 bytes each
 all-length : (records : List Record) → length (allBytes records) ≡ placementRecordSize * length records

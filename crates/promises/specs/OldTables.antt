@@ -46,6 +46,10 @@ oldPlacedPage file old resolution page room =
 abbrev pub IsOwn : List ℕ → ℕ → Font → ℤ → Type 0
 IsOwn table index font code = isFor (recordOf table index) (font .checksum) (font .scale) (nameNumber (font .name)) (codeByte code) ≡ true
 
+-- the record of an index is one of any name for a character of a font: its check sum, scale and code, and sixteen zeros (rule 6.10)
+abbrev pub IsOfAny : List ℕ → ℕ → Font → ℤ → Type 0
+IsOfAny table index font code = isFor (recordOf table index) (font .checksum) (font .scale) 0 (codeByte code) ≡ true
+
 -- what a call that brings so many records into their other form does to the area: they stand at its front, and what is behind them is as it was (rules 9.1, 9.11, 9.12)
 pub record Converts (from to : ℕ) (table before after : List ℕ) (records : ℕ) : Type 0 where
   pub room : records * sizeWith to ≤ length before

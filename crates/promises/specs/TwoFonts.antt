@@ -39,25 +39,25 @@ twoFonts =
     ++ (249 ∷ 0 ∷ 0 ∷ 0 ∷ 101 ∷ 2 ∷ [])
     ++ replicate 4 223
 
--- what stands before and behind a name in a record of the character: check sum 0, scale 100; then the code, the zero byte, an escapement, and a width in tenths of the scale
+-- what stands before the name in a record of either font: check sum 0, scale 100
 abbrev pub before : List ℕ
 before = 0 ∷ 0 ∷ 0 ∷ 0 ∷ 0 ∷ 0 ∷ 0 ∷ 100 ∷ []
 
--- a tenth, 3 pixels: the character of font a
-abbrev pub narrow : List ℕ
-narrow = 65 ∷ 0 ∷ 0 ∷ 3 ∷ 0 ∷ 1 ∷ 153 ∷ 154 ∷ []
+-- what stands behind the name in the record of font a: the code, the zero byte, 3 pixels, and a tenth of the scale
+abbrev pub tenth : List ℕ
+tenth = 65 ∷ 0 ∷ 0 ∷ 3 ∷ 0 ∷ 1 ∷ 153 ∷ 154 ∷ []
 
--- two tenths, 6 pixels: the character of font b
-abbrev pub wide : List ℕ
-wide = 65 ∷ 0 ∷ 0 ∷ 6 ∷ 0 ∷ 3 ∷ 51 ∷ 52 ∷ []
+-- the same in the record of font b: 6 pixels, and two tenths
+abbrev pub twoTenths : List ℕ
+twoTenths = 65 ∷ 0 ∷ 0 ∷ 6 ∷ 0 ∷ 3 ∷ 51 ∷ 52 ∷ []
 
 -- the table has each under its own name
 abbrev pub namedTable : List ℕ
-namedTable = before ++ (97 ∷ []) ++ replicate 15 0 ++ narrow ++ before ++ (98 ∷ []) ++ replicate 15 0 ++ wide
+namedTable = before ++ (97 ∷ []) ++ replicate 15 0 ++ tenth ++ before ++ (98 ∷ []) ++ replicate 15 0 ++ twoTenths
 
 -- a table of the old form has room for one of them
 abbrev pub splicedTable : List ℕ
-splicedTable = before ++ narrow
+splicedTable = before ++ tenth
 
 -- the record of the character at a pixel
 abbrev pub figure : ℕ → ℕ → ℕ → Record
@@ -86,7 +86,7 @@ pub record IsOldOne (old area : List ℕ) : Type 0 where
 
 -- the same table in the new form: sixteen zeros for a name
 abbrev pub anyTable : List ℕ
-anyTable = before ++ replicate 16 0 ++ narrow
+anyTable = before ++ replicate 16 0 ++ tenth
 
 -- it, and an area that just holds it in the old form
 pub record IsNewOne (table area : List ℕ) : Type 0 where

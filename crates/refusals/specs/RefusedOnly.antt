@@ -70,11 +70,11 @@ MadeRefusal pk number place =
 abbrev pub CutRefusal : List ℕ → ℕ → ℕ → Type 0
 CutRefusal file number place = FileRefusal file number place ⊎ (((number ≡ wrongPages) ⊎ (number ≡ areaTooShort)) × (place ≡ 0))
 
--- of a table in the new form: as of the table, whose records have so many bytes; 17 at 0 (rule 9.11)
+-- of bringing a table into the new form: as of that table, whose records have so many bytes; 17 at 0 (rule 9.11)
 abbrev pub WidenRefusal : ℕ → List ℕ → ℕ → ℕ → Type 0
 WidenRefusal size table number place = TableRefusal size table number place ⊎ ((number ≡ areaTooShort) × (place ≡ 0))
 
--- of a table in the old form: as of the table; 24 at the first byte of a record in the table; 17 at 0 (rule 9.12)
+-- of bringing a table into the old form: as of that table; 24 at the first byte of a record in the table; 17 at 0 (rule 9.12)
 abbrev pub NarrowRefusal : ℕ → List ℕ → ℕ → ℕ → Type 0
 NarrowRefusal size table number place =
     TableRefusal size table number place

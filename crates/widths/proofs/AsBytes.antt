@@ -3,7 +3,7 @@ use mathlib.Core.Path.{_≡_, refl, sym, ap, ap₂, _∙_}
 use mathlib.Core.Bool.{Bool, true, false, cond}
 use mathlib.Core.List.{List, [], _∷_}
 use Prim.Native.Nat.{ℕ, zero, suc, _+_, _*_, _^_, _≤_, _<_}
-use native.Mathlib.Nat.{zero-add, pow-suc, mul-assoc}
+use native.Mathlib.Nat.{zero-add, suc-mul, pow-suc, mul-assoc}
 use native.Mathlib.Omega.{arith}
 use lib.Dec.{ltb, eqb}
 use lib.ListN.{length, getD, take, drop, length-drop}
@@ -11,8 +11,7 @@ use lib.Seq.{length-take-le, getD-take, getD-drop}
 use borrow.Author.Tests.{eqb-true, eqb-false}
 use Rattle.numbers.specs.Bytes.{unsignedAt}
 use Rattle.numbers.proofs.Bytes.{unsigned-below}
-use Rattle.names.specs.Names.{nameSize}
-use Rattle.widths.specs.Table.{widthRecordSize, recordIn, recordOf, risesIn}
+use Rattle.widths.specs.Table.{sizeWith, recordIn, risesIn}
 use Rattle.widths.specs.AsBytes.{Bytes, risesAsBytes, keyBytes}
 use Rattle.numbers.proofs.Radix.{first-decides, second-decides, first-same, second-same}
 
@@ -95,19 +94,24 @@ module _ (table : List ℕ) (bytes : Bytes table) where
       bytes-same (take count (drop at table)) (take count (drop other table)) count (part-length at count here) (part-length other count there) (part-bytes at count here) (part-bytes other count there)
       (unsigned-part table at count count (omega arith) ∙ e ∙ sym (unsigned-part table other count count (omega arith)))
 
-  module _ (index : ℕ) (inside : index * widthRecordSize + widthRecordSize ≤ length table) where
-    key-number : unsignedAt (keyBytes table index) 0 25 ≡ recordOf table index .key
-    unfolding recordIn
-    key-number = unsigned-part table (index * widthRecordSize) 25 25 (omega arith)
+  -- ---- of a record, whatever its form
 
-    within : index * widthRecordSize + 25 ≤ length table
+  module _ (named index : ℕ) (inside : index * sizeWith named + sizeWith named ≤ length table) where
+    key-number : unsignedAt (keyBytes named table index) 0 (named + 9) ≡ recordIn named table index .key
+    unfolding recordIn
+    key-number = unsigned-part table (index * sizeWith named) (named + 9) (named + 9) (omega arith)
+
+    within : index * sizeWith named + (named + 9) ≤ length table
     within = omega arith
 
   -- to rise from record to record is to rise as bytes
-  pub rises-as-bytes : (index : ℕ) → suc index * widthRecordSize + widthRecordSize ≤ length table → risesIn nameSize table (suc index) ≡ risesAsBytes (keyBytes table index) (keyBytes table (suc index))
-  rises-as-bytes index inside =
-      let before : index * widthRecordSize + widthRecordSize ≤ length table = omega arith in
-      let first = index * widthRecordSize in
-      let second = suc index * widthRecordSize in
-      sym (rises-by (keyBytes table index) (keyBytes table (suc index)) 25 (part-length first 25 (within index before)) (part-length second 25 (within (suc index) inside)) (part-bytes first 25 (within index before)) (part-bytes second 25 (within (suc index) inside))
-      ∙ ap₂ ltb (key-number index before) (key-number (suc index) inside))
+  pub rises-as-bytes : (named index : ℕ) → suc index * sizeWith named + sizeWith named ≤ length table
+      → risesIn named table (suc index) ≡ risesAsBytes (keyBytes named table index) (keyBytes named table (suc index))
+  rises-as-bytes named index inside =
+      let before : index * sizeWith named + sizeWith named ≤ length table = omega (arith, suc-mul index (sizeWith named)) in
+      let first = within named index before in
+      let second = within named (suc index) inside in
+      let at = index * sizeWith named in
+      let next = suc index * sizeWith named in
+      sym (rises-by (keyBytes named table index) (keyBytes named table (suc index)) (named + 9) (part-length at (named + 9) first) (part-length next (named + 9) second) (part-bytes at (named + 9) first) (part-bytes next (named + 9) second)
+      ∙ ap₂ ltb (key-number named index before) (key-number named (suc index) inside))

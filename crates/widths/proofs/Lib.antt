@@ -3,6 +3,7 @@ pub mod OneDivision
 pub mod Keys
 pub mod TableLaws
 pub mod Search
+pub mod Turns
 pub mod AsBytes
 pub mod RefusedWith
 pub mod Blocks

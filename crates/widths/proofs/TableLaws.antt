@@ -16,7 +16,7 @@ use Rattle.refusals.proofs.Answer.{given-next, given-same}
 use Rattle.numbers.specs.Bytes.{unsignedAt}
 use Rattle.numbers.specs.Sizes.{lawfulSize}
 use Rattle.names.specs.Names.{nameThenZeros}
-use Rattle.widths.specs.Steps.{lawfulBlock, lawfulRest}
+use Rattle.widths.specs.Steps.{lawfulBlock, lawfulRest, Checking}
 use Rattle.widths.specs.AsBytes.{LastBytes}
 use Rattle.numbers.proofs.Radix.{less-or-not}
 use Rattle.widths.proofs.Keys.{low-key}
@@ -51,15 +51,6 @@ module _ (named : ℕ) where
 
   -- ---- the loop
 
-  -- what holds at the loop's head: so many records are judged, so many at most are left, and the key of a next one with lawful fields must reach `least`
-  pub record Checking (table : List ℕ) (at least : ℕ) : Type 0 where
-    pub index : ℕ
-    pub left : ℕ
-    pub place : at ≡ index * size
-    pub enough : index + left ≡ suc (length table)
-    pub reach : (risesIn named table index && lawfulFields (recordIn named table index)) ≡ (not (ltb (recordIn named table index .key) least) && lawfulFields (recordIn named table index))
-    pub rest : checkedFrom named left table index ≡ checkedIn named table
-
   module _ (table : List ℕ) where
     -- a first key below 256 has scale 0, which is not lawful
     first-reach : (low : Bool) → ltb (recordIn named table 0 .key) 256 ≡ low → lawfulFields (recordIn named table 0) ≡ (not low && lawfulFields (recordIn named table 0))
@@ -70,7 +61,7 @@ module _ (named : ℕ) where
         ap (λ (scale : ℕ). lawfulSize scale && (nameThenZeros (r .name-bytes) && lawfulRest r)) none
     first-reach false e = refl
 
-    pub check-starts : Checking table 0 256
+    pub check-starts : Checking named table 0 256
     check-starts =
         record {
           index = 0;
@@ -99,7 +90,7 @@ module _ (named : ℕ) where
     wrong-by (suc left) index h enough e = opened left index h ∙ simp e
 
     turn-by : (left index : ℕ) → index * size < length table → index + left ≡ suc (length table) → rightIn named table index ≡ true
-        → checkedFrom named left table index ≡ checkedIn named table → Checking table (index * size + size) (recordIn named table index .key + 1)
+        → checkedFrom named left table index ≡ checkedIn named table → Checking named table (index * size + size) (recordIn named table index .key + 1)
     turn-by zero index h enough e rest = absurd (omega (arith, index-within index))
     turn-by (suc left) index h enough e rest =
         record {
@@ -111,7 +102,7 @@ module _ (named : ℕ) where
           rest = sym (opened left index h ∙ simp e) ∙ rest;
         }
 
-    module _ (at least : ℕ) (c : Checking table at least) where
+    module _ (at least : ℕ) (c : Checking named table at least) where
       abbrev pub here : ℕ
       here = recordIn named table (c .index) .key
 
@@ -145,9 +136,9 @@ module _ (named : ℕ) where
       pub check-rest : at + size ≤ length table → keyRight ≡ true → lawfulRest (recordWith named table at) ≡ false → refused wrongWidthTable at ≡ checkedIn named table
       check-rest h e f = wrong (omega arith) (right-is h ∙ ap₂ _&&_ e f)
 
-      pub check-turns : at + size ≤ length table → keyRight ≡ true → lawfulRest (recordWith named table at) ≡ true → Checking table (at + size) (here + 1)
+      pub check-turns : at + size ≤ length table → keyRight ≡ true → lawfulRest (recordWith named table at) ≡ true → Checking named table (at + size) (here + 1)
       check-turns h e f =
-          subst (λ (n : ℕ). Checking table (n + size) (here + 1)) (sym (c .place))
+          subst (λ (n : ℕ). Checking named table (n + size) (here + 1)) (sym (c .place))
           (turn-by (c .left) (c .index) (omega (arith, c .place)) (c .enough) (right-is h ∙ ap₂ _&&_ e f) (c .rest))
 
   -- ---- a right table

@@ -4,9 +4,8 @@ use mathlib.Core.Bool.{Bool, false, cond}
 use mathlib.Core.List.{List, [], _∷_}
 use lib.Dec.{ltb, eqb}
 use lib.ListN.{length, getD, take, drop}
-use Rattle.names.specs.Names.{nameSize}
 use Rattle.widths.specs.declared.FixWord.{FixWord}
-use Rattle.widths.specs.Table.{widthRecordSize}
+use Rattle.widths.specs.Table.{sizeWith}
 
 -- each element is a byte (rule 1.1)
 abbrev pub Bytes : List ℕ → Type 0
@@ -18,9 +17,9 @@ risesAsBytes [] ys = false
 risesAsBytes (x ∷ xs) [] = false
 risesAsBytes (x ∷ xs) (y ∷ ys) = cond (eqb x y) (risesAsBytes xs ys) (ltb x y)
 
--- the bytes of a record's key (rule 6.1)
-abbrev pub keyBytes : List ℕ → ℕ → List ℕ
-keyBytes table index = take (nameSize + 9) (drop (index * widthRecordSize) table)
+-- the bytes of a record's key, whose name has so many (rules 6.1, 6.11)
+abbrev pub keyBytes : ℕ → List ℕ → ℕ → List ℕ
+keyBytes named table index = take (named + 9) (drop (index * sizeWith named) table)
 
 -- the last three parts of a fix word are bytes (rule 6.1)
 pub record LastBytes (w : FixWord) : Type 0 where

@@ -1,5 +1,5 @@
 -- What the code's own steps give and keep; no promise cites this. Assumes nothing.
-use Prim.Native.Nat.{ℕ, _+_, _*_, _/_, _^_, _≤_, _<_}
+use Prim.Native.Nat.{ℕ, suc, _+_, _*_, _/_, _^_, _≤_, _<_}
 use mathlib.Core.Path.{_≡_}
 use mathlib.Core.Bool.{Bool, true, cond, not, _&&_}
 use mathlib.Core.List.{List}
@@ -9,7 +9,7 @@ use lib.IntN.{ℤ, pos, _-ℤ_}
 use Rattle.refusals.specs.Numbers.{wrongWidthTable}
 use Rattle.refusals.specs.Answer.{Answer, refused, given}
 use Rattle.names.specs.declared.Name.{Name}
-use Rattle.names.specs.Names.{nameThenZeros, nameNumber}
+use Rattle.names.specs.Names.{nameSize, nameThenZeros, nameNumber}
 use Rattle.widths.specs.declared.FixWord.{FixWord}
 use Rattle.widths.specs.declared.table.Key.{Key}
 use Rattle.widths.specs.declared.table.Table.{Table}
@@ -19,7 +19,7 @@ use Rattle.widths.specs.declared.table.Place.the-variants.{At, Nowhere}
 use Rattle.numbers.specs.Sizes.{lawfulSize}
 use Rattle.widths.specs.Scaling.{halved, lawfulFirst}
 use Rattle.widths.specs.AsBytes.{fraction}
-use Rattle.widths.specs.Table.{WidthRecord, recordAt, recordOf}
+use Rattle.widths.specs.Table.{sizeWith, WidthRecord, recordIn, risesIn, lawfulFields, checkedFrom, checkedIn, recordAt, recordOf}
 use Rattle.widths.specs.LookUp.{LookUp, found, absent, metricOf, walk, lookedFor}
 
 -- sixteen times a scale, less the bits that halving loses
@@ -73,6 +73,23 @@ LeastKey table least =
 -- the fields behind the key are right
 abbrev pub lawfulRest : WidthRecord → Bool
 lawfulRest r = eqb (r .zero-byte) 0 && lawfulFirst (r .width .b0)
+
+-- what holds as the check goes on, whatever the form: so many records are judged, so many at most are left, and the key of a next one with lawful fields must reach `least`
+pub record Checking (named : ℕ) (table : List ℕ) (at least : ℕ) : Type 0 where
+  pub index : ℕ
+  pub left : ℕ
+  pub place : at ≡ index * sizeWith named
+  pub enough : index + left ≡ suc (length table)
+  pub reach : (risesIn named table index && lawfulFields (recordIn named table index)) ≡ (not (ltb (recordIn named table index .key) least) && lawfulFields (recordIn named table index))
+  pub rest : checkedFrom named left table index ≡ checkedIn named table
+
+-- the same of the form with names, within the whole records
+abbrev pub Judging : List ℕ → ℕ → ℕ → Key → Type 0
+Judging table whole at least = (at ≤ whole) × LeastKey table least × Checking nameSize table at (keyNumber least)
+
+-- a key with another code
+abbrev pub withCode : Key → ℕ → Key
+withCode k code = record { head = k .head; high = k .high; low = k .low; code = code }
 
 -- the check's answer: 14 at the place of the first wrong record, or how many records
 abbrev pub tableSays : Table → Answer ℕ

@@ -5,7 +5,7 @@ use crate::scaling;
 use names::Name;
 ghost use mathlib.Core.Path.{_≡_};
 ghost use mathlib.Core.Bool.{true, _&&_};
-ghost use Prim.Native.Nat.{_+_, _*_, _≤_, _<_, _^_};
+ghost use Prim.Native.Nat.{_+_, _%_, _≤_, _<_, _^_};
 ghost use lib.Dec.{ltb, eqb};
 ghost use lib.ListN.{length};
 ghost use Rattle.refusals.specs.Answer.{given};
@@ -13,7 +13,7 @@ ghost use Rattle.names.specs.Names.{nameNumber};
 ghost use Rattle.names.specs.Steps.{InEights};
 ghost use Rattle.widths.specs.Table.{recordAt, recordOf, checkedTable};
 ghost use Rattle.widths.specs.LookUp.{metricOf, lookedFor};
-ghost use Rattle.widths.specs.Steps.{blockNumber, keyNumber, InKey, KeyIs, KeyAt, reaches, LeastKey, lawfulBlock, lawfulRest, tableSays, foundAt, KeyFound, Among, FirstNotBelow, SeeksFor};
+ghost use Rattle.widths.specs.Steps.{blockNumber, keyNumber, InKey, KeyIs, KeyAt, reaches, LeastKey, Judging, withCode, lawfulBlock, lawfulRest, tableSays, foundAt, KeyFound, Among, FirstNotBelow, SeeksFor};
 
 // The layout of a width record: where the name and the fields after it start, and the size.
 const NAME_AT: usize = 8;
@@ -36,6 +36,12 @@ pub struct Key {
     pub head: u64,
     pub high: u64,
     pub low: u64,
+    pub code: u64,
+}
+
+// What a run over records of one check sum, scale and name comes to: the place behind it, and the least code there
+pub struct Run {
+    pub at: usize,
     pub code: u64,
 }
 
@@ -156,6 +162,31 @@ fn lawful_rest(table: &[u8], at: usize) -> bool
     scaling::lawful_first(table[at + WIDTH_AT])
 }
 
+// The records that follow with the check sum, scale and name of the key before, as far as they are right: the place behind them, and the least code there. In this
+// loop no byte of a name is read by itself, so that each half of a name is one load.
+fn pass_block(table: &[u8], from: usize, whole: usize, least: Key) -> Run
+    requires { ⌜ (whole ≤ length (now table)) × (whole % 32 ≡ 0) × Judging (now table) whole from least ⌝ }
+    ensures { λ r. ⌜ (from ≤ r .at) × Judging (now (table .entry)) whole (r .at) (withCode least (r .code)) ⌝ }
+{
+    let mut at = from;
+    let mut code = least.code;
+    while at < whole {
+        let key = key_at(table, at);
+        if !same_block(key, least) {
+            return Run { at, code };
+        }
+        if key.code < code {
+            return Run { at, code };
+        }
+        if !lawful_rest(table, at) {
+            return Run { at, code };
+        }
+        code = key.code + 1;
+        at += RECORD_SIZE;
+    }
+    Run { at, code }
+}
+
 // The check of a whole table. A next record must reach `least`: one past the key before it. At first it is the least with a head above 0 or a name: scale 0 is
 // not lawful. Bytes after the whole records are judged once, after the loop.
 pub fn check_table(table: &[u8]) -> Table
@@ -178,13 +209,20 @@ pub fn check_table(table: &[u8]) -> Table
             return Table::Wrong(at);
         }
         let next_code = key.code + 1;
-        least = Key {
+        let next = Key {
             head: key.head,
             high: key.high,
             low: key.low,
             code: next_code,
         };
-        at += RECORD_SIZE;
+        let run = pass_block(table, at + RECORD_SIZE, whole, next);
+        least = Key {
+            head: key.head,
+            high: key.high,
+            low: key.low,
+            code: run.code,
+        };
+        at = run.at;
     }
     if at < table.len() {
         return Table::Wrong(at);
@@ -253,17 +291,12 @@ fn first_near(table: &[u8], records: usize, key: Key, hint: usize) -> usize
     first_not_below(table, records, key)
 }
 
-// The record with a key, trying one record first: any hint gives the same answer, and a good one spares the search.
-fn find_key(table: &[u8], records: usize, key: Key, hint: usize) -> Place
+// The record with a key, by search.
+fn find_key(table: &[u8], records: usize, key: Key) -> Place
     requires { ⌜ checkedTable (now table) ≡ given records ⌝ }
     requires { ⌜ InKey key × (key .code < 256) ⌝ }
     ensures { λ r. ⌜ KeyFound (now (table .entry)) records key r × Among records r ⌝ }
 {
-    if hint < records {
-        if same(key_at(table, hint * RECORD_SIZE), key) {
-            return Place::At(hint);
-        }
-    }
     let index = first_not_below(table, records, key);
     if index < records {
         if same(key_at(table, index * RECORD_SIZE), key) {
@@ -273,7 +306,25 @@ fn find_key(table: &[u8], records: usize, key: Key, hint: usize) -> Place
     Place::Nowhere
 }
 
-// A character's record in a table that was judged right, of so many records: that of the name that is sought, or else that of any name.
+// A character's record in a table that was judged right, by search: that of the name that is sought, or else that of any name.
+fn seek(table: &[u8], records: usize, checksum: u64, scale: u64, name: Name, byte: u64) -> Place
+    requires { ⌜ checkedTable (now table) ≡ given records ⌝ }
+    requires { ⌜ (checksum < 2 ^ 32) × (scale < 2 ^ 32) × InEights name × (byte < 256) ⌝ }
+    ensures { λ r. ⌜ (foundAt (now (table .entry)) r ≡ lookedFor records (now (table .entry)) checksum scale (nameNumber name) byte) × Among records r ⌝ }
+{
+    let any = Name { high: 0, low: 0 };
+    match find_key(table, records, key_of(checksum, scale, name, byte)) {
+        Place::At(index) => Place::At(index),
+        Place::Nowhere => {
+            if names::is_any(name) {
+                return Place::Nowhere;
+            }
+            find_key(table, records, key_of(checksum, scale, any, byte))
+        }
+    }
+}
+
+// The same, trying one record first: any hint gives the same answer, and a good one, which has the name that is sought, spares the search.
 pub fn find(
     table: &[u8],
     records: usize,
@@ -287,16 +338,15 @@ pub fn find(
     requires { ⌜ (checksum < 2 ^ 32) × (scale < 2 ^ 32) × InEights name × (byte < 256) ⌝ }
     ensures { λ r. ⌜ (foundAt (now (table .entry)) r ≡ lookedFor records (now (table .entry)) checksum scale (nameNumber name) byte) × Among records r ⌝ }
 {
-    let any = Name { high: 0, low: 0 };
-    match find_key(table, records, key_of(checksum, scale, name, byte), hint) {
-        Place::At(index) => Place::At(index),
-        Place::Nowhere => {
-            if names::is_any(name) {
-                return Place::Nowhere;
-            }
-            find_key(table, records, key_of(checksum, scale, any, byte), hint)
+    if hint < records {
+        if same(
+            key_at(table, hint * RECORD_SIZE),
+            key_of(checksum, scale, name, byte),
+        ) {
+            return Place::At(hint);
         }
     }
+    seek(table, records, checksum, scale, name, byte)
 }
 
 // The name by which a font's characters are found: its own where the table has a record of it, else sixteen zeros, so that a font which the table does not name is

@@ -12,7 +12,8 @@ use Rattle.numbers.specs.Bytes.{unsignedAt}
 use Rattle.numbers.specs.Sizes.{lawfulSize}
 use Rattle.numbers.proofs.Bytes.{unsigned-more, unsigned-join}
 use Rattle.widths.specs.Table.{oldRecordSize, recordIn}
-use Rattle.widths.proofs.TableLaws.{Checking, check-starts, check-ends, check-cut, here, keyRight, check-key, check-rest, check-turns}
+use Rattle.widths.specs.Steps.{Checking}
+use Rattle.widths.proofs.TableLaws.{check-starts, check-ends, check-cut, here, keyRight, check-key, check-rest, check-turns}
 use Rattle.converting.specs.declared.old.OldKey.{OldKey}
 use Rattle.converting.specs.Steps.{oldKeyNumber, OldKeyAt, oldReaches, OldLeastKey}
 use Rattle.converting.proofs.old.check_old.Statement.{statement}

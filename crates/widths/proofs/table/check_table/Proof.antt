@@ -1,26 +1,24 @@
 -- `widths::table::check_table` meets its contract. Assumes nothing.
-use Prim.Native.Nat.{ℕ, _+_, _-_, _*_, _≤_}
-use mathlib.Core.Path.{_≡_, sym, ap, subst, _∙_}
-use mathlib.Core.Bool.{true, not, _&&_, and-eq-true-iff}
+use Prim.Native.Nat.{ℕ, _+_, _-_, _≤_}
+use mathlib.Core.Path.{_≡_, sym, _∙_}
+use mathlib.Core.Bool.{true, and-eq-true-iff}
 use mathlib.Core.List.{List}
-use native.Mathlib.Nat.{add-assoc}
 use native.Mathlib.Omega.{arith}
 use borrow.Author.Tests.{not-true, not-false}
-use lib.Dec.{ltb}
 use lib.ListN.{length}
 use denote.Ref.{now}
 use Rattle.names.specs.Names.{nameSize}
 use Rattle.widths.specs.AsBytes.{Bytes}
 use Rattle.widths.specs.Table.{widthRecordSize, recordAt}
-use Rattle.widths.specs.Steps.{blockNumber, keyNumber, KeyAt, reaches, LeastKey, lawfulBlock}
-use Rattle.widths.proofs.Keys.{key-is}
+use Rattle.widths.specs.Steps.{keyNumber, reaches, lawfulBlock, Judging}
 use Rattle.widths.proofs.Blocks.{same-lawful}
-use Rattle.widths.proofs.TableLaws.{Checking, check-starts, check-ends, check-cut, here, keyRight, check-key, check-rest, check-turns}
+use Rattle.widths.proofs.TableLaws.{check-starts, check-ends, check-cut, keyRight, check-key, check-rest}
+use Rattle.widths.proofs.Turns.{key-tested, turned}
 use Rattle.widths.proofs.table.check_table.Statement.{statement}
 use Rattle.widths.proofs.table.check_table.Tie as tie
 
 abbrev Inv-loop : tie.InvT-loop
-Inv-loop table at₀ least₀ whole at least = (at ≤ whole) × LeastKey table least × Checking nameSize table at (keyNumber least)
+Inv-loop table at₀ least₀ whole at least = Judging table whole at least
 
 abbrev μ-loop : tie.MeasureT-loop
 μ-loop table at₀ least₀ whole at least = whole - at
@@ -41,7 +39,7 @@ key-at-requires c κs = inside c
 lawful-key-requires : tie.Need-lawful-key-requires Inv-loop μ-loop
 lawful-key-requires c κs = (inside (c .before), c .key-at .ensures, c .before .before .loop .inv .1)
 
--- the test of the key, on the record's own
+-- what is known where the key has been tested
 module _ (c : tie.After-lawful-key Inv-loop μ-loop) where
   abbrev head : tie.At-loop Inv-loop μ-loop
   head = c .before .before .before
@@ -52,14 +50,8 @@ module _ (c : tie.After-lawful-key Inv-loop μ-loop) where
   abbrev least : ℕ
   least = keyNumber (head .loop .least)
 
-  -- the key that was read is that of the record
-  key-here : keyNumber (c .before .key-at .result) ≡ here nameSize table (head .loop .at) least (head .loop .inv .2)
-  key-here =
-      let inv = head .loop .inv .2 in
-      key-is table (inv .index) (c .before .key-at .result) (subst (λ (n : ℕ). KeyAt table n (c .before .key-at .result)) (inv .place) (c .before .key-at .ensures))
-
   key-test : c .lawful-key .result ≡ keyRight nameSize table (head .loop .at) least (head .loop .inv .2)
-  key-test = c .lawful-key .ensures ∙ ap (λ (n : ℕ). not (ltb n least) && lawfulBlock (recordAt table (head .loop .at))) key-here
+  key-test = c .lawful-key .ensures ∙ key-tested table (head .loop .at) least (head .loop .inv .2) (c .before .key-at .result) (c .before .key-at .ensures)
 
 returns : tie.Need-returns Inv-loop μ-loop
 returns c =
@@ -80,30 +72,35 @@ returns-2 c =
 add-next-code : tie.Need-add-next-code Inv-loop μ-loop
 add-next-code c = omega arith
 
-add-at : tie.Need-add-at Inv-loop μ-loop
-add-at c = omega (arith, inside (c .before .before .before .before .before .before))
+add-pass-block : tie.Need-add-pass-block Inv-loop μ-loop
+add-pass-block c = omega (arith, inside (c .before .before .before .before .before .before))
 
-loop-less : tie.Need-loop-less Inv-loop μ-loop
-loop-less c = omega arith
-
-loop-again : tie.Need-loop-again Inv-loop μ-loop
-loop-again c =
+pass-block-requires : tie.Need-pass-block-requires Inv-loop μ-loop
+pass-block-requires c κs =
     let k = c .before .before .before .before in
     let l = head k .loop in
     let key = k .before .key-at in
-    let right : keyRight nameSize (table k) (l .at) (least k) (l .inv .2) ≡ true = sym (key-test k) ∙ not-false _ (c .before .before .before .if1 .left) in
-    let lawful : lawfulBlock (recordAt (table k) (l .at)) ≡ true = and-eq-true-iff (reaches (key .result) (l .least)) (lawfulBlock (recordAt (table k) (l .at))) .0 (sym (k .lawful-key .ensures) ∙ not-false _ (c .before .before .before .if1 .left)) .1 in
-    let next = check-turns nameSize (table k) (l .at) (least k) (l .inv .2) (inside (k .before .before)) right (sym (c .before .before .lawful-rest .ensures) ∙ not-false _ (c .before .if2 .left)) in
-    let bytes : Bytes (table k) = λ i h. head k .before .shared-slice-known .given i .fits in
-    let e : here nameSize (table k) (l .at) (least k) (l .inv .2) + 1 ≡ blockNumber (key .result) * 256 + (key .result .code + 1) =
-    ap (λ (n : ℕ). n + 1) (sym (key-here k)) ∙ add-assoc (blockNumber (key .result) * 256) (key .result .code) 1 in (
-      omega (arith, l .inv .2 .place),
+    let there = inside (k .before .before) in
+    let reached = sym (k .lawful-key .ensures) ∙ not-false _ (c .before .before .before .if1 .left) in
+    let lawful : lawfulBlock (recordAt (table k) (l .at)) ≡ true = and-eq-true-iff (reaches (key .result) (l .least)) (lawfulBlock (recordAt (table k) (l .at))) .0 reached .1 in
+    let bytes : Bytes (table k) = λ i h. head k .before .shared-slice-known .given i .fits in (
+      omega arith,
+      omega arith,
       (
-        (key .ensures .high-below, key .ensures .low-below, omega (arith, key .ensures .code-below)),
-        λ h at′ key′ there is same. same-lawful (table k) bytes at′ (l .at) key′ (key .result) there (inside (k .before .before)) is (key .ensures) same ∙ lawful,
+        omega (arith, l .inv .2 .place),
+        (
+          (key .ensures .high-below, key .ensures .low-below, omega (arith, key .ensures .code-below)),
+          λ h at′ key′ other is same. same-lawful (table k) bytes at′ (l .at) key′ (key .result) other there is (key .ensures) same ∙ lawful,
+        ),
+        turned (table k) (l .at) (least k) (l .inv .2) (key .result) (key .ensures) there reached (sym (c .before .before .lawful-rest .ensures) ∙ not-false _ (c .before .if2 .left)),
       ),
-      subst (Checking nameSize (table k) (l .at + widthRecordSize)) e next,
     )
+
+loop-less : tie.Need-loop-less Inv-loop μ-loop
+loop-less c = omega (arith, c .pass-block .ensures .0)
+
+loop-again : tie.Need-loop-again Inv-loop μ-loop
+loop-again c = c .pass-block .ensures .1
 
 returns-3 : tie.Need-returns-3 Inv-loop μ-loop
 returns-3 c =
@@ -129,7 +126,8 @@ check-table-spec =
     lawful-rest-requires
     returns-2
     add-next-code
-    add-at
+    add-pass-block
+    pass-block-requires
     loop-less
     loop-again
     returns-3
