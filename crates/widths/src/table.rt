@@ -81,10 +81,11 @@ fn key_at(table: &[u8], at: usize) -> Key
     requires { ⌜ at + 32 ≤ length (now table) ⌝ }
     ensures { λ r. ⌜ KeyAt (now (table .entry)) at r ⌝ }
 {
-    let code = numbers::wide(table[at + CODE_AT]);
+    let head = numbers::unsigned_at(table, at, NAME_AT);
     let name = names::name_at(table, at + NAME_AT);
+    let code = numbers::wide(table[at + CODE_AT]);
     Key {
-        head: numbers::unsigned_at(table, at, NAME_AT),
+        head: head,
         high: name.high,
         low: name.low,
         code: code,
@@ -96,13 +97,13 @@ fn same_block(a: Key, b: Key) -> bool
     requires { ⌜ InKey a × InKey b ⌝ }
     ensures { λ r. ⌜ r ≡ eqb (blockNumber a) (blockNumber b) ⌝ }
 {
-    if a.head != b.head {
+    if a.low != b.low {
         return false;
     }
     if a.high != b.high {
         return false;
     }
-    a.low == b.low
+    a.head == b.head
 }
 
 // Whether two keys are the same.

@@ -33,23 +33,23 @@ returns c =
     let table = now (c .before .before .before .before .before .args .table) in
     let at = c .before .before .before .before .before .args .at in
     record {
-      head-is = c .unsigned-at .ensures .0 ∙ unsigned-join table at 4 4;
+      head-is = c .before .before .before .unsigned-at .ensures .0 ∙ unsigned-join table at 4 4;
       scale-below = unsigned-below table (at + 4) 4 (λ i h. omega (arith, c .before .before .before .before .shared-slice-known .given (at + 4 + i)));
-      name-is = ap nameNumber (c .before .name-at .ensures .0) ∙ number-at table (at + 8);
-      high-below = c .before .name-at .ensures .1 .0;
-      low-below = c .before .name-at .ensures .1 .1;
-      code-is = c .before .before .wide .ensures .0;
-      code-below = c .before .before .wide .ensures .1;
+      name-is = ap nameNumber (c .before .before .name-at .ensures .0) ∙ number-at table (at + 8);
+      high-below = c .before .before .name-at .ensures .1 .0;
+      low-below = c .before .before .name-at .ensures .1 .1;
+      code-is = c .wide .ensures .0;
+      code-below = c .wide .ensures .1;
     }
 
 pub key-at-spec : {M : Type 1} → statement M
 key-at-spec =
     tie.close
     (tie.spec
+    unsigned-at-requires
+    add-name-at
+    name-at-requires
     add-wide
     shared-slice-read-wide
     wide-requires
-    add-name-at
-    name-at-requires
-    unsigned-at-requires
     returns)

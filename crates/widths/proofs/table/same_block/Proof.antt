@@ -9,7 +9,7 @@ use Rattle.widths.proofs.table.same_block.Statement.{statement}
 use Rattle.widths.proofs.table.same_block.Tie as tie
 
 returns : tie.Need-returns
-returns c = let s = c .before .before .before in sym (ne-eqb (blockNumber (s .args .a)) (blockNumber (s .args .b)) (λ e. c .if1 .taken (same-parts (s .args .a) (s .args .b) (s .pre .0) (s .pre .1) e .head-same)))
+returns c = let s = c .before .before .before in sym (ne-eqb (blockNumber (s .args .a)) (blockNumber (s .args .b)) (λ e. c .if1 .taken (same-parts (s .args .a) (s .args .b) (s .pre .0) (s .pre .1) e .low-same)))
 
 returns-2 : tie.Need-returns-2
 returns-2 c = let s = c .before .before .before .before .before .before in sym (ne-eqb (blockNumber (s .args .a)) (blockNumber (s .args .b)) (λ e. c .if2 .taken (same-parts (s .args .a) (s .args .b) (s .pre .0) (s .pre .1) e .high-same)))
@@ -19,9 +19,9 @@ returns-3 c =
     let s = c .before .before .before .before .before .before .before .before in
     let a = s .args .a in
     let b = s .args .b in
-    same-equal (a .low) (b .low) (blockNumber a) (blockNumber b)
-    (λ e. ap₂ (λ (upper low : ℕ). upper * 2 ^ 64 + low) (ap₂ (λ (head high : ℕ). head * 2 ^ 64 + high) (c .before .before .before .before .before .if1 .left) (c .before .before .if2 .left)) e)
-    (λ e. same-parts a b (s .pre .0) (s .pre .1) e .low-same)
+    same-equal (a .head) (b .head) (blockNumber a) (blockNumber b)
+    (λ e. ap₂ (λ (upper low : ℕ). upper * 2 ^ 64 + low) (ap₂ (λ (head high : ℕ). head * 2 ^ 64 + high) e (c .before .before .if2 .left)) (c .before .before .before .before .before .if1 .left))
+    (λ e. same-parts a b (s .pre .0) (s .pre .1) e .head-same)
 
 pub same-block-spec : {M : Type 1} → statement M
 same-block-spec = tie.close (tie.spec returns returns-2 returns-3)
