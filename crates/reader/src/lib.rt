@@ -285,7 +285,7 @@ pub fn widen_table(old: &[u8], out: &mut [u8]) -> TableMade
     ensures { λ r. ⌜ (NotMade r → now (out .exit) ≡ now (out .entry)) ⌝ }
 {
     match converting::converting::widen_table(old, out) {
-        Converted::Records(records) => TableMade::Records(records),
+        Converted::Records(widened) => TableMade::Records(widened),
         Converted::Refused(reason) => TableMade::Refused {
             number: reason.number,
             place: reason.place,
@@ -301,9 +301,9 @@ pub fn narrow_table(table: &[u8], out: &mut [u8]) -> TableMade
 {
     match converting::converting::narrow_table(table, out) {
         Converted::Records(records) => TableMade::Records(records),
-        Converted::Refused(reason) => TableMade::Refused {
-            number: reason.number,
-            place: reason.place,
+        Converted::Refused(wrong) => TableMade::Refused {
+            number: wrong.number,
+            place: wrong.place,
         },
     }
 }

@@ -17,8 +17,8 @@ narrow-table-requires c κs = search needs
 enum-known-records : tie.Need-enum-known-records
 enum-known-records c = search needs
 
-enum-known-reason : tie.Need-enum-known-reason
-enum-known-reason c = search needs
+enum-known-wrong : tie.Need-enum-known-wrong
+enum-known-wrong c = search needs
 
 -- what the room answered
 module _ (p : tie.After-narrow-table) where
@@ -45,7 +45,7 @@ same-length-2 c = search needs
 returns-2 : tie.Need-returns-2
 returns-2 c =
     let p = c .before .before .before .before .before in
-    let said = answer-is p _ (c .before .reason .given .1) in
+    let said = answer-is p _ (c .before .wrong .given .1) in
     (said, (p .narrow-table .ensures .1, λ refuses. p .narrow-table .ensures .1 ∙ ap (narrowedArea (now (start p .args .table)) (now (start p .args .out))) (sym said)))
 
 pub narrow-table-spec : {M : Type 1} → statement M
@@ -54,7 +54,7 @@ narrow-table-spec =
     (tie.spec
     narrow-table-requires
     enum-known-records
-    enum-known-reason
+    enum-known-wrong
     same-length
     returns
     same-length-2

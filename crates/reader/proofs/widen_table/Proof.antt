@@ -14,8 +14,8 @@ use Rattle.reader.proofs.widen_table.Tie as tie
 widen-table-requires : tie.Need-widen-table-requires
 widen-table-requires c κs = search needs
 
-enum-known-records : tie.Need-enum-known-records
-enum-known-records c = search needs
+enum-known-widened : tie.Need-enum-known-widened
+enum-known-widened c = search needs
 
 enum-known-reason : tie.Need-enum-known-reason
 enum-known-reason c = search needs
@@ -37,7 +37,7 @@ same-length c = search needs
 returns : tie.Need-returns
 returns c =
     let p = c .before .before .before .before .before in
-    (answer-is p _ (c .before .records .given .1), (p .widen-table .ensures .1, λ refuses. absurd refuses))
+    (answer-is p _ (c .before .widened .given .1), (p .widen-table .ensures .1, λ refuses. absurd refuses))
 
 same-length-2 : tie.Need-same-length-2
 same-length-2 c = search needs
@@ -53,7 +53,7 @@ widen-table-spec =
     tie.close
     (tie.spec
     widen-table-requires
-    enum-known-records
+    enum-known-widened
     enum-known-reason
     same-length
     returns
