@@ -20,7 +20,7 @@ use Rattle.page.specs.declared.Turn.{Turn}
 use Rattle.page.specs.declared.Turn.the-variants as Turn
 use Rattle.page.specs.Records.{characterRecord}
 use Rattle.page.specs.Placing.{lookIn}
-use Rattle.page.specs.Steps.{InWords, stateWith, unlessLeft, CharacterAsks}
+use Rattle.page.specs.Steps.{InWords, stateWith, termsSetting, unlessLeft, CharacterAsks}
 use Rattle.page.proofs.RecordWords.{ofBits, read-record}
 use Rattle.page.proofs.TurnLaws.{did-unless, safe-unless, inside-unless}
 
@@ -74,7 +74,7 @@ module _ {terms : Terms} {table : List ℕ} {level : Level} {font : Font} {code 
       subst (Places sets) (sym turn-is)
       (placing sets (unlessLeft Direction.Sideways level width past) (λ volume. (
         record {
-          does = λ saved. rw (p .is, set) (did-unless (terms .ruler) (stateWith level saved font) past (Adds.Placed here) (leaves (level .h +ℤ width)));
+          does = λ saved. rw (p .is, set) (did-unless (termsSetting terms table volume) (stateWith level saved font) past (Adds.Placed here) (leaves (level .h +ℤ width)));
           safe = safe-unless Direction.Sideways level width past (λ stays. ((p .width-small, stays), p .escapement-small));
           words = words;
         },

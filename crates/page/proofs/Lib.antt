@@ -3,6 +3,7 @@ pub mod Blocks
 pub mod CharacterLaws
 pub mod CountLaws
 pub mod FontLaws
+pub mod Remembered
 pub mod Found
 pub mod Frames
 pub mod PageRuns

@@ -43,8 +43,8 @@ use Rattle.page.specs.Steps.{addedOf, stateWith, did, Safe, turnFrame, S
 
 -- ---- a turn, unless h or v would leave its range
 
-module _ (ruler : Ruler) (s : State) (turn : Turn) (adds : Adds) where
-  pub did-unless : (t : Bool) → did ruler s (cond t Turn.Leave turn) adds ≡ cond t leavesRange (did ruler s turn adds)
+module _ (setting : Setting) (s : State) (turn : Turn) (adds : Adds) where
+  pub did-unless : (t : Bool) → did setting s (cond t Turn.Leave turn) adds ≡ cond t leavesRange (did setting s turn adds)
   did-unless true = refl
   did-unless false = refl
 
@@ -93,17 +93,17 @@ module _ (setting : Setting) (level : Level) (saved : List Level) (font : Font) 
   abbrev s : State
   s = stateWith level saved font
 
-  plain-does : (direction : Direction) → did (setting .ruler) s (plainTurn direction level (c .params)) Adds.Nothing ≡ plainMove direction setting s (c .params)
+  plain-does : (direction : Direction) → did setting s (plainTurn direction level (c .params)) Adds.Nothing ≡ plainMove direction setting s (c .params)
   plain-does direction =
-      let n = distance (c .params) in did-unless (setting .ruler) s (Turn.By direction n) Adds.Nothing (leaves (spotOf direction level .position +ℤ n))
+      let n = distance (c .params) in did-unless setting s (Turn.By direction n) Adds.Nothing (leaves (spotOf direction level .position +ℤ n))
 
-  register-does : (register : Register) → did (setting .ruler) s (registerTurn register level (c .params)) Adds.Nothing ≡ registerMove register setting s (c .params)
+  register-does : (register : Register) → did setting s (registerTurn register level (c .params)) Adds.Nothing ≡ registerMove register setting s (c .params)
   register-does register =
       let n = distanceOr (registerOf register level) (c .params) in
-      did-unless (setting .ruler) s (Turn.ByRegister register n) Adds.Nothing (leaves (spotOf (directionOf register) level .position +ℤ n))
+      did-unless setting s (Turn.ByRegister register n) Adds.Nothing (leaves (spotOf (directionOf register) level .position +ℤ n))
 
   -- the turn of a kind comes to what is meant by a command of it
-  pub turn-does : (k : Kind) → onlyTurns k ≡ true → did (setting .ruler) s (turnOf k level (c .params)) Adds.Nothing ≡ afterKind k setting s c
+  pub turn-does : (k : Kind) → onlyTurns k ≡ true → did setting s (turnOf k level (c .params)) Adds.Nothing ≡ afterKind k setting s c
   turn-does Kind.SetCharacter only = absurd (false≢true only)
   turn-does Kind.SetRule only = absurd (false≢true only)
   turn-does Kind.PutCharacter only = absurd (false≢true only)
@@ -228,7 +228,7 @@ move-fits c w is-move =
 
 module _ (setting : Setting) (level : Level) (font : Font) (c : Command) (r : Asked) (k : Kind) (is-k : kindOfCommand c ≡ k) where
   -- what is asked by its kind is what is asked by the command
-  pub asks-by-kind : Comes (setting .ruler) level font (λ s. afterKind k setting s c) (r .turn) (r .adds) → Suits k (r .turn) → CommandAsks setting level font c r
+  pub asks-by-kind : Comes setting level font (λ s. afterKind k setting s c) (r .turn) (r .adds) → Suits k (r .turn) → CommandAsks setting level font c r
   asks-by-kind comes suits = (
     record { does = λ saved. comes .does saved ∙ after-kind setting level saved font c k is-k; safe = comes .safe; words = comes .words },
     subst (λ (kind : Kind). Suits kind (r .turn)) (sym is-k) suits,
@@ -240,21 +240,21 @@ module _ (terms : Terms) (table : List ℕ) (volume : List Command) (level : Lev
 
   -- what a rule comes to that is set
   rule-does : (saved : List Level) (adds : Adds) → addedOf adds ≡ ruleBy terms level (ruleHeight params) (ruleWidth params)
-      → did (terms .ruler) (stateWith level saved font) (unlessLeft Direction.Sideways level (ruleWidth params) past) adds
+      → did (termsSetting terms table volume) (stateWith level saved font) (unlessLeft Direction.Sideways level (ruleWidth params) past) adds
       ≡ setRule (termsSetting terms table volume) (stateWith level saved font) (ruleHeight params) (ruleWidth params)
   rule-does saved adds e =
       let s = stateWith level saved font in
       let leads : Added → Outcome = movesTo Direction.Sideways s (ruleWidth params) (movedBy Direction.Sideways Stride.RoundedUp (terms .ruler) (font .scale) (ruleWidth params) level) in
-      did-unless (terms .ruler) s past adds (leaves (level .h +ℤ ruleWidth params)) ∙ ap leads e
+      did-unless (termsSetting terms table volume) s past adds (leaves (level .h +ℤ ruleWidth params)) ∙ ap leads e
 
   width-small : natAbs (ruleWidth params) ≤ 2 ^ 31
   width-small = omega (arith, from-small (256 ^ 4) (unsignedAt params 4 4) (unsigned-below params 4 4 (λ i h. bytes (4 + i))))
 
   pub rule-sets : (r : Asked) → RuleAsks terms level true params r
-      → Comes (terms .ruler) level font (λ s. setRule (termsSetting terms table volume) s (ruleHeight params) (ruleWidth params)) (r .turn) (r .adds) × (turnFrame (r .turn) ≡ inside)
+      → Comes (termsSetting terms table volume) level font (λ s. setRule (termsSetting terms table volume) s (ruleHeight params) (ruleWidth params)) (r .turn) (r .adds) × (turnFrame (r .turn) ≡ inside)
   rule-sets r asks = (
     record {
-      does = λ saved. ap (λ (turn : Turn). did (terms .ruler) (stateWith level saved font) turn (r .adds)) (asks .turn-is) ∙ rule-does saved (r .adds) (asks .adds-are);
+      does = λ saved. ap (λ (turn : Turn). did (termsSetting terms table volume) (stateWith level saved font) turn (r .adds)) (asks .turn-is) ∙ rule-does saved (r .adds) (asks .adds-are);
       safe = subst (Safe level) (sym (asks .turn-is)) (safe-unless Direction.Sideways level (ruleWidth params) past (λ stays. (width-small, stays)));
       words = asks .words;
     },
@@ -262,11 +262,11 @@ module _ (terms : Terms) (table : List ℕ) (volume : List Command) (level : Lev
   )
 
   pub rule-puts : (r : Asked) → RuleAsks terms level false params r
-      → Comes (terms .ruler) level font (λ s. continues s (ruleAdded (termsSetting terms table volume) s (ruleHeight params) (ruleWidth params))) (r .turn) (r .adds)
+      → Comes (termsSetting terms table volume) level font (λ s. continues s (ruleAdded (termsSetting terms table volume) s (ruleHeight params) (ruleWidth params))) (r .turn) (r .adds)
       × (turnFrame (r .turn) ≡ inside)
   rule-puts r asks = (
     record {
-      does = λ saved. ap (λ (turn : Turn). did (terms .ruler) (stateWith level saved font) turn (r .adds)) (asks .turn-is) ∙ ap (continues (stateWith level saved font)) (asks .adds-are);
+      does = λ saved. ap (λ (turn : Turn). did (termsSetting terms table volume) (stateWith level saved font) turn (r .adds)) (asks .turn-is) ∙ ap (continues (stateWith level saved font)) (asks .adds-are);
       safe = subst (Safe level) (sym (asks .turn-is)) tt;
       words = asks .words;
     },

@@ -173,9 +173,9 @@ module _ {file fonts table : List ℕ} {terms : Terms} {start : ℕ} {out₀ out
     turned-depth : depthBy (turnFrame turn) (page .depth) ≡ depthAfter (kindOfCommand c) (page .depth)
     turned-depth = ap (λ (frame : Frame). depthBy frame (page .depth)) suits ∙ frame-depth (kindOfCommand c) (page .depth)
 
-    does : did (terms .ruler) s turn (r .asked .adds) ≡ after setting s c
+    does : did setting s turn (r .asked .adds) ≡ after setting s c
     does =
-        ap (λ (t : Turn). did (terms .ruler) s t (r .asked .adds)) (sym turn-is) ∙ asks c rest stands .0 .0 .does (savedOf (page .depth) (page .stack))
+        ap (λ (t : Turn). did setting s t (r .asked .adds)) (sym turn-is) ∙ asks c rest stands .0 .0 .does (savedOf (page .depth) (page .stack))
 
   -- there are fewer records than bytes
   pub few : (counts′ : Counts) → counts′ ≡ countNoted counts (addedOf (r .asked .adds)) → counts′ .records ≤ length file
@@ -195,7 +195,7 @@ module _ {file fonts table : List ℕ} {terms : Terms} {start : ℕ} {out₀ out
 
   module _ (turn : Turn) (turn-is : r .asked .turn ≡ turn) where
     -- a command that leads to a next state
-    pub onwards : isEnding (turnFrame turn) ≡ false → (s′ : State) → did (terms .ruler) s turn (r .asked .adds) ≡ continues s′ (addedOf (r .asked .adds))
+    pub onwards : isEnding (turnFrame turn) ≡ false → (s′ : State) → did setting s turn (r .asked .adds) ≡ continues s′ (addedOf (r .asked .adds))
         → (page′ : Page) → pageState page′ ≡ s′ → page′ .depth ≡ depthBy (turnFrame turn) (page .depth) → Sound page′
         → (out′ : List ℕ) → out′ ≡ areaNoted out (counts .records) (addedOf (r .asked .adds))
         → (counts′ : Counts) → counts′ ≡ countNoted counts (addedOf (r .asked .adds))
@@ -233,7 +233,7 @@ module _ {file fonts table : List ℕ} {terms : Terms} {start : ℕ} {out₀ out
             }
 
     -- one that leads to another level only
-    pub leveled : turnFrame turn ≡ inside → (l : Level) → did (terms .ruler) s turn (r .asked .adds) ≡ continues (withNumbers s l) (addedOf (r .asked .adds))
+    pub leveled : turnFrame turn ≡ inside → (l : Level) → did setting s turn (r .asked .adds) ≡ continues (withNumbers s l) (addedOf (r .asked .adds))
         → (page′ : Page) → page′ ≡ withLevel page l → Bounded l
         → (out′ : List ℕ) → out′ ≡ areaNoted out (counts .records) (addedOf (r .asked .adds))
         → (counts′ : Counts) → counts′ ≡ countNoted counts (addedOf (r .asked .adds))

@@ -4,15 +4,17 @@ use mathlib.Core.Path.{_≡_}
 use mathlib.Core.Bool.{Bool, true, false, cond, _||_}
 use mathlib.Core.List.{List, [], _∷_, _++_}
 use lib.Dec.{leb}
-use lib.ListN.{length, take, drop}
-use lib.IntN.{ℤ, natAbs, _+ℤ_}
+use lib.ListN.{length, getD, take, drop}
+use lib.IntN.{ℤ, pos, natAbs, _+ℤ_}
 use Rattle.refusals.specs.Numbers.{positionOutOfRange}
 use Rattle.refusals.specs.Answer.{Answer, refused, given, refusal}
 use Rattle.units.specs.Steps.{Accepted}
 use Rattle.units.specs.Rounding.{roundedUp}
+use Rattle.widths.specs.declared.blocks.Block.{Block}
 use Rattle.widths.specs.Table.{checkedTable}
+use Rattle.names.specs.Names.{nameNumber, anyName}
 use Rattle.names.specs.Steps.{InEights}
-use Rattle.widths.specs.Steps.{sixteenfoldOf, SeeksFor}
+use Rattle.widths.specs.Steps.{sixteenfoldOf, BlockIs}
 use Rattle.commands.specs.declared.Kind.{Kind}
 use Rattle.commands.specs.declared.Kind.the-variants as Kind
 use Rattle.commands.specs.Kinds.{is}
@@ -32,14 +34,14 @@ use Rattle.state.specs.declared.Font.{Font}
 use Rattle.state.specs.declared.moving.Direction.{Direction}
 use Rattle.state.specs.declared.moving.Direction.the-variants as Direction
 use Rattle.state.specs.declared.moving.Stride.the-variants as Stride
-use Rattle.state.specs.declared.moving.Ruler.{Ruler}
 use Rattle.state.specs.declared.registers.Register.{Register}
 use Rattle.state.specs.declared.registers.Register.the-variants as Register
 use Rattle.state.specs.Moving.{leaves}
-use Rattle.state.specs.Registers.{State, pushed, popped, spotOf, movedBy, characterMoved, registerOf, directionOf, movedByRegister}
+use Rattle.state.specs.Registers.{State, unselected, pushed, popped, spotOf, movedBy, characterMoved, registerOf, directionOf, movedByRegister}
 use Rattle.page.specs.declared.Record.{Record}
 use Rattle.page.specs.declared.Counts.{Counts}
 use Rattle.page.specs.declared.Kept.{Kept}
+use Rattle.page.specs.declared.Seen.{Seen}
 use Rattle.page.specs.declared.Terms.{Terms}
 use Rattle.page.specs.declared.Adds.{Adds}
 use Rattle.page.specs.declared.Adds.the-variants as Adds
@@ -54,7 +56,7 @@ use Rattle.page.specs.declared.PagePlaced.the-variants as PagePlaced
 use Rattle.page.specs.Records.{placementRecordSize, recordBytes, ruleRecord}
 use Rattle.page.specs.PageList.{Located, pageOf}
 use Rattle.page.specs.Blocks.{Frame, opening, closing, ending, inside, frameOf}
-use Rattle.page.specs.Placing.{Setting, Added, nothing, placed, missing, special, Outcome, continues, leavesRange, withNumbers, fontBy, lookIn, setCharacter, putCharacter, isVisible, distanceOr, after, Contents}
+use Rattle.page.specs.Placing.{Setting, Added, nothing, placed, missing, special, Outcome, continues, leavesRange, withNumbers, fontBy, fontOf, lookIn, setCharacter, putCharacter, isVisible, distanceOr, after, Contents}
 
 -- ---- records
 
@@ -139,28 +141,28 @@ pub record Known (font : Font) : Type 0 where
   pub scale-small : font .scale ≤ 134217727
   pub name-in : InEights (font .name)
 
--- what is kept for a font: the sixteenfold of its scale, and a name by which its characters are found in the table as by its own
+-- what is kept for a font: the sixteenfold of its scale, and where the table's records of its own name and for any name stand
 pub record KeptFor (table : List ℕ) (rows : ℕ) (font : Font) (kept : Kept) : Type 0 where
   pub sixteenfold-is : kept .sixteenfold ≡ sixteenfoldOf (font .scale)
-  pub kept-in : InEights (kept .name)
-  pub seeks : SeeksFor table rows (font .checksum) (font .scale) (font .name) (kept .name)
+  pub own-is : BlockIs table rows (font .checksum) (font .scale) (nameNumber (font .name)) (kept .own)
+  pub any-is : BlockIs table rows (font .checksum) (font .scale) (nameNumber anyName) (kept .any)
 
 -- a state of these
 abbrev pub stateWith : Level → List Level → Font → State
 stateWith level saved font = record { level = level; saved = saved; font = font }
 
 -- the outcome of what the code says that a command does and adds
-abbrev pub did : Ruler → State → Turn → Adds → Outcome
-did ruler s Turn.Stay adds = continues s (addedOf adds)
-did ruler s (Turn.By direction n) adds = continues (withNumbers s (movedBy direction Stride.Rounded ruler (s .font .scale) n (s .level))) (addedOf adds)
-did ruler s (Turn.ByRegister register n) adds = continues (withNumbers s (movedByRegister register Stride.Rounded ruler (s .font .scale) n (s .level))) (addedOf adds)
-did ruler s (Turn.PastCharacter width escapement) adds = continues (withNumbers s (characterMoved ruler width escapement (s .level))) (addedOf adds)
-did ruler s (Turn.PastRule width) adds = continues (withNumbers s (movedBy Direction.Sideways Stride.RoundedUp ruler (s .font .scale) width (s .level))) (addedOf adds)
-did ruler s Turn.Push adds = continues (pushed s) (addedOf adds)
-did ruler s Turn.Pop adds = continues (popped s) (addedOf adds)
-did ruler s (Turn.Select font) adds = continues (record { level = s .level; saved = s .saved; font = font }) (addedOf adds)
-did ruler s Turn.End adds = continues s (addedOf adds)
-did ruler s Turn.Leave adds = leavesRange
+abbrev pub did : Setting → State → Turn → Adds → Outcome
+did setting s Turn.Stay adds = continues s (addedOf adds)
+did setting s (Turn.By direction n) adds = continues (withNumbers s (movedBy direction Stride.Rounded (setting .ruler) (s .font .scale) n (s .level))) (addedOf adds)
+did setting s (Turn.ByRegister register n) adds = continues (withNumbers s (movedByRegister register Stride.Rounded (setting .ruler) (s .font .scale) n (s .level))) (addedOf adds)
+did setting s (Turn.PastCharacter width escapement) adds = continues (withNumbers s (characterMoved (setting .ruler) width escapement (s .level))) (addedOf adds)
+did setting s (Turn.PastRule width) adds = continues (withNumbers s (movedBy Direction.Sideways Stride.RoundedUp (setting .ruler) (s .font .scale) width (s .level))) (addedOf adds)
+did setting s Turn.Push adds = continues (pushed s) (addedOf adds)
+did setting s Turn.Pop adds = continues (popped s) (addedOf adds)
+did setting s (Turn.Select number) adds = continues (record { level = s .level; saved = s .saved; font = fontOf setting number }) (addedOf adds)
+did setting s Turn.End adds = continues s (addedOf adds)
+did setting s Turn.Leave adds = leavesRange
 
 -- a move by n in a direction from a level stays in range
 abbrev pub Stays : Direction → Level → ℤ → Type 0
@@ -175,7 +177,7 @@ Safe now (Turn.PastCharacter width escapement) = Stays Direction.Sideways now wi
 Safe now (Turn.PastRule width) = Stays Direction.Sideways now width
 Safe now Turn.Push = Unit {0}
 Safe now Turn.Pop = Unit {0}
-Safe now (Turn.Select font) = Known font
+Safe now (Turn.Select number) = natAbs number ≤ 2 ^ 31
 Safe now Turn.End = Unit {0}
 Safe now Turn.Leave = Unit {0}
 
@@ -188,7 +190,7 @@ turnFrame (Turn.PastCharacter width escapement) = inside
 turnFrame (Turn.PastRule width) = inside
 turnFrame Turn.Push = opening
 turnFrame Turn.Pop = closing
-turnFrame (Turn.Select font) = inside
+turnFrame (Turn.Select number) = inside
 turnFrame Turn.End = ending
 turnFrame Turn.Leave = inside
 
@@ -201,8 +203,8 @@ abbrev pub termsSetting : Terms → List ℕ → List Command → Setting
 termsSetting terms table volume = record { ruler = terms .ruler; look = lookIn table (terms .rows); volume = volume; page = terms .page }
 
 -- what is asked comes to an outcome, whatever the levels that are saved
-pub record Comes (ruler : Ruler) (level : Level) (font : Font) (outcome : State → Outcome) (turn : Turn) (adds : Adds) : Type 0 where
-  pub does : (saved : List Level) → did ruler (stateWith level saved font) turn adds ≡ outcome (stateWith level saved font)
+pub record Comes (setting : Setting) (level : Level) (font : Font) (outcome : State → Outcome) (turn : Turn) (adds : Adds) : Type 0 where
+  pub does : (saved : List Level) → did setting (stateWith level saved font) turn adds ≡ outcome (stateWith level saved font)
   pub safe : Safe level turn
   pub words : AddsInWords adds
 
@@ -211,13 +213,13 @@ abbrev pub CharacterAsks : Terms → List ℕ → Level → Font → Bool → �
 CharacterAsks terms table level font sets code r =
     (volume : List Command)
     → let setting = termsSetting terms table volume in
-    Comes (terms .ruler) level font
+    Comes setting level font
     (λ s. cond sets (setCharacter setting s code (setting .look font code)) (putCharacter setting s code (setting .look font code))) (r .turn) (r .adds)
     × (turnFrame (r .turn) ≡ inside)
 
 -- what a command asks
 abbrev pub CommandAsks : Setting → Level → Font → Command → Asked → Type 0
-CommandAsks setting level font c r = Comes (setting .ruler) level font (λ s. after setting s c) (r .turn) (r .adds) × Suits (kindOfCommand c) (r .turn)
+CommandAsks setting level font c r = Comes setting level font (λ s. after setting s c) (r .turn) (r .adds) × Suits (kindOfCommand c) (r .turn)
 
 -- what a rule adds
 abbrev pub ruleBy : Terms → Level → ℤ → ℤ → Added
@@ -305,6 +307,20 @@ pub record Told (file fonts : List ℕ) (past : List Command) : Type 0 where
 -- r is the font of a number
 abbrev pub FontIs : List ℕ → List ℕ → ℤ → Font → Type 0
 FontIs file fonts number r = (past : List Command) → Told file fonts past → (r ≡ fontBy number (definitionOf false number past)) × Known r
+
+-- a number, its font, and what is kept for it
+abbrev pub SeenIs : List ℕ → List ℕ → List ℕ → ℕ → Seen → Type 0
+SeenIs file fonts table rows seen = FontIs file fonts (seen .number) (seen .font) × KeptFor table rows (seen .font) (seen .kept)
+
+-- all of it zeros
+abbrev pub zeroSeen : Seen
+zeroSeen =
+    let nowhere : Block = record { start = 0; end = 0 } in
+    record { number = pos 0; font = unselected; kept = record { sixteenfold = 0; own = nowhere; any = nowhere } }
+
+-- so in each of 64 places
+abbrev pub AllSeen : List ℕ → List ℕ → List ℕ → ℕ → List Seen → Type 0
+AllSeen file fonts table rows seen = (length seen ≡ 64) × ((place : ℕ) → place < length seen → SeenIs file fonts table rows (getD seen place zeroSeen))
 
 -- ---- the page's commands in the file
 

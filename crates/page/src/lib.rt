@@ -1,10 +1,10 @@
 // Placing one page: the records of its commands, their counts, and the output area.
-use names::Name;
 use refusals::Refusal;
 use state::Font;
 use state::moving::Direction;
 use state::moving::Ruler;
 use state::registers::Register;
+use widths::blocks::Block;
 
 pub mod fonts;
 pub mod placing;
@@ -40,11 +40,19 @@ pub struct Terms {
     pub page: u64,
 }
 
-// What a walk keeps for the current font, so that no character pays for it: sixteen times its scale, less the bits that halving loses, and the name by which its
-// characters are found
+// What a walk keeps for a font, so that no character pays for it: sixteen times its scale, less the bits that halving loses, and where the table's records of its own
+// name and for any name stand
 pub struct Kept {
     pub sixteenfold: u64,
-    pub name: Name,
+    pub own: Block,
+    pub any: Block,
+}
+
+// A font's number, the font, and what is kept for it
+pub struct Seen {
+    pub number: i64,
+    pub font: Font,
+    pub kept: Kept,
 }
 
 // What a command adds to the page
@@ -68,7 +76,8 @@ pub enum Turn {
     PastRule(i64),
     Push,
     Pop,
-    Select(Font),
+    // the font of a number
+    Select(i64),
     // eop
     End,
     // h or v would leave its range

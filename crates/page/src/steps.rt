@@ -6,7 +6,6 @@ use crate::Record;
 use crate::Step;
 use crate::Terms;
 use crate::Turn;
-use crate::fonts;
 use commands::Kind;
 use commands::Read;
 use commands::parameters;
@@ -16,10 +15,12 @@ use state::moving;
 use state::moving::Direction;
 use state::registers;
 use state::registers::Register;
+use widths::blocks;
 use widths::scaling;
 use widths::table;
 use widths::table::Place;
 ghost use mathlib.Core.Path.{_≡_};
+ghost use mathlib.Core.List.{List};
 ghost use Prim.Native.Nat.{_≤_, _<_, _^_};
 ghost use lib.ListN.{length};
 ghost use lib.IntN.{natAbs};
@@ -27,11 +28,11 @@ ghost use Rattle.refusals.specs.Answer.{given};
 ghost use Rattle.units.specs.Steps.{Accepted};
 ghost use Rattle.widths.specs.Table.{checkedTable};
 ghost use Rattle.commands.specs.Lengths.{lengths};
-ghost use Rattle.commands.specs.Commands.{Whole};
+ghost use Rattle.commands.specs.Commands.{Command, Whole};
 ghost use Rattle.volume.specs.History.{history};
 ghost use Rattle.state.specs.Steps.{Bounded};
 ghost use Rattle.page.specs.Placing.{distanceOr};
-ghost use Rattle.page.specs.Steps.{addedOf, AddsInWords, Known, KeptFor, Told, termsSetting, CharacterAsks, ruleBy, unlessLeft, plainTurn, registerTurn, turnOf, command, MoveFits, RuleAsks, CommandAsks, StepAsks};
+ghost use Rattle.page.specs.Steps.{addedOf, AddsInWords, Known, KeptFor, termsSetting, CharacterAsks, ruleBy, unlessLeft, plainTurn, registerTurn, turnOf, command, MoveFits, RuleAsks, CommandAsks, StepAsks};
 
 // Where the search for a character starts: records of one font whose codes follow each other are as far apart as their codes.
 fn guess(hint: usize, byte: u64) -> usize
@@ -64,16 +65,9 @@ fn character(
 {
     let byte = numbers::to_twos(256, code);
     let near = guess(hint, byte);
-    let name = kept.name;
-    match table::find(
-        widths,
-        terms.rows,
-        font.checksum,
-        font.scale,
-        name,
-        byte,
-        near,
-    ) {
+    let own = kept.own;
+    let any = kept.any;
+    match blocks::find(widths, terms.rows, own, any, byte, near) {
         Place::Nowhere => Asked {
             turn: Turn::Stay,
             adds: Adds::Missing,
@@ -219,9 +213,7 @@ fn rule(terms: Terms, level: Level, sets: bool, params: &[u8], hint: usize) -> A
 
 // What a command of a kind asks.
 fn asked_by(
-    file: &[u8],
     widths: &[u8],
-    fonts: &[u32; 256],
     terms: Terms,
     opcode: u8,
     params: &[u8],
@@ -230,9 +222,9 @@ fn asked_by(
     kept: Kept,
     hint: usize,
 ) -> Asked
-    requires { ⌜ Whole (command opcode (now params)) × Told (now file) (now fonts) (history (now file)) ⌝ }
+    requires { ⌜ Whole (command opcode (now params)) ⌝ }
     requires { ⌜ (checkedTable (now widths) ≡ given (terms .rows)) × Accepted (terms .ruler .k) × Known font × Bounded level × KeptFor (now widths) (terms .rows) font kept ⌝ }
-    ensures { λ r. ⌜ CommandAsks (termsSetting terms (now (widths .entry)) (history (now (file .entry)))) level font (command opcode (now (params .entry))) r ⌝ }
+    ensures { λ r. ⌜ ((volume : List Command) → CommandAsks (termsSetting terms (now (widths .entry)) volume) level font (command opcode (now (params .entry))) r) ⌝ }
 {
     let kind = commands::kind_of(opcode);
     match kind {
@@ -246,7 +238,7 @@ fn asked_by(
         Kind::Select => {
             let number = parameters::selected_font(opcode, params);
             Asked {
-                turn: Turn::Select(fonts::font_of(file, fonts, number)),
+                turn: Turn::Select(number),
                 adds: Adds::Nothing,
                 hint: hint,
             }
@@ -269,7 +261,6 @@ pub fn step_at(
     table: &[u8; 122],
     file: &[u8],
     widths: &[u8],
-    fonts: &[u32; 256],
     terms: Terms,
     at: usize,
     level: Level,
@@ -277,7 +268,6 @@ pub fn step_at(
     kept: Kept,
     hint: usize,
 ) -> Step
-    requires { ⌜ Told (now file) (now fonts) (history (now file)) ⌝ }
     requires { ⌜ (checkedTable (now widths) ≡ given (terms .rows)) × Accepted (terms .ruler .k) × Known font × Bounded level × (now table ≡ lengths) × KeptFor (now widths) (terms .rows) font kept ⌝ }
     ensures { λ r. ⌜ StepAsks (now (file .entry)) at (termsSetting terms (now (widths .entry)) (history (now (file .entry)))) level font r ⌝ }
 {
@@ -296,18 +286,7 @@ pub fn step_at(
             let next = reading.next;
             let params = &file[start..next];
             Step {
-                asked: asked_by(
-                    file,
-                    widths,
-                    fonts,
-                    terms,
-                    opcode,
-                    params,
-                    level,
-                    font,
-                    kept,
-                    hint,
-                ),
+                asked: asked_by(widths, terms, opcode, params, level, font, kept, hint),
                 next: next,
             }
         }

@@ -1,9 +1,11 @@
 // The walk over a page's commands, from the end of its bop to its eop.
 use crate::Counts;
 use crate::Kept;
+use crate::Seen;
 use crate::Terms;
 use crate::Turn;
 use crate::Walked;
+use crate::fonts;
 use crate::records;
 use crate::steps;
 use names::Name;
@@ -12,8 +14,9 @@ use state::Page;
 use state::moving::Direction;
 use state::moving::Stride;
 use state::registers;
+use widths::blocks;
+use widths::blocks::Block;
 use widths::scaling;
-use widths::table;
 ghost use mathlib.Core.Path.{_≡_};
 ghost use lib.ListN.{length};
 ghost use Rattle.refusals.specs.Answer.{given};
@@ -22,7 +25,10 @@ ghost use Rattle.volume.specs.History.{history};
 ghost use Rattle.state.specs.Registers.{freshState};
 ghost use Rattle.page.specs.PageList.{pageOf};
 ghost use Rattle.page.specs.Placing.{placing};
-ghost use Rattle.page.specs.Steps.{Known, KeptFor, Ready, termsSetting, zeroCounts, finish, endingOf, Few};
+ghost use Rattle.page.specs.Steps.{Known, KeptFor, Told, SeenIs, Ready, termsSetting, zeroCounts, finish, endingOf, Few};
+
+// How many fonts a walk remembers: as many as a file may have, each in the place of its number modulo this.
+const FONTS: u64 = 64;
 
 // The hint for the font that is selected now, in exchange for that of the font before, so that no font's search starts from nothing again.
 fn exchanged(hints: &mut [usize; 256], before: u64, after: u64, hint: usize) -> usize {
@@ -30,25 +36,46 @@ fn exchanged(hints: &mut [usize; 256], before: u64, after: u64, hint: usize) -> 
     hints[(after % 256) as usize]
 }
 
-// What is kept for a font. `starts` has for each font's number where the search for its name ended last, which is where it starts next.
-fn kept_for(widths: &[u8], rows: usize, font: Font, starts: &mut [usize; 256]) -> Kept
+// What is kept for a font.
+fn kept_for(widths: &[u8], rows: usize, font: Font) -> Kept
     requires { ⌜ (checkedTable (now widths) ≡ given rows) × Known font ⌝ }
     ensures { λ r. ⌜ KeptFor (now (widths .entry)) rows font r ⌝ }
 {
-    let slot = (font.number % 256) as usize;
-    let hint = starts[slot];
-    let own = font.name;
-    let block = table::block_of(widths, rows, font.checksum, font.scale, own, hint);
-    let name = block.name;
-    starts[slot] = block.start;
+    let name = font.name;
+    let zeros = Name { high: 0, low: 0 };
+    let own = blocks::block_of(widths, rows, font.checksum, font.scale, name);
+    let any = blocks::block_of(widths, rows, font.checksum, font.scale, zeros);
     Kept {
         sixteenfold: scaling::sixteenfold_of(font.scale),
-        name: name,
+        own: own,
+        any: any,
     }
 }
 
+// The font of a number, and what is kept for it: what was asked last, where that was of the same number. So a font is read, and sought in the table, where it is
+// selected first, and again only where another one was asked for in its place.
+fn recalled(
+    file: &[u8],
+    fonts: &[u32; 256],
+    widths: &[u8],
+    rows: usize,
+    number: i64,
+    last: Seen,
+) -> Seen
+    requires { ⌜ (checkedTable (now widths) ≡ given rows) × Told (now file) (now fonts) (history (now file)) ⌝ }
+    requires { ⌜ SeenIs (now file) (now fonts) (now widths) rows last ⌝ }
+    ensures { λ r. ⌜ SeenIs (now (file .entry)) (now (fonts .entry)) (now (widths .entry)) rows r × (r .number ≡ number) ⌝ }
+{
+    if last.number == number {
+        return last;
+    }
+    let font = fonts::font_of(file, fonts, number);
+    let kept = kept_for(widths, rows, font);
+    Seen { number, font, kept }
+}
+
 // Walks over the page whose commands start at a place, counts what they add, and writes each record that the area has room for. A font's scale is halved, and its
-// name sought in the table, where the font is selected, not at each of its characters.
+// records are sought in the table, where the font is selected first, not at each of its characters.
 pub fn walk(
     file: &[u8],
     widths: &[u8],
@@ -70,28 +97,29 @@ pub fn walk(
     };
     let mut at = start;
     let mut hint: usize = 0;
+    let nowhere = Block { start: 0, end: 0 };
     let mut kept = Kept {
         sixteenfold: 0,
-        name: Name { high: 0, low: 0 },
+        own: nowhere,
+        any: nowhere,
+    };
+    let none = Seen {
+        number: -1,
+        font: Font {
+            number: 0,
+            checksum: 0,
+            scale: 0,
+            name: Name { high: 0, low: 0 },
+        },
+        kept: kept,
     };
     let mut hints = [0usize; 256];
-    let mut starts = [0usize; 256];
+    let mut seen = [none; 64];
     let table = commands::length_table();
     loop {
         let now = page.now;
         let depth = page.depth;
-        let step = steps::step_at(
-            &table,
-            file,
-            widths,
-            fonts,
-            terms,
-            at,
-            now,
-            page.font,
-            kept,
-            hint,
-        );
+        let step = steps::step_at(&table, file, widths, terms, at, now, page.font, kept, hint);
         let asked = step.asked;
         let adds = asked.adds;
         let turn = asked.turn;
@@ -129,10 +157,15 @@ pub fn walk(
                 let last = page.stack[depth - 1];
                 page = page.pop(last);
             }
-            Turn::Select(font) => {
+            Turn::Select(number) => {
                 let before = page.font;
+                let place = (numbers::magnitude(number) % FONTS) as usize;
+                let last = seen[place];
+                let found = recalled(file, fonts, widths, terms.rows, number, last);
+                seen[place] = found;
+                let font = found.font;
                 hint = exchanged(&mut hints, before.number, font.number, hint);
-                kept = kept_for(widths, terms.rows, font, &mut starts);
+                kept = found.kept;
                 page = page.select(font);
             }
             Turn::End => return Walked::Through(counts),

@@ -229,15 +229,7 @@ pub fn look_up(table: &[u8], checksum: u32, scale: u32, name: &[u8], code: i32) 
         Table::Right(records) => {
             let byte = numbers::to_twos(256, code as i64);
             let sought = names::sought_name(name);
-            match table::find(
-                table,
-                records,
-                checksum as u64,
-                scale as u64,
-                sought,
-                byte,
-                0,
-            ) {
+            match table::seek(table, records, checksum as u64, scale as u64, sought, byte) {
                 Place::Nowhere => LookedUp::Absent,
                 Place::At(index) => {
                     let metric = table::metric_of(table, records, index);

@@ -6,5 +6,6 @@ pub mod Search
 pub mod Turns
 pub mod AsBytes
 pub mod RefusedWith
-pub mod Blocks
+pub mod SameBlocks
+pub mod BlockSearch
 pub mod Hint

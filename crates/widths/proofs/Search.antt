@@ -11,24 +11,15 @@ use Rattle.refusals.specs.Answer.{given}
 use Rattle.widths.specs.declared.table.Key.{Key}
 use Rattle.names.specs.Names.{nameSize}
 use Rattle.widths.specs.Table.{widthRecordSize, recordOf, checkedTable}
-use Rattle.widths.specs.LookUp.{LookUp, found, absent, metricOf, isFor, walkFrom, walk, orElse, lookedFor}
-use Rattle.widths.specs.Steps.{blockNumber, keyNumber, KeyIs, KeyAt, FirstNotBelow}
+use Rattle.widths.specs.LookUp.{LookUp, found, absent, metricOf, isFor, walkFrom, walk, orElse}
+use Rattle.widths.specs.Steps.{keyNumber, KeyIs, KeyAt, FirstNotBelow}
 use Rattle.numbers.proofs.Radix.{less-or-not}
-use Rattle.widths.proofs.Keys.{characterKey, block-number, key-number, key-is, for-key, key-for}
+use Rattle.widths.proofs.Keys.{characterKey, key-number, key-is, for-key, key-for}
 use Rattle.widths.proofs.TableLaws.{keys-rise}
 
 -- a number that is below another is not the same
 below-not-same : {a b : ℕ} → a < b → a ≡ b → ⊥
 below-not-same h e = omega arith
-
-below-le : {a b : ℕ} → a < b → a ≤ b
-below-le h = omega arith
-
-le-below : {a b c : ℕ} → a ≤ b → b < c → a ≤ c
-le-below h l = omega arith
-
-suc-le : {a b : ℕ} → a < suc b → a ≤ b
-suc-le h = omega arith
 
 -- nor is one that is above a number which reaches it
 past-not-same : {a b c : ℕ} → a ≤ b → b < c → c ≡ a → ⊥
@@ -94,49 +85,10 @@ module _ (table : List ℕ) (records : ℕ) (judged : checkedTable table ≡ giv
         (eq-or-lt-of-le over))
         (less-or-not j index)))
 
--- ---- a name that no record has
-
--- what is below a block's first key is not in it, nor what is past its last one
-below-block : (block byte key : ℕ) → key < block * 256 + 0 → key ≡ block * 256 + byte → ⊥
-below-block block byte key h e = omega arith
-
-past-block : (block byte key other : ℕ) → byte < 256 → block * 256 + 256 ≤ key → key ≤ other → other ≡ block * 256 + byte → ⊥
-past-block block byte key other small h more e = omega arith
-
 -- either way the same was found
 pub or-same : (l : LookUp) → orElse l l ≡ l
 or-same (found m) = refl
 or-same absent = refl
-
-module _ (table : List ℕ) (records : ℕ) (judged : checkedTable table ≡ given records) (checksum scale name : ℕ) (key : Key) (is : KeyIs checksum scale name 0 key) where
-  module _ (start : ℕ) (first : FirstNotBelow table records (keyNumber key) start) (past : start < records → blockNumber key * 256 + 256 ≤ recordOf table start .key) where
-    not-later : (j : ℕ) → start ≤ j → j < records → recordOf table start .key ≤ recordOf table j .key
-    not-later j low high =
-        ⊎-elim (λ (same : start ≡ j). subst (λ (n : ℕ). recordOf table start .key ≤ recordOf table n .key) same (omega arith))
-        (λ (under : start < j). below-le (keys-rise nameSize table records judged start j under high))
-        (eq-or-lt-of-le low)
-
-    -- the first record that is not below the first key of the name is past its last one: no record has the name
-    block-misses : (byte : ℕ) → byte < 256 → walk records table checksum scale name byte ≡ absent
-    block-misses byte small =
-        misses table checksum scale name byte records 0 (λ j low high e.
-        let e′ : recordOf table j .key ≡ blockNumber key * 256 + byte = e ∙ ap (λ (n : ℕ). n * 256 + byte) (sym (block-number is)) in
-        ⊎-elim (λ (under : j < start). below-block (blockNumber key) byte (recordOf table j .key) (subst (λ (n : ℕ). recordOf table j .key < blockNumber key * 256 + n) (is .code-is) (first .below j under)) e′)
-        (λ (over : start ≤ j). past-block (blockNumber key) byte (recordOf table start .key) (recordOf table j .key) small (past (omega arith)) (not-later j over (omega arith)) e′)
-        (less-or-not j start))
-
-    -- so its characters are found by sixteen zeros just so
-    pub seeks-any : (byte : ℕ) → byte < 256 → lookedFor records table checksum scale 0 byte ≡ lookedFor records table checksum scale name byte
-    seeks-any byte small =
-        let any = walk records table checksum scale 0 byte in
-        or-same any ∙ ap (λ (l : LookUp). orElse l any) (sym (block-misses byte small))
-
--- a record of another name that is not below the first key of this one is past its last one
-pub past-name : (block other code key : ℕ) → code < 256 → (other ≡ block → ⊥) → key ≡ other * 256 + code → block * 256 + 0 ≤ key → block * 256 + 256 ≤ key
-past-name block other code key small differ e h =
-    ⊎-elim (λ (under : other < block). omega arith)
-    (λ (over : block ≤ other). ⊎-elim (λ (same : block ≡ other). absurd (differ (sym same))) (λ (beyond : block < other). omega arith) (eq-or-lt-of-le over))
-    (less-or-not other block)
 
 -- ---- the search by halves
 
@@ -169,29 +121,6 @@ module _ (table : List ℕ) (records key : ℕ) where
           below = b .below;
           above = λ j l inside. ⊎-elim (λ (same : middle ≡ j). subst (λ (n : ℕ). key ≤ recordOf table n .key) same h) (λ (past : middle < j). omega (arith, keys-rise nameSize table records judged middle j past inside)) (eq-or-lt-of-le l);
         }
-
-  -- the first record, found by looking at it and at the one before
-  pub first-here : checkedTable table ≡ given records → (index : ℕ) → index ≤ records → ((j : ℕ) → suc j ≡ index → recordOf table j .key < key) → (index < records → key ≤ recordOf table index .key)
-      → FirstNotBelow table records key index
-  first-here judged index bound before here =
-      record {
-        bound = bound;
-        below = λ j under. earlier index bound before j under;
-        above = λ j over inside. later j over inside;
-      }
-    where
-      earlier : (index : ℕ) → index ≤ records → ((j : ℕ) → suc j ≡ index → recordOf table j .key < key) → (j : ℕ) → j < index → recordOf table j .key < key
-      earlier zero bound before j under = absurd (omega arith)
-      earlier (suc last) bound before j under =
-          ⊎-elim (λ (same : j ≡ last). subst (λ (n : ℕ). recordOf table n .key < key) (sym same) (before last refl))
-          (λ (less : j < last). lt-trans (keys-rise nameSize table records judged j last less (omega arith)) (before last refl))
-          (eq-or-lt-of-le (suc-le under))
-
-      later : (j : ℕ) → index ≤ j → j < records → key ≤ recordOf table j .key
-      later j over inside =
-          ⊎-elim (λ (same : index ≡ j). subst (λ (n : ℕ). key ≤ recordOf table n .key) same (here (omega arith)))
-          (λ (past : index < j). le-below (here (omega arith)) (keys-rise nameSize table records judged index j past inside))
-          (eq-or-lt-of-le over)
 
   pub search-ends : (low high : ℕ) → Between low high → high ≤ low → FirstNotBelow table records key low
   search-ends low high b h =

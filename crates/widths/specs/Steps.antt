@@ -3,14 +3,14 @@ use Prim.Native.Nat.{ℕ, suc, _+_, _*_, _/_, _^_, _≤_, _<_}
 use mathlib.Core.Path.{_≡_}
 use mathlib.Core.Bool.{Bool, true, cond, not, _&&_}
 use mathlib.Core.List.{List}
-use lib.Dec.{ltb, eqb}
+use lib.Dec.{ltb, leb, eqb}
 use lib.ListN.{length}
 use lib.IntN.{ℤ, pos, _-ℤ_}
 use Rattle.refusals.specs.Numbers.{wrongWidthTable}
 use Rattle.refusals.specs.Answer.{Answer, refused, given}
-use Rattle.names.specs.declared.Name.{Name}
-use Rattle.names.specs.Names.{nameSize, nameThenZeros, nameNumber}
+use Rattle.names.specs.Names.{nameSize, nameThenZeros, nameNumber, anyName}
 use Rattle.widths.specs.declared.FixWord.{FixWord}
+use Rattle.widths.specs.declared.blocks.Block.{Block}
 use Rattle.widths.specs.declared.table.Key.{Key}
 use Rattle.widths.specs.declared.table.Table.{Table}
 use Rattle.widths.specs.declared.table.Table.the-variants.{Right, Wrong}
@@ -116,7 +116,35 @@ pub record FirstNotBelow (table : List ℕ) (records key index : ℕ) : Type 0 w
   pub below : (j : ℕ) → j < index → recordOf table j .key < key
   pub above : (j : ℕ) → index ≤ j → j < records → key ≤ recordOf table j .key
 
--- characters of a font that seeks a name are found by another one just so
-abbrev pub SeeksFor : List ℕ → ℕ → ℕ → ℕ → Name → Name → Type 0
-SeeksFor table records checksum scale name other =
-    (byte : ℕ) → byte < 256 → lookedFor records table checksum scale (nameNumber other) byte ≡ lookedFor records table checksum scale (nameNumber name) byte
+-- ---- the records of one check sum, scale and name
+
+-- they stand from the first record whose key is not below that of their code 0 to the first whose key is past all their codes
+pub record BlockIs (table : List ℕ) (records checksum scale name : ℕ) (block : Block) : Type 0 where
+  pub key : Key
+  pub key-is : KeyIs checksum scale name 0 key
+  pub starts : FirstNotBelow table records (keyNumber key) (block .start)
+  pub ends : FirstNotBelow table records (keyNumber (withCode key 256)) (block .end)
+
+-- a block lies within so many records
+abbrev pub Within : ℕ → Block → Type 0
+Within records block = (block .start ≤ block .end) × (block .end ≤ records)
+
+-- an index is that of a record in a block with a code
+abbrev pub hasCode : List ℕ → Block → ℕ → ℕ → Bool
+hasCode table block byte index = leb (block .start) index && (ltb index (block .end) && eqb (recordOf table index .code) byte)
+
+-- the first record that is not below a code's key, whatever check sum, scale and name a block is that of
+abbrev pub FirstCode : List ℕ → ℕ → Block → ℕ → ℕ → Type 0
+FirstCode table records block byte index =
+    (checksum scale name : ℕ) (is : BlockIs table records checksum scale name block) → FirstNotBelow table records (keyNumber (withCode (is .key) byte)) index
+
+-- the search in a block found what the walk finds for its check sum, scale and name
+abbrev pub CodeFound : List ℕ → ℕ → Block → ℕ → Place → Type 0
+CodeFound table records block byte r =
+    (checksum scale name : ℕ) → BlockIs table records checksum scale name block → foundAt table r ≡ walk records table checksum scale name byte
+
+-- the search by the records of a name and those for any name found what is found for a character of the font
+abbrev pub FoundIn : List ℕ → ℕ → Block → Block → ℕ → Place → Type 0
+FoundIn table records own any byte r =
+    (checksum scale name : ℕ) → BlockIs table records checksum scale name own → BlockIs table records checksum scale (nameNumber anyName) any
+    → foundAt table r ≡ lookedFor records table checksum scale name byte

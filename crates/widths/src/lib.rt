@@ -1,4 +1,5 @@
 // Widths: scaling as TeX scales, the width table, and looking up a character.
+pub mod blocks;
 pub mod scaling;
 pub mod table;
 

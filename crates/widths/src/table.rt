@@ -13,12 +13,14 @@ ghost use Rattle.names.specs.Names.{nameNumber};
 ghost use Rattle.names.specs.Steps.{InEights};
 ghost use Rattle.widths.specs.Table.{recordAt, recordOf, checkedTable};
 ghost use Rattle.widths.specs.LookUp.{metricOf, lookedFor};
-ghost use Rattle.widths.specs.Steps.{blockNumber, keyNumber, InKey, KeyIs, KeyAt, reaches, LeastKey, Judging, withCode, lawfulBlock, lawfulRest, tableSays, foundAt, KeyFound, Among, FirstNotBelow, SeeksFor};
+ghost use Rattle.widths.specs.Steps.{blockNumber, keyNumber, InKey, KeyIs, KeyAt, reaches, LeastKey, Judging, withCode, lawfulBlock, lawfulRest, tableSays, foundAt, KeyFound, Among, FirstNotBelow};
 
-// The layout of a width record: where the name and the fields after it start, and the size.
+// The layout of a width record: where the scale, the name and the fields after it start, and the size.
+const SCALE_AT: usize = 4;
+
 const NAME_AT: usize = 8;
 
-const CODE_AT: usize = NAME_AT + names::NAME_SIZE;
+pub const CODE_AT: usize = NAME_AT + names::NAME_SIZE;
 
 const ZERO_AT: usize = CODE_AT + 1;
 
@@ -57,14 +59,8 @@ pub enum Place {
     Nowhere,
 }
 
-// The name by which a font's characters are sought in a table, and where its records start there
-pub struct Block {
-    pub name: Name,
-    pub start: usize,
-}
-
 // The key of a check sum, a scale, a name and a code.
-fn key_of(checksum: u64, scale: u64, name: Name, code: u64) -> Key
+pub fn key_of(checksum: u64, scale: u64, name: Name, code: u64) -> Key
     requires { ⌜ (checksum < 2 ^ 32) × (scale < 2 ^ 32) × InEights name × (code < 256) ⌝ }
     ensures { λ r. ⌜ KeyIs checksum scale (nameNumber name) code r ⌝ }
 {
@@ -76,16 +72,18 @@ fn key_of(checksum: u64, scale: u64, name: Name, code: u64) -> Key
     }
 }
 
-// The key of the record at a place. Check sum and scale are read as one number because that is one load.
+// The key of the record at a place. Check sum and scale are joined from two numbers of four bytes: the compiler makes that one load of eight, where a number
+// of eight bytes read at once is too deep for it in the check's loop.
 fn key_at(table: &[u8], at: usize) -> Key
     requires { ⌜ at + 32 ≤ length (now table) ⌝ }
     ensures { λ r. ⌜ KeyAt (now (table .entry)) at r ⌝ }
 {
-    let head = numbers::unsigned_at(table, at, NAME_AT);
+    let checksum = numbers::unsigned_at(table, at, SCALE_AT);
+    let scale = numbers::unsigned_at(table, at + SCALE_AT, 4);
     let name = names::name_at(table, at + NAME_AT);
     let code = numbers::wide(table[at + CODE_AT]);
     Key {
-        head: head,
+        head: checksum * SCALE_SPAN + scale,
         high: name.high,
         low: name.low,
         code: code,
@@ -232,7 +230,7 @@ pub fn check_table(table: &[u8]) -> Table
 }
 
 // The first of the records whose key is not below a key, by binary search over a table that was judged right.
-fn first_not_below(table: &[u8], records: usize, key: Key) -> usize
+pub fn first_not_below(table: &[u8], records: usize, key: Key) -> usize
     requires { ⌜ checkedTable (now table) ≡ given records ⌝ }
     requires { ⌜ InKey key ⌝ }
     ensures { λ r. ⌜ FirstNotBelow (now (table .entry)) records (keyNumber key) r ⌝ }
@@ -248,48 +246,6 @@ fn first_not_below(table: &[u8], records: usize, key: Key) -> usize
         }
     }
     low
-}
-
-// Whether the record of an index, where there is one, has a key that is not below a key.
-fn reached(table: &[u8], records: usize, key: Key, index: usize) -> bool
-    requires { ⌜ checkedTable (now table) ≡ given records ⌝ }
-    requires { ⌜ (index ≤ records) × InKey key ⌝ }
-    ensures { λ r. ⌜ (r ≡ true → index < records → keyNumber key ≤ recordOf (now (table .entry)) index .key) ⌝ }
-{
-    if index == records {
-        return true;
-    }
-    !below(key_at(table, index * RECORD_SIZE), key)
-}
-
-// Whether an index is that of the first record whose key is not below a key: the one before it is below, and its own is not.
-fn is_first(table: &[u8], records: usize, key: Key, index: usize) -> bool
-    requires { ⌜ checkedTable (now table) ≡ given records ⌝ }
-    requires { ⌜ (index ≤ records) × InKey key ⌝ }
-    ensures { λ r. ⌜ (r ≡ true → FirstNotBelow (now (table .entry)) records (keyNumber key) index) ⌝ }
-{
-    if index == 0 {
-        return reached(table, records, key, index);
-    }
-    let before = index - 1;
-    if !below(key_at(table, before * RECORD_SIZE), key) {
-        return false;
-    }
-    reached(table, records, key, index)
-}
-
-// The same first record, trying one index before the search: any hint gives the same answer.
-fn first_near(table: &[u8], records: usize, key: Key, hint: usize) -> usize
-    requires { ⌜ checkedTable (now table) ≡ given records ⌝ }
-    requires { ⌜ InKey key ⌝ }
-    ensures { λ r. ⌜ FirstNotBelow (now (table .entry)) records (keyNumber key) r ⌝ }
-{
-    if hint <= records {
-        if is_first(table, records, key, hint) {
-            return hint;
-        }
-    }
-    first_not_below(table, records, key)
 }
 
 // The record with a key, by search.
@@ -308,7 +264,7 @@ fn find_key(table: &[u8], records: usize, key: Key) -> Place
 }
 
 // A character's record in a table that was judged right, by search: that of the name that is sought, or else that of any name.
-fn seek(table: &[u8], records: usize, checksum: u64, scale: u64, name: Name, byte: u64) -> Place
+pub fn seek(table: &[u8], records: usize, checksum: u64, scale: u64, name: Name, byte: u64) -> Place
     requires { ⌜ checkedTable (now table) ≡ given records ⌝ }
     requires { ⌜ (checksum < 2 ^ 32) × (scale < 2 ^ 32) × InEights name × (byte < 256) ⌝ }
     ensures { λ r. ⌜ (foundAt (now (table .entry)) r ≡ lookedFor records (now (table .entry)) checksum scale (nameNumber name) byte) × Among records r ⌝ }
@@ -322,58 +278,6 @@ fn seek(table: &[u8], records: usize, checksum: u64, scale: u64, name: Name, byt
             }
             find_key(table, records, key_of(checksum, scale, any, byte))
         }
-    }
-}
-
-// The same, trying one record first: any hint gives the same answer, and a good one, which has the name that is sought, spares the search.
-pub fn find(
-    table: &[u8],
-    records: usize,
-    checksum: u64,
-    scale: u64,
-    name: Name,
-    byte: u64,
-    hint: usize,
-) -> Place
-    requires { ⌜ checkedTable (now table) ≡ given records ⌝ }
-    requires { ⌜ (checksum < 2 ^ 32) × (scale < 2 ^ 32) × InEights name × (byte < 256) ⌝ }
-    ensures { λ r. ⌜ (foundAt (now (table .entry)) r ≡ lookedFor records (now (table .entry)) checksum scale (nameNumber name) byte) × Among records r ⌝ }
-{
-    if hint < records {
-        if same(
-            key_at(table, hint * RECORD_SIZE),
-            key_of(checksum, scale, name, byte),
-        ) {
-            return Place::At(hint);
-        }
-    }
-    seek(table, records, checksum, scale, name, byte)
-}
-
-// The name by which a font's characters are found: its own where the table has a record of it, else sixteen zeros, so that a font which the table does not name is
-// sought once a character and not twice. The index that is tried first does not matter; the one where the font's records start spares the search.
-pub fn block_of(
-    table: &[u8],
-    records: usize,
-    checksum: u64,
-    scale: u64,
-    name: Name,
-    hint: usize,
-) -> Block
-    requires { ⌜ checkedTable (now table) ≡ given records ⌝ }
-    requires { ⌜ (checksum < 2 ^ 32) × (scale < 2 ^ 32) × InEights name ⌝ }
-    ensures { λ r. ⌜ InEights (r .name) × SeeksFor (now (table .entry)) records checksum scale name (r .name) ⌝ }
-{
-    let key = key_of(checksum, scale, name, 0);
-    let start = first_near(table, records, key, hint);
-    if start < records {
-        if same_block(key_at(table, start * RECORD_SIZE), key) {
-            return Block { name, start };
-        }
-    }
-    Block {
-        name: Name { high: 0, low: 0 },
-        start: start,
     }
 }
 

@@ -50,8 +50,8 @@ byte-is c =
 sought-name-requires : tie.Need-sought-name-requires
 sought-name-requires c κs = search needs
 
-find-requires : tie.Need-find-requires
-find-requires c κs =
+seek-requires : tie.Need-seek-requires
+seek-requires c κs =
     let s = c .before .before .before .before .before .before .before .before in
     (judged (c .before .before), (omega (arith, s .fits .checksum .fits), omega (arith, s .fits .scale .fits), c .sought-name .ensures .1, omega (arith, byte-is (c .before), to-below 256 (s .args .code) (omega arith))))
 
@@ -64,19 +64,19 @@ enum-known-index c = search needs
 metric-of-requires : tie.Need-metric-of-requires
 metric-of-requires c κs =
     let f = c .before .before .before in
-    (judged (f .before .before .before), subst (Among (f .before .before .before .before .records .given .0 .0)) (c .before .index .given .1) (f .find .ensures .1))
+    (judged (f .before .before .before), subst (Among (f .before .before .before .before .records .given .0 .0)) (c .before .index .given .1) (f .seek .ensures .1))
 
 -- the search found what is found for the code's byte by the name that is sought
-found-is : (c : tie.After-find) → let a = c .before .before .before .before .before .before .before .before .before .args in
-    foundAt (now (a .table)) (c .find .result) ≡ lookedFor (c .before .before .before .before .records .given .0 .0) (now (a .table)) (a .checksum) (a .scale) (nameNumber (soughtName (now (a .name)))) (codeByte (a .code))
+found-is : (c : tie.After-seek) → let a = c .before .before .before .before .before .before .before .before .before .args in
+    foundAt (now (a .table)) (c .seek .result) ≡ lookedFor (c .before .before .before .before .records .given .0 .0) (now (a .table)) (a .checksum) (a .scale) (nameNumber (soughtName (now (a .name)))) (codeByte (a .code))
 found-is c =
     let a = c .before .before .before .before .before .before .before .before .before .args in
     let looked : Name → ℕ → LookUp = λ name byte. lookedFor (c .before .before .before .before .records .given .0 .0) (now (a .table)) (a .checksum) (a .scale) (nameNumber name) byte in
-    c .find .ensures .0 ∙ ap₂ looked (c .before .sought-name .ensures .0) (byte-is (c .before .before))
+    c .seek .ensures .0 ∙ ap₂ looked (c .before .sought-name .ensures .0) (byte-is (c .before .before))
 
 -- what is looked up stands at the place that the search found
-looked-is : (c : tie.After-find) → let a = c .before .before .before .before .before .before .before .before .before .args in
-    lookedUp (now (a .table)) (a .checksum) (a .scale) (now (a .name)) (a .code) ≡ given (foundAt (now (a .table)) (c .find .result))
+looked-is : (c : tie.After-seek) → let a = c .before .before .before .before .before .before .before .before .before .args in
+    lookedUp (now (a .table)) (a .checksum) (a .scale) (now (a .name)) (a .code) ≡ given (foundAt (now (a .table)) (c .seek .result))
 looked-is c = rw (judged (c .before .before .before), found-is c)
 
 returns : tie.Need-returns
@@ -95,7 +95,7 @@ returns-3 c =
     let a = c .before .before .before .before .before .before .before .before .before .before .before .before .before .before .before .args in
     let m = c .before .before .metric-of .result in
     let e : toZ w64 (ofZ w64 (m .escapement)) ≡ m .escapement = search needs in
-    let place : foundAt (now (a .table)) (c .before .before .before .before .before .before .find .result) ≡ found m =
+    let place : foundAt (now (a .table)) (c .before .before .before .before .before .before .seek .result) ≡ found m =
     ap (foundAt (now (a .table))) (c .before .before .before .before .index .given .1) ∙ ap found (sym (c .before .before .metric-of .ensures)) in
     ap (λ (z : ℤ). given (found (record { escapement = z; width = m .width }))) e
     ∙ ap given (sym place) ∙ sym (looked-is (c .before .before .before .before .before .before))
@@ -110,7 +110,7 @@ look-up-spec =
     cast-to-twos
     to-twos-requires
     sought-name-requires
-    find-requires
+    seek-requires
     enum-told
     enum-known-index
     metric-of-requires

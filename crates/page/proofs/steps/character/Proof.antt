@@ -18,6 +18,7 @@ use Rattle.names.specs.Names.{nameSize, nameNumber}
 use Rattle.widths.specs.LookUp.{found, codeByte, lookedFor}
 use Rattle.widths.specs.Steps.{widthFrom, foundAt, Among}
 use Rattle.widths.proofs.OneDivision.{one-division, sixteenfold-small}
+use Rattle.widths.proofs.BlockSearch.{in-order}
 use Rattle.widths.proofs.TableLaws.{record-inside}
 use Rattle.state.specs.declared.moving.Direction.the-variants as Direction
 use Rattle.page.specs.declared.Turn.{Turn}
@@ -45,9 +46,9 @@ guess-requires c κs = byte-below c
 
 find-requires : tie.Need-find-requires
 find-requires c κs =
-    let s = c .before .before .before .before in
-    let known = s .pre .0 .1 in
-    (s .pre .0 .0, (known .checksum-small, omega (arith, known .scale-small), s .pre .1 .2 .kept-in, byte-below (c .before .before)))
+    let s = c .before .before .before .before .before in
+    let kept = s .pre .1 .2 in
+    (s .pre .0 .0, in-order (kept .own-is), in-order (kept .any-is), byte-below (c .before .before .before))
 
 enum-told : tie.Need-enum-told
 enum-told c = search needs
@@ -56,23 +57,24 @@ enum-known-index : tie.Need-enum-known-index
 enum-known-index c = search needs
 
 -- the search found what is found for the code's byte by the name that the font seeks
-looked-is : (c : tie.After-find) → let a = c .before .before .before .before .before .args in
+looked-is : (c : tie.After-find) → let a = c .before .before .before .before .before .before .args in
     foundAt (now (a .widths)) (c .find .result) ≡ lookIn (now (a .widths)) (a .terms .rows) (a .font) (a .code)
 looked-is c =
-    let s = c .before .before .before .before .before in
+    let s = c .before .before .before .before .before .before in
     let a = s .args in
-    c .find .ensures .0 ∙ s .pre .1 .2 .seeks _ (byte-below (c .before .before .before))
-    ∙ ap (λ (byte : ℕ). lookedFor (a .terms .rows) (now (a .widths)) (a .font .checksum) (a .font .scale) (nameNumber (a .font .name)) byte) (byte-is (c .before .before .before))
+    let kept = s .pre .1 .2 in
+    c .find .ensures .0 (a .font .checksum) (a .font .scale) (nameNumber (a .font .name)) (kept .own-is) (kept .any-is)
+    ∙ ap (λ (byte : ℕ). lookedFor (a .terms .rows) (now (a .widths)) (a .font .checksum) (a .font .scale) (nameNumber (a .font .name)) byte) (byte-is (c .before .before .before .before))
 
-index-below : (c : tie.After-index) → c .index .given .0 .0 < c .before .before .before .before .before .before .before .args .terms .rows
-index-below c = subst (Among (c .before .before .before .before .before .before .before .args .terms .rows)) (c .index .given .1) (c .before .before .find .ensures .1)
+index-below : (c : tie.After-index) → c .index .given .0 .0 < c .before .before .before .before .before .before .before .before .args .terms .rows
+index-below c = subst (Among (c .before .before .before .before .before .before .before .before .args .terms .rows)) (c .index .given .1) (c .before .before .find .ensures .1)
 
 metric-of-requires : tie.Need-metric-of-requires
-metric-of-requires c κs = (c .before .before .before .before .before .before .before .before .pre .0 .0, index-below (c .before))
+metric-of-requires c κs = (c .before .before .before .before .before .before .before .before .before .pre .0 .0, index-below (c .before))
 
 -- where a character whose record was found began
 abbrev start : tie.After-metric-of → tie.Start
-start c = c .before .before .before .before .before .before .before .before .before
+start c = c .before .before .before .before .before .before .before .before .before .before
 
 add-hint : tie.Need-add-hint
 add-hint c =
@@ -81,7 +83,7 @@ add-hint c =
     omega (arith, s .good .0, record-inside nameSize (now (s .args .widths)) (s .args .terms .rows) (s .pre .0 .0) (k .index .given .0 .0) (index-below k))
 
 sub-hint : tie.Need-sub-hint
-sub-hint c = omega (arith, byte-below (c .before .before .before .before .before .before .before .before .before))
+sub-hint c = omega (arith, byte-below (c .before .before .before .before .before .before .before .before .before .before))
 
 -- the walk finds the metric that was read
 found-is : (c : tie.After-metric-of) → let a = start c .args in
@@ -96,7 +98,7 @@ hit c =
     looked-found (now (a .widths)) (a .font .checksum) (a .font .scale) (nameNumber (a .font .name)) (codeByte (a .code)) (c .metric-of .result) (a .terms .rows) (found-is c)
 
 bytes : (c : tie.After-metric-of) (i : ℕ) → getD (now (start c .args .widths)) i 0 < 256
-bytes c i = c .before .before .before .before .before .before .before .before .shared-slice-known .given i .fits
+bytes c i = c .before .before .before .before .before .before .before .before .before .shared-slice-known .given i .fits
 
 present : (c : tie.After-metric-of) → let a = start c .args in
     Present (a .terms) (now (a .widths)) (a .level) (a .font) (a .code) (c .metric-of .result)
@@ -139,7 +141,7 @@ set c = not-false (start (c .before .before .before) .args .sets) (c .if1 .left)
 returns-2 : tie.Need-returns-2
 returns-2 c =
     let f = c .before .before in
-    let s = f .before .before .before .before .before in
+    let s = f .before .before .before .before .before .before in
     absent-asks (s .args .terms) (now (s .args .widths)) (s .args .level) (s .args .font) (s .args .sets) (s .args .code)
     (sym (looked-is f) ∙ ap (foundAt (now (s .args .widths))) (c .enum-told .given .1))
 

@@ -16,7 +16,7 @@ use Rattle.page.proofs.steps.step_at.Statement.{statement}
 use Rattle.page.proofs.steps.step_at.Tie as tie
 
 read-by-requires : tie.Need-read-by-requires
-read-by-requires c κs = c .before .before .pre .1 .4
+read-by-requires c κs = c .before .before .pre .4
 
 enum-told : tie.Need-enum-told
 enum-told c = search needs
@@ -43,7 +43,7 @@ part-params-end c = omega (arith, read c .inside)
 asked-by-requires : tie.Need-asked-by-requires
 asked-by-requires c κs =
     let s = c .before .before .before .before .before .before .before in
-    ((read (c .before) .good, s .pre .0), (s .pre .1 .0, s .pre .1 .1, s .pre .1 .2, s .pre .1 .3, s .pre .1 .5))
+    (read (c .before) .good, (s .pre .0, s .pre .1, s .pre .2, s .pre .3, s .pre .5))
 
 -- where a command stands, it is read
 returns : tie.Need-returns
@@ -60,7 +60,7 @@ returns-2 c command rest stands =
     let file = now (s .args .file) in
     let same : commandAt file r ≡ command =
     (let e : whole (commandAt file r) (drop (r .next) file) ≡ whole command rest = sym (read k .ahead) ∙ stands in cc) in (
-      subst (λ (read-command : Command). CommandAsks (termsSetting (s .args .terms) (now (s .args .widths)) (history file)) (s .args .level) (s .args .font) read-command (c .asked-by .result)) same (c .asked-by .ensures),
+      subst (λ (read-command : Command). CommandAsks (termsSetting (s .args .terms) (now (s .args .widths)) (history file)) (s .args .level) (s .args .font) read-command (c .asked-by .result)) same (c .asked-by .ensures (history file)),
       subst (λ (read-command : Command). r .next ≡ s .args .at + (1 + length (read-command .params))) same (omega (arith, read k .nexts, read k .starts)),
     )
 

@@ -1,7 +1,8 @@
 -- `page::walking::walk` meets its contract: each turn keeps what is still to come, and the page's end leaves nothing. Assumes nothing.
 use mathlib.Core.Path.{_≡_, refl, sym, ap, ap₂, _∙_, subst}
 use mathlib.Core.Bool.{false}
-use Prim.Native.Nat.{ℕ, _-_, _<_, _≤_}
+use mathlib.Core.List.{List}
+use Prim.Native.Nat.{ℕ, _-_, _%_, _<_, _≤_}
 use native.Mathlib.Omega.{arith}
 use borrow.Author.Needs.{needs}
 use lib.ListN.{length, getD, set, length-set}
@@ -9,8 +10,6 @@ use lib.IntN.{ℤ}
 use denote.Ref.{now}
 use mir.Syntax.{w64}
 use mir.Val.{toZ, ofZ}
-use Rattle.names.specs.Names.{anyName}
-use Rattle.widths.proofs.OneDivision.{sixteenfold-none}
 use Rattle.volume.specs.History.{history}
 use Rattle.state.specs.declared.Level.{Level}
 use Rattle.state.specs.declared.Font.{Font}
@@ -20,28 +19,31 @@ use Rattle.state.specs.declared.moving.Direction.the-variants as Direction
 use Rattle.state.specs.declared.moving.Stride.{Stride}
 use Rattle.state.specs.declared.moving.Stride.the-variants as Stride
 use Rattle.state.specs.declared.moving.Ruler.{Ruler}
-use Rattle.state.specs.Registers.{State, unselected, zeroLevel, pushed, popped, movedBy, characterMoved, directionOf, movedByRegister}
+use Rattle.state.specs.Registers.{State, zeroLevel, pushed, popped, movedBy, characterMoved, directionOf, movedByRegister}
 use Rattle.state.specs.Steps.{pageState, savedOf, withLevel, Ruled, Bounded}
 use Rattle.state.proofs.Levels.{bounded-moved, bounded-by-register, bounded-character, stored}
 use Rattle.page.specs.declared.Turn.{Turn}
 use Rattle.page.specs.declared.Turn.the-variants as Turn
 use Rattle.page.specs.declared.Step.{Step}
-use Rattle.page.specs.Placing.{continues, withNumbers}
+use Rattle.page.specs.Placing.{Setting, continues, withNumbers, fontOf}
 use Rattle.page.specs.Blocks.{inside}
 use Rattle.page.specs.declared.Kept.{Kept}
-use Rattle.page.specs.Steps.{addedOf, did, termsSetting, Known, KeptFor, StepAsks, Stays, Safe, turnFrame}
+use Rattle.page.specs.declared.Seen.{Seen}
+use Rattle.page.specs.Steps.{addedOf, did, termsSetting, Known, KeptFor, zeroSeen, AllSeen, StepAsks, Stays, Safe, turnFrame}
 use Rattle.page.proofs.Frames.{isEnding, depthBy}
 use Rattle.page.proofs.PageRuns.{runs-inside}
+use Rattle.page.proofs.Remembered.{none-kept, nothing-seen, seen-stored}
 use Rattle.page.proofs.WalkLaws.{Sound, state-sound, popped-bounded, popped-font, Walking, starting, advances, few, in-ranges, onwards, leveled, push-room, pop-room, ended, left}
 use Rattle.page.proofs.Words.{word, small-word}
 use Rattle.page.proofs.walking.walk.Statement.{statement}
 use Rattle.page.proofs.walking.walk.Tie as tie
 
 abbrev Inv-loop : tie.InvT-loop
-Inv-loop file widths fonts terms start out₀ ruler page₀ counts₀ at₀ hint₀ kept₀ hints₀ starts₀ table out page counts at hint kept hints starts = Walking file fonts widths terms start out₀ out page counts at × KeptFor widths (terms .rows) (page .font) kept
+Inv-loop file widths fonts terms start out₀ ruler page₀ counts₀ at₀ hint₀ kept₀ hints₀ seen₀ table out page counts at hint kept hints seen =
+    Walking file fonts widths terms start out₀ out page counts at × KeptFor widths (terms .rows) (page .font) kept × AllSeen file fonts widths (terms .rows) seen
 
 abbrev μ-loop : tie.MeasureT-loop
-μ-loop file widths fonts terms start out₀ ruler page₀ counts₀ at₀ hint₀ kept₀ hints₀ starts₀ table out page counts at hint kept hints starts = length file - at
+μ-loop file widths fonts terms start out₀ ruler page₀ counts₀ at₀ hint₀ kept₀ hints₀ seen₀ table out page counts at hint kept hints seen = length file - at
 
 fresh-requires : tie.Need-fresh-requires Inv-loop μ-loop
 fresh-requires c κs = tt
@@ -53,17 +55,17 @@ loop-holds : tie.Need-loop-holds Inv-loop μ-loop
 loop-holds c =
     let s = c .before .before .before .before .before .before in
     let fresh = c .before .fresh in
-    let nothing : KeptFor (now (s .args .widths)) (s .args .terms .rows) unselected (record { sixteenfold = 0; name = anyName }) =
-    record { sixteenfold-is = sym sixteenfold-none; kept-in = (omega arith, omega arith); seeks = λ byte small. refl } in (
+    let right = s .pre .right in (
       starting (s .pre) (now (s .args .out)) (fresh .result) (fresh .ensures .0) (fresh .ensures .1) (fresh .ensures .2),
-      subst (λ (x : State). KeptFor (now (s .args .widths)) (s .args .terms .rows) (x .font) (record { sixteenfold = 0; name = anyName })) (sym (fresh .ensures .0)) nothing,
+      subst (λ (x : State). KeptFor (now (s .args .widths)) (s .args .terms .rows) (x .font) (zeroSeen .kept)) (sym (fresh .ensures .0)) (none-kept right),
+      nothing-seen (now (s .args .file)) (now (s .args .fonts)) (now (s .args .widths)) (s .args .terms .rows) right,
     )
 
 step-at-requires : tie.Need-step-at-requires Inv-loop μ-loop
 step-at-requires c κs =
     let head = c .before .before .before in
     let w = head .loop .inv .0 in
-    (w .ready .told, (w .ready .right, w .ready .unit, w .sound .known, w .sound .bounded, head .before .length-table .ensures, head .loop .inv .1))
+    (w .ready .right, w .ready .unit, w .sound .known, w .sound .bounded, head .before .length-table .ensures, head .loop .inv .1)
 
 -- what holds as a command has been read
 module _ (c : tie.After-step-at Inv-loop μ-loop) where
@@ -110,9 +112,16 @@ module _ (n : tie.After-note Inv-loop μ-loop) where
   abbrev KeptBy : Font → Kept → Type 0
   KeptBy font keeps = KeptFor (now (entry read .args .widths)) (entry read .args .terms .rows) font keeps
 
-  -- the next turn starts from this page, and with what is kept for its font
-  abbrev Next : Page → Kept → Type 0
-  Next page keeps = Walking (now (entry read .args .file)) (now (entry read .args .fonts)) (now (entry read .args .widths)) (entry read .args .terms) (entry read .args .start) (now (entry read .args .out)) (n .note .last .0) page (n .note .result) (step read .next) × KeptBy (page .font) keeps
+  abbrev setting : Setting
+  setting = termsSetting (entry read .args .terms) (now (entry read .args .widths)) (history (now (entry read .args .file)))
+
+  -- what is remembered
+  abbrev Remembers : List Seen → Type 0
+  Remembers seen = AllSeen (now (entry read .args .file)) (now (entry read .args .fonts)) (now (entry read .args .widths)) (entry read .args .terms .rows) seen
+
+  -- the next turn starts from this page, and with what is kept for its font and remembered
+  abbrev Next : Page → Kept → List Seen → Type 0
+  Next page keeps seen = Walking (now (entry read .args .file)) (now (entry read .args .fonts)) (now (entry read .args .widths)) (entry read .args .terms) (entry read .args .start) (now (entry read .args .out)) (n .note .last .0) page (n .note .result) (step read .next) × KeptBy (page .font) keeps × Remembers seen
 
   abbrev before : Page
   before = head read .loop .page
@@ -129,26 +138,34 @@ module _ (n : tie.After-note Inv-loop μ-loop) where
   kept-for : KeptBy (before .font) keeps
   kept-for = head read .loop .inv .1
 
+  abbrev memory : List Seen
+  memory = head read .loop .seen
+
+  remembers : Remembers memory
+  remembers = head read .loop .inv .2
+
   bounded : Bounded (before .now)
   bounded = here read .sound .bounded
 
   -- to another level only
   to-level : (turn : Turn) → step read .asked .turn ≡ turn → turnFrame turn ≡ inside → (l : Level)
-      → did ruler (pageState before) turn (step read .asked .adds) ≡ continues (withNumbers (pageState before) l) (addedOf (step read .asked .adds))
-      → (page : Page) → page ≡ withLevel before l → Bounded l → Next page keeps
+      → did setting (pageState before) turn (step read .asked .adds) ≡ continues (withNumbers (pageState before) l) (addedOf (step read .asked .adds))
+      → (page : Page) → page ≡ withLevel before l → Bounded l → Next page keeps memory
   to-level turn turn-is is-inside l led page page-is bounded = (
     leveled (here read) (step read) (asks read) turn turn-is is-inside l led page page-is bounded (n .note .last .0) (n .note .ensures .1) (n .note .result) (n .note .ensures .0),
     subst (λ (p : Page). KeptBy (p .font) keeps) (sym page-is) kept-for,
+    remembers,
   )
 
   -- to another state
   to-state : (turn : Turn) → step read .asked .turn ≡ turn → isEnding (turnFrame turn) ≡ false → (s : State)
-      → did ruler (pageState before) turn (step read .asked .adds) ≡ continues s (addedOf (step read .asked .adds))
+      → did setting (pageState before) turn (step read .asked .adds) ≡ continues s (addedOf (step read .asked .adds))
       → (page : Page) → pageState page ≡ s → page .depth ≡ depthBy (turnFrame turn) (before .depth) → Sound page
-      → (next : Kept) → KeptBy (s .font) next → Next page next
-  to-state turn turn-is on s led page state-is depth-is sound next next-is = (
+      → (next : Kept) → KeptBy (s .font) next → (seen : List Seen) → Remembers seen → Next page next seen
+  to-state turn turn-is on s led page state-is depth-is sound next next-is seen seen-is = (
     onwards (here read) (step read) (asks read) turn turn-is on s led page state-is depth-is sound (n .note .last .0) (n .note .ensures .1) (n .note .result) (n .note .ensures .0),
     subst (λ (x : State). KeptBy (x .font) next) (sym state-is) next-is,
+    seen-is,
   )
 
   -- a distance that is handed on
@@ -157,8 +174,8 @@ module _ (n : tie.After-note Inv-loop μ-loop) where
 
   -- by a distance, in either direction and stride
   module _ (direction : Direction) (stride : Stride) (z : ℤ) (turn : Turn) (turn-is : step read .asked .turn ≡ turn) (is-inside : turnFrame turn ≡ inside) (ok : Stays direction (before .now) z)
-      (led : did ruler (pageState before) turn (step read .asked .adds) ≡ continues (withNumbers (pageState before) (movedBy direction stride ruler scale z (before .now))) (addedOf (step read .asked .adds))) where
-    to-moved : (page : Page) → page ≡ withLevel before (movedBy direction stride ruler scale (toZ w64 (ofZ w64 z)) (before .now)) → Next page keeps
+      (led : did setting (pageState before) turn (step read .asked .adds) ≡ continues (withNumbers (pageState before) (movedBy direction stride ruler scale z (before .now))) (addedOf (step read .asked .adds))) where
+    to-moved : (page : Page) → page ≡ withLevel before (movedBy direction stride ruler scale (toZ w64 (ofZ w64 z)) (before .now)) → Next page keeps memory
     to-moved page page-is =
         to-level turn turn-is is-inside (movedBy direction stride ruler scale z (before .now)) led page
         (page-is ∙ ap (λ (y : ℤ). withLevel before (movedBy direction stride ruler scale y (before .now))) (word z (ok .0)))
@@ -173,7 +190,7 @@ loop-less c = less (read (c .before .before .before .before))
 loop-again : tie.Need-loop-again Inv-loop μ-loop
 loop-again c =
     let n = c .before .before .before .before in
-    to-state n Turn.Stay (c .enum-told .given .1) refl (pageState (before n)) refl (before n) refl refl (here (read n) .sound) (keeps n) (kept-for n)
+    to-state n Turn.Stay (c .enum-told .given .1) refl (pageState (before n)) refl (before n) refl refl (here (read n) .sound) (keeps n) (kept-for n) (memory n) (remembers n)
 
 enum-known-turn : tie.Need-enum-known-turn Inv-loop μ-loop
 enum-known-turn c = search needs
@@ -327,7 +344,7 @@ loop-again-7 c =
     (state-sound (c .push .result) (pushed (pageState (before n))) state-is (sound .bounded) (sound .bounded, sound .kept) (sound .known)
     (omega (arith, c .push .ensures .1, room n turn-is))
     (ap length (c .push .ensures .2) ∙ length-set (before n .stack) (before n .depth) (before n .now) ∙ sound .full))
-    (keeps n) (kept-for n)
+    (keeps n) (kept-for n) (memory n) (remembers n)
 
 enum-told-5 : tie.Need-enum-told-5 Inv-loop μ-loop
 enum-told-5 c = search needs
@@ -362,36 +379,60 @@ loop-again-8 c =
     to-state n Turn.Pop turn-is refl (popped s) refl (c .pop .result) (c .pop .ensures .0) (c .pop .ensures .1)
     (state-sound (c .pop .result) (popped s) (c .pop .ensures .0) (back .0) (back .1) (subst Known same-font (sound .known))
     (omega (arith, c .pop .ensures .1, sound .shallow)) (ap length (c .pop .ensures .2) ∙ sound .full))
-    (keeps n) (subst (λ (font : Font). KeptBy n font (keeps n)) same-font (kept-for n))
+    (keeps n) (subst (λ (font : Font). KeptBy n font (keeps n)) same-font (kept-for n)) (memory n) (remembers n)
 
 enum-known-turn-5 : tie.Need-enum-known-turn-5 Inv-loop μ-loop
 enum-known-turn-5 c = search needs
 
+magnitude-requires : tie.Need-magnitude-requires Inv-loop μ-loop
+magnitude-requires c κs =
+    let n = c .before .before .before .before .before .before in
+    let v = c .before .before .turn5 .given in
+    omega (arith, small-word (v .0 .0) (safe (read n) (Turn.Select (v .0 .0)) (v .1)))
+
+mul-last-2 : tie.Need-mul-last-2 Inv-loop μ-loop
+mul-last-2 c = search needs
+
+array-copy-out-last : tie.Need-array-copy-out-last Inv-loop μ-loop
+array-copy-out-last c = search needs
+
+recalled-requires : tie.Need-recalled-requires Inv-loop μ-loop
+recalled-requires c κs =
+    let n = c .before .before .before .before .before .before .before .before in
+    ((here (read n) .ready .right, here (read n) .ready .told), remembers n .1 _ (omega (arith, remembers n .0)))
+
+mul-seen : tie.Need-mul-seen Inv-loop μ-loop
+mul-seen c = search needs
+
+array-set-from-seen : tie.Need-array-set-from-seen Inv-loop μ-loop
+array-set-from-seen c = search needs
+
 exchanged-requires : tie.Need-exchanged-requires Inv-loop μ-loop
 exchanged-requires c κs = tt
-
-kept-for-requires : tie.Need-kept-for-requires Inv-loop μ-loop
-kept-for-requires c κs =
-    let n = c .before .before .before .before .before .before .before .before .before in
-    let v = c .before .before .before .before .before .turn5 .given in
-    (here (read n) .ready .right, safe (read n) (Turn.Select (v .0 .0)) (v .1))
 
 select-requires : tie.Need-select-requires Inv-loop μ-loop
 select-requires c κs = tt
 
 loop-less-9 : tie.Need-loop-less-9 Inv-loop μ-loop
-loop-less-9 c = less (read (c .before .before .before .before .before .before .before .before .before .before .before))
+loop-less-9 c = less (read (c .before .before .before .before .before .before .before .before .before .before .before .before .before .before))
 
 loop-again-9 : tie.Need-loop-again-9 Inv-loop μ-loop
 loop-again-9 c =
-    let n = c .before .before .before .before .before .before .before .before .before .before .before in
-    let v = c .before .before .before .before .before .before .before .turn5 .given in
+    let n = c .before .before .before .before .before .before .before .before .before .before .before .before .before .before in
+    let v = c .before .before .before .before .before .before .before .before .before .before .turn5 .given in
+    let found = c .before .before .before .before .before .recalled in
+    let place = c .before .before .before .before .before .before .before .magnitude .result % 64 in
     let sound = here (read n) .sound in
     let is = c .select .ensures in
-    to-state n (Turn.Select (v .0 .0)) (v .1) refl (record { level = before n .now; saved = savedOf (before n .depth) (before n .stack); font = v .0 .0 }) refl
-    (c .select .result) (ap pageState is) (ap (λ (page : Page). page .depth) is)
-    (subst Sound (sym is) (record { bounded = sound .bounded; kept = sound .kept; known = safe (read n) (Turn.Select (v .0 .0)) (v .1); shallow = sound .shallow; full = sound .full }))
-    (c .before .kept-for .result) (c .before .kept-for .ensures)
+    let ok = safe (read n) (Turn.Select (v .0 .0)) (v .1) in
+    let number-is : found .result .number ≡ v .0 .0 = found .ensures .1 ∙ word (v .0 .0) ok in
+    let font = found .ensures .0 .0 (history (now (entry (read n) .args .file))) (here (read n) .ready .told) in
+    let chosen : found .result .font ≡ fontOf (setting n) (v .0 .0) = font .0 ∙ ap (fontOf (setting n)) number-is in
+    to-state n (Turn.Select (v .0 .0)) (v .1) refl (record { level = before n .now; saved = savedOf (before n .depth) (before n .stack); font = fontOf (setting n) (v .0 .0) }) refl
+    (c .select .result) (ap pageState is ∙ ap (λ (f : Font). record { level = before n .now; saved = savedOf (before n .depth) (before n .stack); font = f }) chosen) (ap (λ (page : Page). page .depth) is)
+    (subst Sound (sym is) (record { bounded = sound .bounded; kept = sound .kept; known = font .1; shallow = sound .shallow; full = sound .full }))
+    (found .result .kept) (subst (λ (f : Font). KeptBy n f (found .result .kept)) chosen (found .ensures .0 .1))
+    (set (memory n) place (found .result)) (seen-stored (now (entry (read n) .args .file)) (now (entry (read n) .args .fonts)) (now (entry (read n) .args .widths)) (entry (read n) .args .terms .rows) (memory n) place (found .result) (found .ensures .0) (remembers n))
 
 enum-told-6 : tie.Need-enum-told-6 Inv-loop μ-loop
 enum-told-6 c = search needs
@@ -463,8 +504,13 @@ walk-spec =
     loop-less-8
     loop-again-8
     enum-known-turn-5
+    magnitude-requires
+    mul-last-2
+    array-copy-out-last
+    recalled-requires
+    mul-seen
+    array-set-from-seen
     exchanged-requires
-    kept-for-requires
     select-requires
     loop-less-9
     loop-again-9

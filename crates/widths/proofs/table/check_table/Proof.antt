@@ -11,7 +11,7 @@ use Rattle.names.specs.Names.{nameSize}
 use Rattle.widths.specs.AsBytes.{Bytes}
 use Rattle.widths.specs.Table.{widthRecordSize, recordAt}
 use Rattle.widths.specs.Steps.{keyNumber, reaches, lawfulBlock, Judging}
-use Rattle.widths.proofs.Blocks.{same-lawful}
+use Rattle.widths.proofs.SameBlocks.{same-lawful}
 use Rattle.widths.proofs.TableLaws.{check-starts, check-ends, check-cut, keyRight, check-key, check-rest}
 use Rattle.widths.proofs.Turns.{key-tested, turned}
 use Rattle.widths.proofs.table.check_table.Statement.{statement}
