@@ -76,12 +76,12 @@ def fonts_named(*names):
 
 def written(codes):
     """Each character put and set, with a mark behind it."""
-    return [part for code in codes for part in (character(code, 1, PUT1), bytes([code]), MARK)]
+    return [part for code in codes for part in (character(code, 1, PUT1), bytes([code]) if code < 128 else character(code), MARK)]
 
 
 def in_fonts(numbers, codes):
     """The same characters in each of these fonts."""
-    return [part for number in numbers for part in (select(number), *written(codes))]
+    return [part for number in numbers for part in (select(number, number >= 64), *written(codes))]
 
 
 def volume_of(fonts, *pages):
@@ -175,6 +175,48 @@ def in_turn(group, rng):
             some = b"".join(row for row in table if rng.random() < 0.6)
             for number in (1, 2, 3, 4):
                 ask_place(group, file, some, number)
+
+
+def one_place(group, rng):
+    """Fonts whose numbers are alike but for their upper bits, selected in turn: fonts of one check sum and scale, of others, and as many as may be."""
+    codes = range(8)
+    for low in (0, 5, 63):
+        for step in (64, 128, 32, 16):
+            numbers = range(low, 256, step)[:4]
+            names = [b"n%d" % number for number in numbers]
+            told_by_name = [Font(number, SUM, SCALE, name=name) for number, name in zip(numbers, names)]
+            told_by_sum = [Font(number, SUM + at, SCALE + at, name=b"one") for at, number in enumerate(numbers)]
+            named = table_of([(name, code) for at, name in enumerate(names) for code in codes if code >> at % 3 & 1] + [(b"", code) for code in (0, 3, 4)])
+            summed = b"".join(entry(b"one", code, 2 + 9 * at + code, SUM + at, SCALE + at) for at in range(len(numbers)) for code in codes if code != at)
+            for fonts, table in ((told_by_name, named), (told_by_sum, summed)):
+                turns = [part for turn in range(3) for number in (*numbers, *reversed(numbers)) for part in (dvi.any_select(rng, number), *written(codes[turn : turn + 4]))]
+                file = volume_of(fonts, in_fonts([*numbers, *numbers], codes), turns)
+                for number in (1, 2):
+                    ask_place(group, file, table, number)
+    numbers = rng.sample(range(256), 64)
+    fonts = [Font(number, SUM, SCALE, name=b"n%d" % number) for number in numbers]
+    table = table_of((font.name, code) for at, font in enumerate(fonts) for code in (at % 8, 8 + at % 5))
+    for _ in range(8):
+        chosen = [rng.choice(numbers) for _ in range(200)]
+        ask_place(group, volume_of(fonts, [part for number in chosen for part in (dvi.any_select(rng, number), *written([rng.randrange(13)]))]), table)
+
+
+def side_by_side(group, rng):
+    """Fonts whose records stand side by side in the table, with codes that go on from one font to the next: a character that one font has not is the next
+    one's, as far from the last character's record as their codes are apart. All codes, rising, falling and at random; a font of one record, and of 256."""
+    ends = (0, 1, 2, 40, 41, 128, 255, 256)
+    names = [b"%c" % (97 + at) for at in range(len(ends) - 1)]
+    going_on = b"".join(entry(name, code, 2 + code) for name, low, high in zip(names, ends, ends[1:]) for code in range(low, high))
+    whole = b"".join(entry(b"b", code, 3 + code) for code in range(256))
+    fonts = fonts_named(*names)
+    rising = list(range(256))
+    for table in (going_on, entry(b"a", 255, 7) + whole + entry(b"c", 0, 9), entry(b"", 255, 7) + whole + entry(b"c", 1, 9)):
+        ask_table(group, table)
+        for font in fonts:
+            for codes in (rising, rising[::-1], rng.sample(rising, 256)):
+                ask_place(group, volume_of(fonts, in_fonts([font.number], codes)), table)
+        mixed = [part for _ in range(300) for part in (select(rng.choice(fonts).number), *written(rng.sample(rising, 3)))]
+        ask_place(group, volume_of(fonts, mixed), table)
 
 
 def two_of_one_key(group, rng):
@@ -509,7 +551,7 @@ def lines(group, rng):
 
 def groups(gather, numbers, long, wanted=lambda name: True):
     """Those groups that are wanted; the random ones many times in the long form. `numbers` gives each group its random numbers, by its name."""
-    notions = (pairs, lengths, alike_up_to, areas, in_turn, two_of_one_key, damaged_records, zeros_in_records, orders_of_keys, there_and_back,
+    notions = (pairs, lengths, alike_up_to, areas, in_turn, one_place, side_by_side, two_of_one_key, damaged_records, zeros_in_records, orders_of_keys, there_and_back,
                placed_as_before, orders, other_form, wrong_everywhere, longest_tables, lines)
     makers = {"named: " + make.__name__.replace("_", " "): make for make in notions}
     for turn in range(100 if long else 2):
