@@ -24,7 +24,6 @@ use Rattle.state.specs.declared.Font.{Font}
 use Rattle.state.specs.declared.moving.Direction.{Direction}
 use Rattle.state.specs.declared.moving.Direction.the-variants as Direction
 use Rattle.state.specs.declared.moving.Stride.the-variants as Stride
-use Rattle.state.specs.declared.moving.Ruler.{Ruler}
 use Rattle.state.specs.declared.registers.Register.{Register}
 use Rattle.state.specs.declared.registers.Register.the-variants as Register
 use Rattle.state.specs.Moving.{leaves}

@@ -4,7 +4,7 @@ use crate::table::Key;
 use crate::table::Place;
 use names::Name;
 ghost use mathlib.Core.Path.{_≡_};
-ghost use Prim.Native.Nat.{_≤_, _<_, _^_};
+ghost use Prim.Native.Nat.{_<_, _^_};
 ghost use Rattle.refusals.specs.Answer.{given};
 ghost use Rattle.names.specs.Names.{nameNumber};
 ghost use Rattle.names.specs.Steps.{InEights};

@@ -22,12 +22,11 @@ use Rattle.commands.specs.ByKind.{first, last, fixedBy}
 use Rattle.commands.proofs.Opcodes.{kind-range}
 use Rattle.commands.proofs.Lengths.{hasInner, whole-at-most, whole-plain}
 use Rattle.list.proofs.Arms.{kind-arm, kind-others, is-kind}
-use Rattle.state.specs.Registers.{State}
 use Rattle.page.specs.declared.Adds.the-variants as Adds
 use Rattle.page.specs.declared.Turn.{Turn}
 use Rattle.page.specs.declared.Turn.the-variants as Turn
 use Rattle.page.specs.declared.Asked.{Asked}
-use Rattle.page.specs.Placing.{Setting, Outcome, nothing, continues, fontOf, afterKind}
+use Rattle.page.specs.Placing.{Setting, nothing, continues, fontOf, afterKind}
 use Rattle.page.specs.Steps.{stateWith, did, Safe, Suits, termsSetting, Comes, CharacterAsks, command, MoveFits, CommandAsks}
 use Rattle.page.proofs.TurnLaws.{onlyTurns, move-fits, turn-does, turn-suits, turn-safe, asks-by-kind, rule-sets, rule-puts}
 use Rattle.page.proofs.Words.{small-word}

@@ -1,13 +1,12 @@
 -- `widths::blocks::find` meets its contract: a record of the own name, or else one for any name, each character for itself. Assumes nothing.
-use mathlib.Core.Path.{_≡_, sym, ap, ap₂, subst, _∙_}
+use mathlib.Core.Path.{sym, ap, ap₂, subst, _∙_}
 use Prim.Native.Nat.{ℕ, _<_}
 use native.Mathlib.Omega.{arith}
 use borrow.Author.Needs.{needs}
 use lib.ListN.{getD}
 use denote.Ref.{now}
-use Rattle.widths.specs.declared.table.Place.the-variants as Place
-use Rattle.widths.specs.LookUp.{LookUp, absent, walk, orElse}
-use Rattle.widths.specs.Steps.{foundAt, Among, BlockIs}
+use Rattle.widths.specs.LookUp.{LookUp, walk, orElse}
+use Rattle.widths.specs.Steps.{foundAt, Among}
 use Rattle.widths.proofs.BlockSearch.{empty-misses}
 use Rattle.widths.proofs.blocks.find.Statement.{statement}
 use Rattle.widths.proofs.blocks.find.Tie as tie

@@ -1,5 +1,5 @@
 -- `widths::blocks::find_code` meets its contract: a record of the block with the code is what the walk finds, and where the search ends at none there is none. Assumes nothing.
-use mathlib.Core.Path.{_≡_, sym, _∙_}
+use mathlib.Core.Path.{sym, _∙_}
 use Prim.Native.Nat.{ℕ, _<_}
 use native.Mathlib.Omega.{arith}
 use borrow.Author.Needs.{needs}

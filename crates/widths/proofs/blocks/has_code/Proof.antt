@@ -1,12 +1,11 @@
 -- `widths::blocks::has_code` meets its contract. Assumes nothing.
-use mathlib.Core.Bool.{true, false}
 use mathlib.Core.Path.{ap₂}
 use Rattle.widths.proofs.TableLaws.{record-inside}
 use Rattle.widths.specs.Table.{widthRecordSize, recordIn, recordOf}
 use Rattle.names.specs.Names.{nameSize}
 use Prim.Native.Nat.{ℕ, _+_, _*_, _≤_}
 use lib.ListN.{length}
-use lib.Dec.{ltb, leb, eqb}
+use lib.Dec.{ltb, eqb}
 use denote.Ref.{now}
 use borrow.Author.Tests.{lt-leb, le-ltb, le-leb, lt-ltb}
 use native.Mathlib.Omega.{arith}
