@@ -5,12 +5,12 @@ use Prim.Native.Nat.{ℕ, _*_, _-_, _≤_}
 use native.Mathlib.Omega.{arith}
 use lib.ListN.{length, drop, length-append, length-drop}
 use Rattle.refusals.specs.Answer.{Answer, refused, given}
-use Rattle.page.specs.declared.Counts.{Counts}
-use Rattle.page.specs.declared.Record.{Record}
-use Rattle.page.specs.Records.{recordBytes, allBytes}
-use Rattle.page.specs.Placing.{Contents}
+use Rattle.placements.specs.declared.Counts.{Counts}
+use Rattle.placements.specs.declared.Record.{Record}
+use Rattle.placements.specs.Records.{recordBytes, allBytes}
+use Rattle.turns.specs.Placing.{Contents}
 use Rattle.page.specs.Answers.{countsOf, placedCounts, areaAfter}
-use Rattle.page.proofs.Areas.{record-length}
+use Rattle.placements.proofs.Areas.{record-length}
 
 bytes-length : (records : List Record) → length (allBytes records) ≡ 20 * length records
 bytes-length [] = omega arith

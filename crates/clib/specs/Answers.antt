@@ -12,7 +12,7 @@ use Rattle.widths.specs.LookUp.{LookUp, found, absent}
 use Rattle.commands.specs.declared.Reading.{Reading}
 use Rattle.volume.specs.declared.Summary.{Summary}
 use Rattle.list.specs.declared.Part.{Part}
-use Rattle.page.specs.declared.Counts.{Counts}
+use Rattle.placements.specs.declared.Counts.{Counts}
 
 -- ---- the rule
 

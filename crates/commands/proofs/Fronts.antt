@@ -11,7 +11,7 @@ use lib.Seq.{take-at, drop-at, drop-cons, length-take-le}
 use borrow.Author.Tests.{lt-ltb, le-ltb, le-leb, lt-leb}
 use Rattle.commands.specs.Lengths.{sizeOf}
 use Rattle.commands.specs.Commands.{Command, Whole, form, cut, undefined, whole, frontAfter, front}
-use Rattle.commands.proofs.Ranges.{below-or-not}
+use Rattle.numbers.proofs.Radix.{less-or-not}
 use Rattle.commands.proofs.Lengths.{size-append, size-take, whole-fixed}
 
 -- ---- what stands after an opcode, case by case
@@ -36,7 +36,7 @@ module _ (opcode : ℕ) (rest : List ℕ) where
     fits : opcode < 250 → sizeOf opcode rest ≤ length rest → After
 
   after-cases : After
-  after-cases = ⊎-elim (λ h. ⊎-elim (short h) (fits h) (below-or-not (length rest) (sizeOf opcode rest))) strange (below-or-not opcode 250)
+  after-cases = ⊎-elim (λ h. ⊎-elim (short h) (fits h) (less-or-not (length rest) (sizeOf opcode rest))) strange (less-or-not opcode 250)
 
 -- ---- at a place of a file
 

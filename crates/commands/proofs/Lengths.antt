@@ -20,7 +20,8 @@ use Rattle.commands.specs.Fields.{unsignedIn, bopPointer, preCommentLeng
 use Rattle.commands.specs.Parameters.{definition}
 use Rattle.commands.specs.Lengths.{lengths, fixedLength, innerLength, sizeOf}
 use Rattle.commands.specs.Commands.{Command, Whole, kindOfCommand}
-use Rattle.commands.proofs.Ranges.{below-or-not, constant-on, equal-on, between-on}
+use Rattle.numbers.proofs.Radix.{less-or-not}
+use Rattle.commands.proofs.Ranges.{constant-on, equal-on, between-on}
 use Rattle.commands.proofs.Opcodes.{range-kind, kind-from, from-250}
 
 -- ---- the table's rule
@@ -30,7 +31,7 @@ unfolding fixedLength lengths
 fixed-beyond opcode h = rw (le-ltb opcode 128 (omega arith)) (List·getD-eq-default lengths 0 {n = opcode - 128} (omega arith))
 
 pub fixed-of : {k : Kind} (opcode : ℕ) → kindOf opcode ≡ k → fixedLength opcode ≡ fixedBy k opcode
-fixed-of {k} opcode e = ⊎-elim inside beyond (below-or-not opcode 250) ∙ ap (λ (kind-is : Kind). fixedBy kind-is opcode) e
+fixed-of {k} opcode e = ⊎-elim inside beyond (less-or-not opcode 250) ∙ ap (λ (kind-is : Kind). fixedBy kind-is opcode) e
   where
     inside : opcode < 250 → fixedLength opcode ≡ fixedBy (kindOf opcode) opcode
     inside h = equal-on fixedLength (λ x. fixedBy (kindOf x) x) 0 250 (unfold fixedLength lengths kindOf in refl) (omega arith) (omega arith)
@@ -71,7 +72,7 @@ module _ (opcode : ℕ) (params : List ℕ) where
   inner-below l = constant-on (λ x. innerLength x params) 0 0 239 (unfold innerLength kindOf in refl) (omega arith) (omega arith)
 
   pub inner-above : 248 ≤ opcode → innerLength opcode params ≡ 0
-  inner-above h = ⊎-elim defined (λ beyond. inner-undefined (from-250 opcode beyond)) (below-or-not opcode 250)
+  inner-above h = ⊎-elim defined (λ beyond. inner-undefined (from-250 opcode beyond)) (less-or-not opcode 250)
     where
       defined : opcode < 250 → innerLength opcode params ≡ 0
       defined l = constant-on (λ x. innerLength x params) 0 248 2 (unfold innerLength kindOf in refl) h (omega arith)
@@ -84,16 +85,16 @@ data Inner (opcode : ℕ) : Type 0 where
   pre : kindOf opcode ≡ Pre → Inner opcode
 
 inner-cases : (opcode : ℕ) → Inner opcode
-inner-cases opcode = ⊎-elim (λ l. none (λ params. inner-below opcode params l)) from-special (below-or-not opcode 239)
+inner-cases opcode = ⊎-elim (λ l. none (λ params. inner-below opcode params l)) from-special (less-or-not opcode 239)
   where
     from-pre : 247 ≤ opcode → Inner opcode
-    from-pre h = ⊎-elim (λ l. pre (range-kind Pre h (omega arith))) (λ g. none (λ params. inner-above opcode params g)) (below-or-not opcode 248)
+    from-pre h = ⊎-elim (λ l. pre (range-kind Pre h (omega arith))) (λ g. none (λ params. inner-above opcode params g)) (less-or-not opcode 248)
 
     from-define : 243 ≤ opcode → Inner opcode
-    from-define h = ⊎-elim (λ l. define (range-kind Define h (omega arith))) from-pre (below-or-not opcode 247)
+    from-define h = ⊎-elim (λ l. define (range-kind Define h (omega arith))) from-pre (less-or-not opcode 247)
 
     from-special : 239 ≤ opcode → Inner opcode
-    from-special h = ⊎-elim (λ l. special (range-kind Special h (omega arith))) from-define (below-or-not opcode 243)
+    from-special h = ⊎-elim (λ l. special (range-kind Special h (omega arith))) from-define (less-or-not opcode 243)
 
 pub inner-none : {k : Kind} (opcode : ℕ) (params : List ℕ) → kindOf opcode ≡ k → hasInner k ≡ false → innerLength opcode params ≡ 0
 inner-none {k} opcode params e plain = go (inner-cases opcode)

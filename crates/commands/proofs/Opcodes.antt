@@ -11,7 +11,8 @@ use Rattle.commands.specs.declared.Kind.the-variants.{SetCharacter, SetR
 use Rattle.commands.specs.Kinds.{Row, rows, kindIn, kindOf}
 use Rattle.commands.specs.Lengths.{lengthsIn}
 use Rattle.commands.specs.ByKind.{first, last}
-use Rattle.commands.proofs.Ranges.{below-or-not, values, constant-on, between-on}
+use Rattle.numbers.proofs.Radix.{less-or-not}
+use Rattle.commands.proofs.Ranges.{values, constant-on, between-on}
 
 -- an opcode lies in the range of its kind
 pub kind-range : {k : Kind} (opcode : ℕ) → opcode < 256 → kindOf opcode ≡ k → (first k ≤ opcode) × (opcode ≤ last k)
@@ -62,4 +63,4 @@ from-250 opcode h = past-rows rows opcode h
 
 -- a kind's opcodes begin at its first, however large the number
 pub kind-from : {k : Kind} (opcode : ℕ) → kindOf opcode ≡ k → first k ≤ opcode
-kind-from opcode e = ⊎-elim (λ h. kind-range opcode h e .0) (λ h. rw (← e, from-250 opcode (omega arith)) (omega arith)) (below-or-not opcode 256)
+kind-from opcode e = ⊎-elim (λ h. kind-range opcode h e .0) (λ h. rw (← e, from-250 opcode (omega arith)) (omega arith)) (less-or-not opcode 256)

@@ -9,7 +9,7 @@ use lib.Dec.{eqb, ltb, leb}
 use lib.ListN.{length, getD, drop}
 use lib.Seq.{drop-cons, drop-nil}
 use borrow.Author.Tests.{eq-eqb, ne-eqb, ltb-true, lt-leb, le-leb, lt-ltb, le-ltb}
-use Rattle.commands.proofs.Ranges.{below-or-not}
+use Rattle.numbers.proofs.Radix.{less-or-not}
 use Rattle.cutting.specs.Chosen.{isIn, isEmpty, risesFrom, wrongList}
 use Rattle.cutting.specs.Steps.{nextChosen}
 
@@ -168,5 +168,5 @@ module _ (list : List ℕ) (page met : ℕ) (a : Ahead list page met) where
   -- the next page
   pub next-page : Next
   next-page =
-      ⊎-elim (λ there. ⊎-elim (is-later there) (λ near. is-next there (omega (arith, above there .0))) (below-or-not (page + 1) (getD list met 0)))
-      (λ over. at-end over (gone list met over)) (below-or-not met (length list))
+      ⊎-elim (λ there. ⊎-elim (is-later there) (λ near. is-next there (omega (arith, above there .0))) (less-or-not (page + 1) (getD list met 0)))
+      (λ over. at-end over (gone list met over)) (less-or-not met (length list))

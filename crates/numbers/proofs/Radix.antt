@@ -15,6 +15,7 @@ less-or-not-by : (a b : ℕ) (outcome : Bool) → ltb a b ≡ outcome → (a < b
 less-or-not-by a b true e = inl (ltb-true a b e)
 less-or-not-by a b false e = inr (ltb-false a b e)
 
+-- a number is below another, or it is not
 pub less-or-not : (a b : ℕ) → (a < b) ⊎ (b ≤ a)
 less-or-not a b = less-or-not-by a b (ltb a b) refl
 

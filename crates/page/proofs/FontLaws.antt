@@ -17,8 +17,9 @@ use Rattle.list.proofs.FontTables.{told-none}
 use Rattle.list.proofs.Sayings.{part-says}
 use Rattle.volume.proofs.NameLaws.{Leads, said-there}
 use Rattle.state.specs.Registers.{unselected}
-use Rattle.page.specs.Placing.{fontBy}
-use Rattle.page.specs.Steps.{Known, InScale, Told}
+use Rattle.turns.specs.Placing.{fontBy}
+use Rattle.turns.specs.Steps.{Known}
+use Rattle.page.specs.Steps.{InScale, Told}
 
 -- no font is one that may be left
 pub unselected-known : Known unselected

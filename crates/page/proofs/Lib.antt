@@ -1,16 +1,8 @@
-pub mod Areas
-pub mod Blocks
-pub mod CharacterLaws
-pub mod CountLaws
+pub mod Finishing
 pub mod FontLaws
 pub mod Remembered
-pub mod Found
-pub mod Frames
 pub mod PageRuns
 pub mod PlaceLaws
-pub mod RecordWords
 pub mod Traces
-pub mod TurnLaws
 pub mod WalkLaws
-pub mod Words
 pub mod RefusedWith

@@ -25,7 +25,8 @@ use Rattle.volume.specs.History.{history}
 use Rattle.list.proofs.Arms.{on-kinds, is-kind}
 use Rattle.volume.proofs.History.{history-counts}
 use Rattle.volume.proofs.Going.{after-command}
-use Rattle.page.specs.PageList.{Located, isOn, pageOf}
+use Rattle.turns.specs.Placing.{Located}
+use Rattle.page.specs.PageList.{isOn, pageOf}
 use Rattle.page.specs.Steps.{Runs, ends, onward}
 use Rattle.list.proofs.AtStages.{compared, does-lawfully}
 use Rattle.page.specs.Trace.{Trace, start, more}

@@ -21,20 +21,20 @@ use Rattle.list.specs.declared.Volume.{Volume}
 use Rattle.list.specs.Past.{num, den, mag}
 use Rattle.list.specs.Steps.{bopOf, volumeOf}
 use Rattle.volume.specs.Steps.{summaryOf}
-use Rattle.volume.specs.Judged.{judged}
 use Rattle.volume.specs.History.{history}
 use Rattle.volume.proofs.Accepts.{accepts-lawful}
 use Rattle.state.specs.Registers.{freshState}
-use Rattle.page.specs.declared.Counts.{Counts}
-use Rattle.page.specs.declared.Terms.{Terms}
+use Rattle.placements.specs.declared.Counts.{Counts}
+use Rattle.turns.specs.declared.Terms.{Terms}
 use Rattle.page.specs.declared.Walked.{Walked}
 use Rattle.page.specs.declared.Walked.the-variants as Walked
-use Rattle.page.specs.Records.{placementRecordSize, allBytes}
+use Rattle.placements.specs.Records.{placementRecordSize}
 use Rattle.page.specs.PageList.{pageOf}
-use Rattle.page.specs.Placing.{Contents, placing}
+use Rattle.turns.specs.Placing.{Contents, placing}
 use Rattle.page.specs.Answers.{pageOutside, settingOf, withRoom, placedAccepted, countsOf, placedCounts, areaAfter}
-use Rattle.page.specs.Steps.{stored, stopped, through, zeroCounts, finish, endingOf, Runs, Told, Ready, Held}
-use Rattle.page.proofs.Areas.{stored-whole}
+use Rattle.placements.specs.Steps.{stored}
+use Rattle.page.specs.Steps.{stopped, through, zeroCounts, finish, endingOf, Runs, Ready, Held}
+use Rattle.placements.proofs.Areas.{stored-whole}
 use Rattle.page.proofs.Traces.{accepted-trace, accepted-units, trace-scales}
 use Rattle.page.proofs.PageRuns.{page-runs, bop-inside}
 

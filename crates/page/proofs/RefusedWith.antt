@@ -23,9 +23,9 @@ use Rattle.list.specs.Past.{num, den, mag}
 use Rattle.volume.specs.Judged.{judged}
 use Rattle.volume.specs.History.{history}
 use Rattle.state.specs.Registers.{State, freshState}
-use Rattle.page.specs.Records.{placementRecordSize}
-use Rattle.page.specs.PageList.{Located, isOn, pageOf}
-use Rattle.page.specs.Placing.{Setting, Outcome, leavesRange, continues, after, onOutcome, placing}
+use Rattle.placements.specs.Records.{placementRecordSize}
+use Rattle.turns.specs.Placing.{Located, Setting, Outcome, leavesRange, continues, after, onOutcome, placing}
+use Rattle.page.specs.PageList.{isOn, pageOf}
 use Rattle.page.specs.Answers.{pageOutside, settingOf, placedAccepted, placedPage, placedCounts}
 use Rattle.page.specs.Trace.{Trace, start, more}
 use Rattle.page.proofs.Traces.{accepted-trace}

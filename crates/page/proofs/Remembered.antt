@@ -11,7 +11,8 @@ use Rattle.widths.proofs.OneDivision.{sixteenfold-none}
 use Rattle.widths.proofs.BlockSearch.{no-records}
 use Rattle.state.specs.Registers.{unselected}
 use Rattle.page.specs.declared.Seen.{Seen}
-use Rattle.page.specs.Steps.{KeptFor, SeenIs, zeroSeen, AllSeen}
+use Rattle.turns.specs.Steps.{KeptFor}
+use Rattle.page.specs.Steps.{SeenIs, zeroSeen, AllSeen}
 use Rattle.page.proofs.FontLaws.{unselected-known, no-lawful-number}
 
 -- ---- what holds in every place of a list

@@ -21,7 +21,7 @@ use Rattle.commands.specs.declared.Kind.the-variants.{Define, Pre, PostPost}
 use Rattle.commands.specs.Fields.{unsignedIn, preIdentification, preNum, preDen, preMag}
 use Rattle.commands.specs.Commands.{Command, kindOfCommand, whole, front, place}
 use Rattle.commands.specs.Parameters.{fontScale}
-use Rattle.commands.proofs.Ranges.{below-or-not}
+use Rattle.numbers.proofs.Radix.{less-or-not}
 use Rattle.commands.proofs.Fronts.{front-sound}
 use Rattle.list.specs.declared.Stage.{Stage}
 use Rattle.list.specs.declared.Stage.the-variants.{AtStart, BeforePages, OnPage, BetweenPages, AfterPost, AfterEnd}
@@ -152,7 +152,7 @@ module _ (params : List ℕ) (bytes : (i : ℕ) → getD params i 0 < 256) where
 -- the parameters of a command that stands in a file are bytes, as the file is
 params-bytes : (file : List ℕ) → ((i : ℕ) → getD file i 0 < 256) → (at : ℕ) (c : Command) (rest : List ℕ) → front (drop at file) ≡ whole c rest
     → (i : ℕ) → getD (c .params) i 0 < 256
-params-bytes file bytes at c rest f i = ⊎-elim inside beyond (below-or-not i (length (c .params)))
+params-bytes file bytes at c rest f i = ⊎-elim inside beyond (less-or-not i (length (c .params)))
   where
     inside : i < length (c .params) → getD (c .params) i 0 < 256
     inside h =

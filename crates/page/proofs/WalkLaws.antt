@@ -23,19 +23,23 @@ use Rattle.state.specs.declared.Page.{Page}
 use Rattle.state.specs.Registers.{State, freshState, poppedTo}
 use Rattle.state.specs.Steps.{pageState, savedOf, withLevel, Bounded, AllBounded}
 use Rattle.state.proofs.Levels.{bounded-zero}
-use Rattle.page.specs.declared.Counts.{Counts}
-use Rattle.page.specs.declared.Terms.{Terms}
-use Rattle.page.specs.declared.Turn.{Turn}
-use Rattle.page.specs.declared.Turn.the-variants as Turn
-use Rattle.page.specs.declared.Step.{Step}
-use Rattle.page.specs.PageList.{Located, pageOf}
-use Rattle.page.specs.Blocks.{Frame, inside}
-use Rattle.page.specs.Placing.{Setting, Added, nothing, placed, missing, special, Outcome, continues, leavesRange, withNumbers, adding, onOutcome, after, placing}
-use Rattle.page.specs.Steps.{addedOf, AddsInWords, areaNoted, countNoted, finish, stopped, through, zeroCounts, did, Safe, turnFrame, Suits, termsSetting, StepAsks, Known, Runs, ends, onward, Ready}
-use Rattle.page.proofs.Areas.{noted-length, finish-adding}
+use Rattle.placements.specs.declared.Counts.{Counts}
+use Rattle.turns.specs.declared.Terms.{Terms}
+use Rattle.turns.specs.declared.Turn.{Turn}
+use Rattle.turns.specs.declared.Turn.the-variants as Turn
+use Rattle.turns.specs.declared.Step.{Step}
+use Rattle.turns.specs.Placing.{Located, Setting, Outcome, continues, leavesRange, withNumbers, adding, onOutcome, after, placing}
+use Rattle.page.specs.PageList.{pageOf}
+use Rattle.turns.specs.Blocks.{Frame, inside}
+use Rattle.placements.specs.Records.{Added, nothing, placed, missing, special}
+use Rattle.placements.specs.Steps.{addedOf, AddsInWords, areaNoted, countNoted}
+use Rattle.page.specs.Steps.{finish, stopped, through, zeroCounts, Runs, ends, onward, Ready}
+use Rattle.turns.specs.Steps.{did, Safe, turnFrame, Suits, termsSetting, StepAsks, Known}
+use Rattle.placements.proofs.Areas.{noted-length}
+use Rattle.page.proofs.Finishing.{finish-adding}
 use Rattle.page.proofs.FontLaws.{unselected-known}
-use Rattle.page.proofs.TurnLaws.{after-kind}
-use Rattle.page.proofs.Frames.{isEnding, opening-push, closing-pop, ending-eop, depthBy, frame-depth}
+use Rattle.turns.proofs.TurnLaws.{after-kind}
+use Rattle.turns.proofs.Frames.{isEnding, opening-push, closing-pop, ending-eop, depthBy, frame-depth}
 
 -- ---- the code's page
 

@@ -14,10 +14,10 @@ use Rattle.list.specs.Past.{num, den, mag}
 use Rattle.volume.specs.Judged.{judged}
 use Rattle.volume.specs.History.{history}
 use Rattle.state.specs.Registers.{freshState}
-use Rattle.page.specs.declared.Counts.{Counts}
-use Rattle.page.specs.Records.{placementRecordSize, allBytes}
+use Rattle.placements.specs.declared.Counts.{Counts}
+use Rattle.placements.specs.Records.{placementRecordSize, allBytes}
 use Rattle.page.specs.PageList.{pageOf}
-use Rattle.page.specs.Placing.{Setting, lookIn, Contents, placing}
+use Rattle.turns.specs.Placing.{Setting, lookIn, Contents, placing}
 
 -- a page number that the file has not (rule 9.8)
 abbrev pub pageOutside : ℕ → ℕ → Bool

@@ -6,11 +6,7 @@ use lib.Dec.{eqb}
 use Rattle.commands.specs.declared.Kind.the-variants.{Eop}
 use Rattle.commands.specs.Commands.{Command, place}
 use Rattle.list.specs.Past.{isA, stage, isOnPage, pages}
-
--- a command with the place of its opcode (rule 3.1)
-pub record Located : Type 0 where
-  pub at : ℕ
-  pub command : Command
+use Rattle.turns.specs.Placing.{Located}
 
 -- whether a command is one of a page's own (rule 8.2)
 abbrev pub isOn : ℕ → List Command → Command → Bool

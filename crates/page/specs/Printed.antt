@@ -15,9 +15,9 @@ use Rattle.commands.specs.Commands.{frontAfter}
 use Rattle.list.specs.Rules.{sameBytes}
 use Rattle.volume.specs.Judged.{tail, judgedFrom, judged}
 use Rattle.volume.specs.History.{history, historyFrom}
-use Rattle.page.specs.declared.Record.{Record}
-use Rattle.page.specs.Records.{recordBytes, allBytes}
-use Rattle.page.specs.Placing.{Contents, after, placing}
+use Rattle.placements.specs.declared.Record.{Record}
+use Rattle.placements.specs.Records.{recordBytes, allBytes}
+use Rattle.turns.specs.Placing.{Contents, after, placing}
 use Rattle.page.specs.Answers.{placedPage}
 
 -- the smallest file with six moves by 5, a rule set and a rule put on its page

@@ -1,13 +1,12 @@
 // Placing one page of a file: 1 to 11 are judged of the file, then 12 to 17 in their order.
 use crate::PagePlaced;
-use crate::Terms;
 use crate::Walked;
-use crate::records;
 use crate::walking;
 use commands::fields;
 use list::Volume;
 use refusals::Refusal;
 use state::moving::Ruler;
+use turns::Terms;
 use units::UnitFound;
 use volume::Scanned;
 use volume::scanning;
@@ -19,9 +18,10 @@ ghost use Rattle.refusals.specs.Answer.{andThen};
 ghost use Rattle.volume.specs.History.{history};
 ghost use Rattle.state.specs.Registers.{freshState};
 ghost use Rattle.page.specs.PageList.{pageOf};
-ghost use Rattle.page.specs.Placing.{placing};
+ghost use Rattle.turns.specs.Placing.{placing};
 ghost use Rattle.page.specs.Answers.{withRoom, placedAccepted, placedPage, placedCounts, areaAfter};
-ghost use Rattle.page.specs.Steps.{termsSetting, Ready, Held, placeAnswer};
+ghost use Rattle.turns.specs.Steps.{termsSetting};
+ghost use Rattle.page.specs.Steps.{Ready, Held, placeAnswer};
 
 // The length of a bop: its opcode and its parameters, of which the pointer is the last.
 const BOP: usize = 1 + fields::BOP_POINTER.at + fields::BOP_POINTER.size;
@@ -48,7 +48,7 @@ fn place_commands(
     match walking::walk(file, widths, fonts, terms, start, &mut out[..0]) {
         Walked::Left(place) => refused(refusals::POSITION_OUT_OF_RANGE, place),
         Walked::Through(counts) => {
-            if out.len() < records::RECORD_SIZE * counts.records {
+            if out.len() < placements::RECORD_SIZE * counts.records {
                 return refused(refusals::AREA_TOO_SHORT, 0);
             }
             walking::walk(file, widths, fonts, terms, start, out);

@@ -1,19 +1,18 @@
 // The walk over a page's commands, from the end of its bop to its eop.
-use crate::Counts;
-use crate::Kept;
 use crate::Seen;
-use crate::Terms;
-use crate::Turn;
 use crate::Walked;
 use crate::fonts;
-use crate::records;
-use crate::steps;
 use names::Name;
+use placements::Counts;
 use state::Font;
 use state::Page;
 use state::moving::Direction;
 use state::moving::Stride;
 use state::registers;
+use turns::Kept;
+use turns::Terms;
+use turns::Turn;
+use turns::steps;
 use widths::blocks;
 use widths::blocks::Block;
 use widths::scaling;
@@ -24,8 +23,9 @@ ghost use Rattle.widths.specs.Table.{checkedTable};
 ghost use Rattle.volume.specs.History.{history};
 ghost use Rattle.state.specs.Registers.{freshState};
 ghost use Rattle.page.specs.PageList.{pageOf};
-ghost use Rattle.page.specs.Placing.{placing};
-ghost use Rattle.page.specs.Steps.{Known, KeptFor, Told, SeenIs, Ready, termsSetting, zeroCounts, finish, endingOf, Few};
+ghost use Rattle.turns.specs.Placing.{placing};
+ghost use Rattle.turns.specs.Steps.{Known, KeptFor, termsSetting};
+ghost use Rattle.page.specs.Steps.{Told, SeenIs, Ready, zeroCounts, finish, endingOf, Few};
 
 // How many fonts a walk remembers: as many as a file may have, each in the place of its number modulo this.
 const FONTS: u64 = 64;
@@ -126,7 +126,7 @@ pub fn walk(
         let place = at;
         at = step.next;
         hint = asked.hint;
-        counts = records::note(&mut *out, counts, adds);
+        counts = placements::note(&mut *out, counts, adds);
         match turn {
             Turn::Stay => {}
             Turn::By(direction, n) => match direction {

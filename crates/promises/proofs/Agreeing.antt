@@ -25,8 +25,8 @@ use Rattle.volume.specs.OfList.{upToLast}
 use Rattle.list.proofs.FaultLaws.{none-broken, all-kept}
 use Rattle.list.proofs.Arms.{on-kinds, is-kind}
 use Rattle.state.specs.Registers.{State, freshState}
-use Rattle.page.specs.PageList.{Located, pageOf}
-use Rattle.page.specs.Placing.{Setting, Outcome, continues, leavesRange, setCharacter, putCharacter, afterKind, after, Contents, adding, onOutcome, placing}
+use Rattle.turns.specs.Placing.{Located, Setting, Outcome, continues, leavesRange, setCharacter, putCharacter, afterKind, after, Contents, adding, onOutcome, placing}
+use Rattle.page.specs.PageList.{pageOf}
 use Rattle.page.specs.Answers.{pageOutside, settingIn, withRoom, placedIn}
 
 pub record Agree (past past′ : List Command) : Type 0 where

@@ -35,14 +35,13 @@ use Rattle.state.specs.Moving.{leaves}
 use Rattle.state.specs.Registers.{State, freshState, poppedTo, spotOf, registerOf, directionOf}
 use Rattle.state.specs.Nearby.{Near, AllNear, StateNear}
 use Rattle.state.proofs.Nearby.{near-moved, near-character, near-register, near-fresh, up-unheld, up-stays, up-nearly}
-use Rattle.page.specs.declared.Record.{Record}
-use Rattle.page.specs.Records.{placementRecordSize, ruleRecord, allBytes}
-use Rattle.page.specs.PageList.{Located}
-use Rattle.page.specs.Placing.{Setting, Added, nothing, placed, missing, special, Outcome, continues, leavesRange, withNumbers, movesTo, setCharacter, putCharacter, isVisible, ruleAdded, plainMove, distanceOr, registerMove, afterKind, after, Contents, adding, onOutcome, placing}
-use Rattle.page.specs.Counting.{codeOf}
-use Rattle.page.specs.Blocks.{to, leadOn, afterAll}
-use Rattle.page.proofs.CountLaws.{and-given}
-use Rattle.page.proofs.Blocks.{out-to, to-same, run-append, placed-leads}
+use Rattle.placements.specs.declared.Record.{Record}
+use Rattle.placements.specs.Records.{placementRecordSize, ruleRecord, allBytes, Added, nothing, placed, missing, special}
+use Rattle.turns.specs.Placing.{Located, Setting, Outcome, continues, leavesRange, withNumbers, movesTo, setCharacter, putCharacter, isVisible, ruleAdded, plainMove, distanceOr, registerMove, afterKind, after, Contents, adding, onOutcome, placing}
+use Rattle.turns.specs.Counting.{codeOf}
+use Rattle.turns.specs.Blocks.{to, leadOn, afterAll}
+use Rattle.turns.proofs.CountLaws.{and-given}
+use Rattle.turns.proofs.Blocks.{out-to, to-same, run-append, placed-leads}
 use Rattle.reader.specs.declared.Placed.{Placed}
 use Rattle.reader.specs.declared.Placed.the-variants as Placed
 use Rattle.reader.proofs.place_page.Reads as place-page

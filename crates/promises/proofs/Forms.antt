@@ -33,7 +33,7 @@ use Rattle.volume.specs.History.{history}
 use Rattle.state.specs.declared.Font.{Font}
 use Rattle.state.specs.Registers.{freshState}
 use Rattle.page.specs.PageList.{pageOf}
-use Rattle.page.specs.Placing.{lookIn, Contents, placing}
+use Rattle.turns.specs.Placing.{lookIn, Contents, placing}
 use Rattle.page.specs.Answers.{pageOutside, withRoom, placedPage, placedCounts, areaAfter}
 use Rattle.reader.specs.declared.TableChecked.{TableChecked}
 use Rattle.reader.specs.declared.TableMade.{TableMade}

@@ -24,7 +24,7 @@ use Rattle.commands.specs.Commands.{Command}
 use Rattle.commands.specs.Parameters.{fontName}
 use Rattle.list.specs.Past.{body, stands}
 use Rattle.state.specs.declared.Font.{Font}
-use Rattle.page.specs.Placing.{fontBy, lookIn}
+use Rattle.turns.specs.Placing.{fontBy, lookIn}
 use Rattle.promises.specs.OldTables.{IsOwn, IsOfAny}
 
 -- what a walk finds is a record that is for the character

@@ -20,16 +20,16 @@ use Rattle.widths.proofs.RefusedWith.{table-refused-with}
 use Rattle.volume.specs.Judged.{judged}
 use Rattle.volume.proofs.RefusedWith.{file-refused-with}
 use Rattle.state.specs.Registers.{freshState}
-use Rattle.page.specs.declared.Record.{Record}
-use Rattle.page.specs.declared.Counts.{Counts}
-use Rattle.page.specs.Records.{placementRecordSize, recordBytes, allBytes}
-use Rattle.page.specs.Placing.{placing}
-use Rattle.page.specs.Placing as meaning
-use Rattle.page.specs.Counting.{characterFound, characterMissing, ruleVisible, isSpecial, makesRecord, countOf, those, saidBy, saidOf, LeavesAt}
+use Rattle.placements.specs.declared.Record.{Record}
+use Rattle.placements.specs.declared.Counts.{Counts}
+use Rattle.placements.specs.Records.{placementRecordSize, recordBytes, allBytes}
+use Rattle.turns.specs.Placing.{placing}
+use Rattle.turns.specs.Placing as meaning
+use Rattle.turns.specs.Counting.{characterFound, characterMissing, ruleVisible, isSpecial, makesRecord, countOf, those, saidBy, saidOf, LeavesAt}
 use Rattle.page.specs.Answers.{pageOutside, withRoom, countsOf, placedCounts, areaAfter}
-use Rattle.page.proofs.Areas.{record-length}
-use Rattle.page.proofs.CountLaws.{records-counted, missing-counted, specials-counted, refused-place}
-use Rattle.page.proofs.CountLaws as counting
+use Rattle.placements.proofs.Areas.{record-length}
+use Rattle.turns.proofs.CountLaws.{records-counted, missing-counted, specials-counted, refused-place}
+use Rattle.turns.proofs.CountLaws as counting
 use Rattle.reader.specs.declared.Placed.{Placed}
 use Rattle.reader.specs.declared.Placed.the-variants as Placed
 use Rattle.reader.specs.Answers.{Refuses}

@@ -18,7 +18,7 @@ use Rattle.refusals.specs.Answer.{refused, given, refuseIf}
 use Rattle.numbers.proofs.Bytes.{unsigned-more, unsigned-one, unsigned-drop}
 use Rattle.commands.specs.Commands.{Command, written}
 use Rattle.commands.specs.Reading.{longestFile}
-use Rattle.commands.proofs.Ranges.{below-or-not}
+use Rattle.numbers.proofs.Radix.{less-or-not}
 use Rattle.list.specs.Past.{greatest}
 use Rattle.list.specs.Lawful.{Keeps, Lawful}
 use Rattle.volume.specs.declared.Summary.{Summary}
@@ -141,12 +141,12 @@ module _ (s : ℕ) (file : List ℕ) (found : Summary) (accepted : judged file �
       ⊎-elim
       (λ (h : s < found .depth). rw (lt-ltb s (found .depth) h) (refused-so (s / 256) (s % 256) file found accepted (omega (arith, h, two-bytes s))))
       (λ (h : found .depth ≤ s). rw (le-ltb s (found .depth) h) (other-s-same h))
-      (below-or-not s (found .depth))
+      (less-or-not s (found .depth))
 
 -- s of an accepted file is not below the depth that its commands reach, else the file with its own s would be refused (rule 3.8)
 pub stated-not-below : (file : List ℕ) (found : Summary) → judged file ≡ given found → found .depth ≤ statedDepth file (found .post)
 stated-not-below file found accepted =
-    ⊎-elim (λ below. absurd (contradiction below)) (λ (h : found .depth ≤ stated high low). omega (arith, h, own-bytes)) (below-or-not (stated high low) (found .depth))
+    ⊎-elim (λ below. absurd (contradiction below)) (λ (h : found .depth ≤ stated high low). omega (arith, h, own-bytes)) (less-or-not (stated high low) (found .depth))
   where
     at : ℕ
     at = found .post + 1 + 24

@@ -15,7 +15,7 @@ use Rattle.commands.specs.declared.Kind.the-variants.{Define, PostPost}
 use Rattle.commands.specs.Kinds.{is}
 use Rattle.commands.specs.Commands.{Command, kindOfCommand, place}
 use Rattle.commands.specs.Parameters.{fontScale, fontDesignSize}
-use Rattle.commands.proofs.Ranges.{below-or-not}
+use Rattle.numbers.proofs.Radix.{less-or-not}
 use Rattle.list.specs.Past.{stage, isAfterPost, fontNumber, body, defines, Definition, none, stands, definitionOf, isDefined, fontCount}
 use Rattle.list.specs.Rules.{lawfulFont, says, Allowed}
 use Rattle.list.specs.Lawful.{Keeps}
@@ -56,7 +56,7 @@ tally-more f g m (suc n) off on same h = by (eqb n m) refl (tally-more f g m n o
         let up = tally-wider f g n (λ k l t. same k (λ z. omega arith) ∙ t) in
         let down = tally-wider g f n (λ k l t. sym (same k (λ z. omega arith)) ∙ t) in
         rw (off-here, on-here) (omega (arith, up, down))
-    by false e below = let other = eqb-false n m e in rw (same n other) (both (f n) (below (⊎-elim (λ l. l) (λ l. absurd (other (omega arith))) (below-or-not m n))))
+    by false e below = let other = eqb-false n m e in rw (same n other) (both (f n) (below (⊎-elim (λ l. l) (λ l. absurd (other (omega arith))) (less-or-not m n))))
       where
         both : (x : Bool) → tally g n ≡ tally f n + 1 → cond x (tally g n + 1) (tally g n) ≡ cond x (tally f n + 1) (tally f n) + 1
         both true q = omega arith

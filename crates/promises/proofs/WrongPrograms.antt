@@ -14,7 +14,7 @@ use Rattle.list.specs.Lawful.{Lawful}
 use Rattle.volume.specs.Judged.{judged}
 use Rattle.volume.specs.Starred.{M, onePage, files-hold}
 use Rattle.volume.proofs.Accepts.{accepts-lawful}
-use Rattle.page.specs.Records.{allBytes}
+use Rattle.placements.specs.Records.{allBytes}
 use Rattle.page.specs.Answers.{placedPage, placedAccepted, countsOf, placedCounts, areaAfter}
 use Rattle.page.specs.Printed.{example, printed, printed-placed, printedBytes, printed-bytes}
 use Rattle.reader.specs.declared.FileChecked.{FileChecked}

@@ -11,10 +11,10 @@ use Rattle.commands.specs.Parameters.{ruleHeight, ruleWidth}
 use Rattle.state.specs.declared.moving.Direction.the-variants.{Sideways}
 use Rattle.state.specs.Moving.{strays, settled}
 use Rattle.state.specs.Registers.{State, freshState, atSpot}
-use Rattle.page.specs.declared.Record.{Record}
-use Rattle.page.specs.PageList.{Located}
-use Rattle.page.specs.Placing.{Setting, Added, nothing, placed, missing, special, continues, withNumbers, ruleAdded, after, Contents, placing}
-use Rattle.page.specs.Blocks.{to, afterAll}
+use Rattle.placements.specs.declared.Record.{Record}
+use Rattle.turns.specs.Placing.{Located, Setting, continues, withNumbers, ruleAdded, after, Contents, placing}
+use Rattle.placements.specs.Records.{Added, nothing, placed, missing, special}
+use Rattle.turns.specs.Blocks.{to, afterAll}
 
 -- the record that a command adds, if it adds one (rule 8.3)
 abbrev pub recordAdded : Added → List Record

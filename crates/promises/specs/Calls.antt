@@ -14,9 +14,9 @@ use Rattle.list.specs.Past.{num, den, mag}
 use Rattle.volume.specs.Judged.{judged}
 use Rattle.volume.specs.History.{history}
 use Rattle.state.specs.Registers.{unselected}
-use Rattle.page.specs.PageList.{Located, pageOf}
-use Rattle.page.specs.Placing.{Setting, Contents}
-use Rattle.page.specs.Counting.{Seen, withFonts}
+use Rattle.turns.specs.Placing.{Located, Setting, Contents}
+use Rattle.page.specs.PageList.{pageOf}
+use Rattle.turns.specs.Counting.{Seen, withFonts}
 use Rattle.page.specs.Answers.{pageOutside, settingOf, placedPage}
 use Rattle.page.specs.Printed.{example}
 

@@ -9,7 +9,7 @@ use Rattle.list.specs.declared.Part.{Part}
 use Rattle.list.specs.Past.{pages, definitionOf}
 use Rattle.volume.specs.OfList.{pastOf}
 use Rattle.volume.specs.Names.{namedBy}
-use Rattle.page.specs.Placing.{Contents}
+use Rattle.turns.specs.Placing.{Contents}
 use Rattle.page.specs.Answers.{placedIn}
 
 -- where the name of a font stands, by the list's definition before post (rule 9.4)

@@ -20,7 +20,7 @@ use Rattle.volume.specs.History.{history}
 use Rattle.state.specs.declared.Font.{Font}
 use Rattle.state.specs.Registers.{freshState}
 use Rattle.page.specs.PageList.{pageOf}
-use Rattle.page.specs.Placing.{Setting, Contents, placing}
+use Rattle.turns.specs.Placing.{Setting, Contents, placing}
 use Rattle.page.specs.Answers.{pageOutside, withRoom}
 
 -- what the old look-up finds for a font's character, by check sum, scale and code: what the font is called does not matter (rule 13.4)

@@ -18,8 +18,8 @@ use Rattle.commands.specs.Commands.{frontAfter}
 use Rattle.list.specs.Rules.{sameBytes}
 use Rattle.volume.specs.Judged.{tail, judgedFrom, judged}
 use Rattle.volume.specs.History.{history, historyFrom}
-use Rattle.page.specs.declared.Record.{Record}
-use Rattle.page.specs.Placing.{Contents, after, placing}
+use Rattle.placements.specs.declared.Record.{Record}
+use Rattle.turns.specs.Placing.{Contents, after, placing}
 use Rattle.page.specs.Answers.{placedPage}
 use Rattle.promises.specs.OldTables.{oldPlacedPage}
 

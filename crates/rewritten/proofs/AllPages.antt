@@ -8,7 +8,7 @@ use native.Mathlib.Omega.{arith}
 use lib.Dec.{eqb}
 use lib.ListN.{length, length-append}
 use borrow.Author.Tests.{lt-ltb, le-leb}
-use Rattle.commands.proofs.Ranges.{below-or-not}
+use Rattle.numbers.proofs.Radix.{less-or-not}
 use Rattle.cutting.specs.Chosen.{isIn, isEmpty, risesFrom, wrongList}
 use Rattle.rewritten.specs.OldWords.{pagesUpTo}
 use Rattle.rewritten.proofs.Numbers.{rises-on, in-there}
@@ -27,7 +27,7 @@ up-to-has zero page low high = absurd (omega arith)
 up-to-has (suc last) page low high =
     ⊎-elim (λ l. in-front (pagesUpTo last) (suc last ∷ []) page (up-to-has last page low (omega arith)))
     (λ (g : suc last ≤ page). let same : page ≡ suc last = omega arith in rw same (in-there (pagesUpTo last) (suc last) []))
-    (below-or-not page (suc last))
+    (less-or-not page (suc last))
 
 -- they are as many
 pub up-to-length : (last : ℕ) → length (pagesUpTo last) ≡ last

@@ -10,7 +10,7 @@ use lib.Seq.{getD-append-add}
 use Rattle.numbers.proofs.Bytes.{unsigned-below}
 use Rattle.widths.specs.AsBytes.{Bytes}
 use Rattle.commands.specs.Commands.{Command, kindOfCommand, form, written}
-use Rattle.commands.proofs.Ranges.{below-or-not}
+use Rattle.numbers.proofs.Radix.{less-or-not}
 use Rattle.list.specs.Past.{stage, isAfterPost, pages}
 use Rattle.cutting.specs.CutList.{onto}
 use Rattle.rewritten.proofs.Unwinding.{Sound, start, more}
@@ -23,7 +23,7 @@ abbrev Everywhere : List ℕ → Type 0
 Everywhere l = (i : ℕ) → getD l i 0 < 256
 
 everywhere : (l : List ℕ) → Bytes l → Everywhere l
-everywhere l b i = ⊎-elim (b i) (λ (g : length l ≤ i). rw (List·getD-eq-default l 0 g) (omega arith)) (below-or-not i (length l))
+everywhere l b i = ⊎-elim (b i) (λ (g : length l ≤ i). rw (List·getD-eq-default l 0 g) (omega arith)) (less-or-not i (length l))
 
 -- so are the parameters of all commands
 data AllBytes : List Command → Type 0 where
@@ -39,7 +39,7 @@ bytes-of (c ∷ past) cs b =
     inside : Everywhere (form c ++ written cs) → Everywhere (c .params)
     inside here i =
         ⊎-elim (λ l. subst (λ (n : ℕ). n < 256) (List·getD-append (c .params) (written cs) 0 i l) (here (suc i)))
-        (λ (g : length (c .params) ≤ i). rw (List·getD-eq-default (c .params) 0 g) (omega arith)) (below-or-not i (length (c .params)))
+        (λ (g : length (c .params) ≤ i). rw (List·getD-eq-default (c .params) 0 g) (omega arith)) (less-or-not i (length (c .params)))
 
 few-there : {past : List Command} → Sound past → AllBytes past → isAfterPost (stage past) ≡ true → pages past < 65536
 few-there start b t = omega arith

@@ -13,7 +13,8 @@ use Rattle.list.specs.declared.Stage.the-variants.{BeforePages, OnPage, Between
 use Rattle.list.specs.Past.{isA, stage, isOnPage, isAfterPost, pages}
 use Rattle.list.specs.Rules.{Allowed}
 use Rattle.list.proofs.Arms.{is-kind}
-use Rattle.page.specs.PageList.{Located, isOn, pageOf}
+use Rattle.turns.specs.Placing.{Located}
+use Rattle.page.specs.PageList.{isOn, pageOf}
 use Rattle.cutting.specs.CutList.{opening, mended, cutAfter, cutPast}
 use Rattle.cutting.proofs.Turning.{Outside, Inner, Turn, starts, idles, defines-early, begins, within, finishes, posts, idles-late, defines-again, ends, turn-of}
 use Rattle.rewritten.specs.OldWords.{newNumber, newPlaceAfter, newPlace}

@@ -21,10 +21,10 @@ use Rattle.volume.specs.declared.Summary.{Summary}
 use Rattle.volume.specs.Judged.{judged}
 use Rattle.volume.specs.History.{history}
 use Rattle.state.specs.Registers.{freshState}
-use Rattle.page.specs.declared.Counts.{Counts}
-use Rattle.page.specs.Records.{placementRecordSize}
+use Rattle.placements.specs.declared.Counts.{Counts}
+use Rattle.placements.specs.Records.{placementRecordSize}
 use Rattle.page.specs.PageList.{pageOf}
-use Rattle.page.specs.Placing.{Contents, placing}
+use Rattle.turns.specs.Placing.{Contents, placing}
 use Rattle.page.specs.Answers.{pageOutside, settingIn, withRoom, placedIn, placedAccepted, placedPage, countsOf, placedCounts}
 use Rattle.cutting.specs.Chosen.{isIn, wrongList}
 use Rattle.cutting.specs.CutFile.{cutFile}

@@ -22,9 +22,8 @@ use Rattle.state.specs.declared.registers.Register.{Register}
 use Rattle.state.specs.declared.registers.Register.the-variants as Register
 use Rattle.state.specs.Moving.{leaves}
 use Rattle.state.specs.Registers.{State, spotOf, movedBy, registerOf, directionOf}
-use Rattle.page.specs.Records.{ruleRecord}
-use Rattle.page.specs.PageList.{Located}
-use Rattle.page.specs.Placing.{Setting, fontBy, Added, nothing, placed, missing, special, Outcome, continues, leavesRange, withNumbers, setCharacter, putCharacter, isVisible, ruleAdded, plainMove, distanceOr, registerMove, afterKind, after, Contents, adding, onOutcome, placing}
+use Rattle.placements.specs.Records.{ruleRecord, Added, nothing, placed, missing, special}
+use Rattle.turns.specs.Placing.{Located, Setting, fontBy, Outcome, continues, leavesRange, withNumbers, setCharacter, putCharacter, isVisible, ruleAdded, plainMove, distanceOr, registerMove, afterKind, after, Contents, adding, onOutcome, placing}
 use Rattle.rewritten.specs.Unplaced.{unplaced}
 use Rattle.rewritten.specs.Renumbered.{recordOn, renumbered}
 

@@ -8,7 +8,8 @@ use borrow.Author.Tests.{eq-eqb, ne-eqb}
 use Rattle.commands.specs.declared.Kind.the-variants.{Define}
 use Rattle.commands.specs.Commands.{Command, place}
 use Rattle.list.specs.Past.{isA}
-use Rattle.page.specs.PageList.{Located, isOn, pageOf}
+use Rattle.turns.specs.Placing.{Located}
+use Rattle.page.specs.PageList.{isOn, pageOf}
 use Rattle.cutting.specs.CutList.{cutAfter}
 use Rattle.rewritten.specs.OldWords.{newPlaceAfter}
 use Rattle.rewritten.proofs.Likeness.{movedCommands}

@@ -8,7 +8,7 @@ use native.Mathlib.Omega.{arith}
 use lib.Dec.{eqb, ltb, leb}
 use lib.ListN.{length}
 use borrow.Author.Tests.{eqb-true, eqb-false, eq-eqb, ne-eqb, ltb-true, leb-true, leb-false, le-leb, lt-leb, not-false}
-use Rattle.commands.proofs.Ranges.{below-or-not}
+use Rattle.numbers.proofs.Radix.{less-or-not}
 use Rattle.cutting.specs.Chosen.{isIn, isEmpty, risesFrom, wrongList}
 use Rattle.rewritten.specs.OldWords.{newNumber}
 use Rattle.rewritten.proofs.Along.{number-positive}
@@ -26,7 +26,7 @@ module _ (chosen : ℕ → Bool) where
   pub number-le : (p q : ℕ) → p ≤ q → newNumber chosen p ≤ newNumber chosen q
   number-le p zero h = let e : p ≡ 0 = omega arith in rw e (omega arith)
   number-le p (suc q) h =
-      ⊎-elim (λ l. omega (arith, number-le p q (omega arith), number-grows q)) (λ (g : suc q ≤ p). let e : p ≡ suc q = omega arith in rw e (omega arith)) (below-or-not p (suc q))
+      ⊎-elim (λ l. omega (arith, number-le p q (omega arith), number-grows q)) (λ (g : suc q ≤ p). let e : p ≡ suc q = omega arith in rw e (omega arith)) (less-or-not p (suc q))
 
   -- a chosen page has a higher one than the pages before it
   number-lt : (p q : ℕ) → p < q → chosen q ≡ true → newNumber chosen p < newNumber chosen q
@@ -42,7 +42,7 @@ module _ (chosen : ℕ → Bool) where
       by false e =
           ne-eqb (newNumber chosen p) (newNumber chosen q)
           (λ same. ⊎-elim (λ l. omega (arith, number-lt p q l t))
-          (λ g. ⊎-elim (λ l. omega (arith, number-lt q p l s)) (λ h. eqb-false p q e (omega arith)) (below-or-not q p)) (below-or-not p q))
+          (λ g. ⊎-elim (λ l. omega (arith, number-lt q p l s)) (λ h. eqb-false p q e (omega arith)) (less-or-not q p)) (less-or-not p q))
 
 -- ---- a right list
 

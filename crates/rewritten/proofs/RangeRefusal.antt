@@ -21,12 +21,12 @@ use Rattle.commands.specs.declared.Kind.the-variants.{Define}
 use Rattle.commands.specs.Commands.{Command}
 use Rattle.list.specs.Past.{isA, num, den, mag}
 use Rattle.state.specs.Registers.{State, freshState}
-use Rattle.page.specs.Records.{placementRecordSize}
-use Rattle.page.specs.PageList.{Located, pageOf}
-use Rattle.page.specs.Placing.{Setting, continues, leavesRange, nothing, Contents, placing}
-use Rattle.page.specs.Counting.{LeavesAt, now, later}
+use Rattle.placements.specs.Records.{placementRecordSize, nothing}
+use Rattle.turns.specs.Placing.{Located, Setting, continues, leavesRange, Contents, placing}
+use Rattle.page.specs.PageList.{pageOf}
+use Rattle.turns.specs.Counting.{LeavesAt, now, later}
 use Rattle.page.specs.Answers.{pageOutside, settingIn, withRoom, placedIn}
-use Rattle.page.proofs.CountLaws.{refused-place}
+use Rattle.turns.proofs.CountLaws.{refused-place}
 use Rattle.rewritten.proofs.Likeness.{define-quiet}
 use Rattle.rewritten.proofs.Standing.{IsAmong}
 

@@ -4,8 +4,8 @@ use mathlib.Core.Path.{_≡_, refl}
 use mathlib.Core.List.{_++_}
 use lib.ListN.{take, drop}
 use Rattle.numbers.specs.Bytes.{bytesOf}
-use Rattle.page.specs.declared.Record.{Record}
-use Rattle.page.specs.Records.{recordBytes}
+use Rattle.placements.specs.declared.Record.{Record}
+use Rattle.placements.specs.Records.{recordBytes}
 use Rattle.rewritten.specs.Renumbered.{recordOn}
 
 -- bytes 2 and 3 are the page's, all others stay (rules 8.1, 12.6)

@@ -10,7 +10,8 @@ use Rattle.commands.specs.declared.Kind.the-variants.{Eop, Define}
 use Rattle.commands.specs.Commands.{Command, kindOfCommand, place}
 use Rattle.list.specs.Past.{isA, stage, isOnPage, pages}
 use Rattle.list.specs.Rules.{Allowed}
-use Rattle.page.specs.PageList.{Located, isOn, pageOf}
+use Rattle.turns.specs.Placing.{Located}
+use Rattle.page.specs.PageList.{isOn, pageOf}
 use Rattle.cutting.specs.CutList.{opening, stays, mended, cutAfter, cutPast}
 use Rattle.cutting.proofs.Turning.{Turn, starts, idles, defines-early, begins, within, finishes, posts, idles-late, defines-again, ends, turn-of}
 use Rattle.rewritten.specs.OldWords.{newPlaceAfter}

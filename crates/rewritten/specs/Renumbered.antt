@@ -5,8 +5,8 @@ use mathlib.Core.List.{map}
 use lib.Dec.{eqb}
 use Rattle.refusals.specs.Numbers.{positionOutOfRange}
 use Rattle.refusals.specs.Answer.{Answer, refused, given}
-use Rattle.page.specs.declared.Record.{Record}
-use Rattle.page.specs.Placing.{Contents}
+use Rattle.placements.specs.declared.Record.{Record}
+use Rattle.turns.specs.Placing.{Contents}
 
 -- a record on another page (rule 12.6)
 abbrev pub recordOn : ℕ → Record → Record

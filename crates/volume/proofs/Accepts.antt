@@ -9,7 +9,7 @@ use lib.ListN.{length, length-append}
 use Rattle.refusals.specs.Answer.{Answer, refused, given}
 use Rattle.commands.specs.Commands.{Command, written, place}
 use Rattle.commands.specs.Reading.{longestFile}
-use Rattle.commands.proofs.Ranges.{below-or-not}
+use Rattle.numbers.proofs.Radix.{less-or-not}
 use Rattle.commands.proofs.Fronts.{front-written, front-sound}
 use Rattle.volume.specs.declared.Summary.{Summary}
 use Rattle.list.specs.Lawful.{fillers, Follows, ends, goes, Keeps, Lawful}
@@ -45,7 +45,7 @@ tail-sound : (found : Summary) (at : ℕ) (bytes : List ℕ) (s : Summary) → t
 tail-sound found at bytes s e = go (ending bytes)
   where
     go : Ending bytes → (n : ℕ) × (bytes ≡ written (fillers n)) × (4 ≤ n)
-    go (ended n q) = (n, q, ⊎-elim (λ few. absurd (refused-given (fillers-few found at n q few) e)) (λ enough. enough) (below-or-not n 4))
+    go (ended n q) = (n, q, ⊎-elim (λ few. absurd (refused-given (fillers-few found at n q few) e)) (λ enough. enough) (less-or-not n 4))
     go (other n byte rest q h) = absurd (refused-given (fillers-wrong found at n byte rest q h) e)
 
 -- the bytes are the written form of a list that goes on by the rules
@@ -81,7 +81,7 @@ pub lawful-accepted : (file : List ℕ) → Lawful file → (s : Summary) × (ju
 lawful-accepted file lawful = (counts (lawful .1 .0), lawful-counts file lawful)
 
 pub accepts-lawful : (file : List ℕ) (s : Summary) → judged file ≡ given s → Lawful file
-accepts-lawful file s e = ⊎-elim long short (below-or-not longestFile (length file))
+accepts-lawful file s e = ⊎-elim long short (less-or-not longestFile (length file))
   where
     long : longestFile < length file → Lawful file
     long h = absurd (refused-given (judged-long file h) e)

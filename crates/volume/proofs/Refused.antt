@@ -12,7 +12,7 @@ use Rattle.refusals.specs.Answer.{Answer, refused}
 use Rattle.commands.specs.declared.Kind.the-variants.{PostPost}
 use Rattle.commands.specs.Commands.{Command, Whole, form, written, Front, cut, undefined, whole, front, place}
 use Rattle.commands.specs.Reading.{longestFile}
-use Rattle.commands.proofs.Ranges.{below-or-not}
+use Rattle.numbers.proofs.Radix.{less-or-not}
 use Rattle.commands.proofs.Fronts.{after-undefined, front-written, front-sound, front-length, undefined-first}
 use Rattle.volume.specs.declared.Summary.{Summary}
 use Rattle.list.specs.Past.{isA}
@@ -58,7 +58,7 @@ refused-is (later {past = past} c rest w allowed not-last r) (suc left) h =
 
 cut-low : (bytes : List ℕ) → front bytes ≡ cut → getD bytes 0 0 < 250
 cut-low [] e = omega arith
-cut-low (opcode ∷ rest) e = ⊎-elim (λ low. low) high (below-or-not opcode 250)
+cut-low (opcode ∷ rest) e = ⊎-elim (λ low. low) high (less-or-not opcode 250)
   where
     high : 250 ≤ opcode → opcode < 250
     high h = let z : _≡_ {A = ℕ} 0 1 = cc (after-undefined opcode rest h) in absurd (omega arith)
@@ -80,7 +80,7 @@ module _ {past : List Command} (number at : ℕ) (c : Command) (rest : List ℕ)
   after = place (c ∷ past)
 
   by-ending : Ending rest → RefusesAt past (form c ++ rest) number at
-  by-ending (ended n q) = ⊎-elim few enough (below-or-not n 4)
+  by-ending (ended n q) = ⊎-elim few enough (less-or-not n 4)
     where
       few : n < 4 → RefusesAt past (form c ++ rest) number at
       few h = same-refusal (fillers-few found after n q h) e (rw q (too-few c n w allowed last h))
@@ -128,7 +128,7 @@ module _ (file : List ℕ) (number at : ℕ) where
   refuses-file (inr (short, r)) = judged-short file short ∙ refused-is r (suc (length file)) (omega arith)
 
   pub file-refuses : judged file ≡ refused number at → FileRefuses file number at
-  file-refuses e = ⊎-elim long short (below-or-not longestFile (length file))
+  file-refuses e = ⊎-elim long short (less-or-not longestFile (length file))
     where
       long : longestFile < length file → FileRefuses file number at
       long h = let same : refused fileTooLong 0 ≡ refused number at = sym (judged-long file h) ∙ e in inl (h, cc, cc)

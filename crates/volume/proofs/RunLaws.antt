@@ -11,7 +11,8 @@ use borrow.Author.Tests.{lt-ltb}
 use Rattle.commands.specs.Kinds.{kindOf}
 use Rattle.commands.specs.Lengths.{fixedLength, sizeOf}
 use Rattle.commands.specs.Commands.{front, whole}
-use Rattle.commands.proofs.Ranges.{below-or-not, constant-on}
+use Rattle.numbers.proofs.Radix.{less-or-not}
+use Rattle.commands.proofs.Ranges.{constant-on}
 use Rattle.commands.proofs.Opcodes.{from-250}
 use Rattle.commands.proofs.Lengths.{inner-below}
 use Rattle.commands.proofs.Fronts.{after-whole, front-at}
@@ -20,7 +21,7 @@ use Rattle.volume.specs.Steps.{isPlain, Passes, none-more, one-more}
 
 -- a plain opcode is below those with a length inside
 pub plain-below : (opcode : ℕ) → isPlain (kindOf opcode) ≡ true → opcode < 171
-plain-below opcode e = ⊎-elim (λ h. h) (λ above. absurd (true≢false (sym e ∙ ⊎-elim (defined above) beyond (below-or-not opcode 250)))) (below-or-not opcode 171)
+plain-below opcode e = ⊎-elim (λ h. h) (λ above. absurd (true≢false (sym e ∙ ⊎-elim (defined above) beyond (less-or-not opcode 250)))) (less-or-not opcode 171)
   where
     defined : 171 ≤ opcode → opcode < 250 → isPlain (kindOf opcode) ≡ false
     defined low high = constant-on (λ x. isPlain (kindOf x)) false 171 79 (unfold kindOf in refl) low (omega arith)

@@ -16,7 +16,7 @@ use Rattle.commands.specs.Kinds.{kindOf}
 use Rattle.commands.specs.Lengths.{fixedLength, sizeOf}
 use Rattle.commands.specs.Commands.{Command, kindOfCommand, front, whole}
 use Rattle.commands.specs.Parameters.{selectedFont}
-use Rattle.commands.proofs.Ranges.{below-or-not}
+use Rattle.numbers.proofs.Radix.{less-or-not}
 use Rattle.commands.proofs.Opcodes.{kind-range, range-kind}
 use Rattle.commands.proofs.Lengths.{fixed-of, inner-below}
 use Rattle.commands.proofs.Fronts.{after-whole, front-at}

@@ -7,7 +7,7 @@ use borrow.Author.Needs.{needs}
 use denote.Ref.{now}
 use lib.ListN.{length}
 use Rattle.refusals.specs.Answer.{Answer}
-use Rattle.page.specs.Placing.{Contents}
+use Rattle.turns.specs.Placing.{Contents}
 use Rattle.page.specs.Answers.{placedPage, placedCounts, areaAfter}
 use Rattle.reader.specs.declared.Placed as reader
 use Rattle.reader.specs.Answers.{placedAnswer}

@@ -6,7 +6,7 @@ use lib.ListN.{length}
 use denote.Ref.{now}
 use Rattle.refusals.specs.Answer.{Answer}
 use Rattle.page.specs.declared.PagePlaced.{PagePlaced}
-use Rattle.page.specs.Placing.{Contents}
+use Rattle.turns.specs.Placing.{Contents}
 use Rattle.page.specs.Answers.{placedPage, placedCounts}
 use Rattle.page.specs.Steps.{placeAnswer}
 use Rattle.page.proofs.PlaceLaws.{refused-kept}

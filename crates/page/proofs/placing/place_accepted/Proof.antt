@@ -17,7 +17,7 @@ use Rattle.list.specs.Past.{num, den, mag}
 use Rattle.volume.specs.History.{history}
 use Rattle.state.specs.Registers.{freshState}
 use Rattle.page.specs.PageList.{pageOf}
-use Rattle.page.specs.Placing.{lookIn, Contents, placing}
+use Rattle.turns.specs.Placing.{lookIn, Contents, placing}
 use Rattle.page.specs.Answers.{withRoom, placedAccepted, placedCounts, areaAfter}
 use Rattle.page.proofs.PlaceLaws.{refused-to, unit-refused, table-refused, page-zero, page-beyond, page-there, held-units, held-unit, held-start, held-short, held-ready}
 use Rattle.page.proofs.placing.place_accepted.Statement.{statement}

@@ -1,5 +1,5 @@
 -- `page::placing::place_commands` meets its contract: the first walk judges and counts, the second writes. Assumes nothing.
-use mathlib.Core.Path.{_≡_, refl, sym, ap, _∙_, subst}
+use mathlib.Core.Path.{_≡_, refl, ap, _∙_, subst}
 use mathlib.Core.List.{List, [], _∷_, _++_}
 use Prim.Native.Nat.{ℕ, _*_, _<_, _≤_}
 use native.Mathlib.Omega.{arith}
@@ -9,13 +9,14 @@ use denote.Ref.{now}
 use Rattle.refusals.specs.Answer.{Answer}
 use Rattle.volume.specs.History.{history}
 use Rattle.state.specs.Registers.{freshState}
-use Rattle.page.specs.declared.Counts.{Counts}
+use Rattle.placements.specs.declared.Counts.{Counts}
 use Rattle.page.specs.declared.Walked.{Walked}
 use Rattle.page.specs.declared.Walked.the-variants as Walked
-use Rattle.page.specs.Records.{placementRecordSize}
+use Rattle.placements.specs.Records.{placementRecordSize}
 use Rattle.page.specs.PageList.{pageOf}
-use Rattle.page.specs.Placing.{Contents, placing}
-use Rattle.page.specs.Steps.{termsSetting, zeroCounts, finish, endingOf, Few}
+use Rattle.turns.specs.Placing.{Contents, placing}
+use Rattle.turns.specs.Steps.{termsSetting}
+use Rattle.page.specs.Steps.{zeroCounts, finish, endingOf, Few}
 use Rattle.page.proofs.PlaceLaws.{Through, walk-through, walk-again, left-to, short-to, all-to}
 use Rattle.page.proofs.placing.place_commands.Statement.{statement}
 use Rattle.page.proofs.placing.place_commands.Tie as tie

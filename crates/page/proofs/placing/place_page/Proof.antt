@@ -1,5 +1,5 @@
 -- `page::placing::place_page` meets its contract: the file is judged first, then the page. Assumes nothing.
-use mathlib.Core.Path.{_≡_, refl, sym, ap, _∙_, subst}
+use mathlib.Core.Path.{refl, sym, ap, _∙_, subst}
 use mathlib.Core.List.{List}
 use Prim.Native.Nat.{ℕ}
 use borrow.Author.Needs.{needs}
@@ -8,7 +8,7 @@ use denote.Ref.{now}
 use Rattle.refusals.specs.Answer.{Answer, andThen}
 use Rattle.volume.specs.declared.Summary.{Summary}
 use Rattle.volume.specs.Steps.{scanAnswer, ScanKeeps}
-use Rattle.page.specs.Placing.{Contents}
+use Rattle.turns.specs.Placing.{Contents}
 use Rattle.page.specs.Answers.{placedAccepted, placedCounts, areaAfter}
 use Rattle.page.proofs.PlaceLaws.{refused-to}
 use Rattle.page.proofs.placing.place_page.Statement.{statement}

@@ -22,19 +22,21 @@ use Rattle.state.specs.declared.moving.Ruler.{Ruler}
 use Rattle.state.specs.Registers.{State, zeroLevel, pushed, popped, movedBy, characterMoved, directionOf, movedByRegister}
 use Rattle.state.specs.Steps.{pageState, savedOf, withLevel, Ruled, Bounded}
 use Rattle.state.proofs.Levels.{bounded-moved, bounded-by-register, bounded-character, stored}
-use Rattle.page.specs.declared.Turn.{Turn}
-use Rattle.page.specs.declared.Turn.the-variants as Turn
-use Rattle.page.specs.declared.Step.{Step}
-use Rattle.page.specs.Placing.{Setting, continues, withNumbers, fontOf}
-use Rattle.page.specs.Blocks.{inside}
-use Rattle.page.specs.declared.Kept.{Kept}
+use Rattle.turns.specs.declared.Turn.{Turn}
+use Rattle.turns.specs.declared.Turn.the-variants as Turn
+use Rattle.turns.specs.declared.Step.{Step}
+use Rattle.turns.specs.Placing.{Setting, continues, withNumbers, fontOf}
+use Rattle.turns.specs.Blocks.{inside}
+use Rattle.turns.specs.declared.Kept.{Kept}
 use Rattle.page.specs.declared.Seen.{Seen}
-use Rattle.page.specs.Steps.{addedOf, did, termsSetting, Known, KeptFor, zeroSeen, AllSeen, StepAsks, Stays, Safe, turnFrame}
-use Rattle.page.proofs.Frames.{isEnding, depthBy}
+use Rattle.placements.specs.Steps.{addedOf}
+use Rattle.turns.specs.Steps.{did, termsSetting, Known, KeptFor, StepAsks, Stays, Safe, turnFrame}
+use Rattle.page.specs.Steps.{zeroSeen, AllSeen}
+use Rattle.turns.proofs.Frames.{isEnding, depthBy}
 use Rattle.page.proofs.PageRuns.{runs-inside}
 use Rattle.page.proofs.Remembered.{none-kept, nothing-seen, seen-stored}
 use Rattle.page.proofs.WalkLaws.{Sound, state-sound, popped-bounded, popped-font, Walking, starting, advances, few, in-ranges, onwards, leveled, push-room, pop-room, ended, left}
-use Rattle.page.proofs.Words.{word, small-word}
+use Rattle.turns.proofs.Words.{word, small-word}
 use Rattle.page.proofs.walking.walk.Statement.{statement}
 use Rattle.page.proofs.walking.walk.Tie as tie
 
@@ -82,7 +84,7 @@ module _ (c : tie.After-step-at Inv-loop μ-loop) where
   here = head .loop .inv .0
 
   asks : StepAsks (now (entry .args .file)) (head .loop .at) (termsSetting (entry .args .terms) (now (entry .args .widths)) (history (now (entry .args .file)))) (head .loop .page .now) (head .loop .page .font) step
-  asks = c .step-at .ensures
+  asks = c .step-at .ensures (history (now (entry .args .file)))
 
   ruled : Ruled (entry .args .terms .ruler) (head .loop .page .font .scale)
   ruled = record { unit = here .ready .unit; drift-small = here .ready .drift-small; scale-small = here .sound .known .scale-small }

@@ -1,0 +1,4 @@
+pub mod Placing
+pub mod Counting
+pub mod Blocks
+pub mod Steps
