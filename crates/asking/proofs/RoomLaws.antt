@@ -1,9 +1,9 @@
 -- The records that placing gives back are within the area that it was lent: the area keeps its length, and begins with them. Assumes nothing.
 use mathlib.Core.Path.{_≡_, ap}
 use mathlib.Core.List.{List, [], _∷_}
-use Prim.Native.Nat.{ℕ, _*_, _-_, _≤_}
+use Prim.Native.Nat.{ℕ, _*_, _≤_}
 use native.Mathlib.Omega.{arith}
-use lib.ListN.{length, drop, length-append, length-drop}
+use lib.ListN.{length, length-append, length-drop}
 use Rattle.refusals.specs.Answer.{Answer, refused, given}
 use Rattle.placements.specs.declared.Counts.{Counts}
 use Rattle.placements.specs.declared.Record.{Record}

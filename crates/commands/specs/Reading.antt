@@ -6,7 +6,7 @@ use lib.ListN.{length, drop}
 use Rattle.refusals.specs.Numbers.{fileTooLong, fileEnds, undefinedOpcode}
 use Rattle.refusals.specs.Answer.{Answer, refused, given, refuseIf}
 use Rattle.commands.specs.declared.Reading.{Reading}
-use Rattle.commands.specs.Commands.{Command, Front, cut, undefined, whole, front}
+use Rattle.commands.specs.Commands.{Front, cut, undefined, whole, front}
 
 -- the opcode, where its parameters start, and the place behind them (rule 9.3)
 abbrev pub reading : ℕ → Front → Answer Reading

@@ -5,7 +5,6 @@ use mathlib.Core.Bool.{true, false, true≢false}
 use mathlib.Core.List.{List, [], _∷_}
 use native.Mathlib.Omega.{arith}
 use Rattle.commands.specs.declared.Kind.the-variants.{PostPost}
-use Rattle.commands.specs.Kinds.{is}
 use Rattle.commands.specs.Commands.{Command, kindOfCommand, place}
 use Rattle.list.specs.Past.{isA, stage, isOnPage, isAfterPost, pages}
 use Rattle.list.specs.Rules.{Allowed}

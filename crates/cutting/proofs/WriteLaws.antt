@@ -15,7 +15,6 @@ use Rattle.commands.specs.Kinds.{is}
 use Rattle.commands.specs.Commands.{Command, kindOfCommand, Whole, form, whole, front, place}
 use Rattle.commands.proofs.Fronts.{front-sound}
 use Rattle.list.specs.Past.{greatest, pages, lastBop, postPlace}
-use Rattle.list.specs.Lawful.{goes}
 use Rattle.areas.proofs.Pasting.{sets-behind, sets-apart}
 use Rattle.cutting.specs.declared.Fate.{Fate}
 use Rattle.cutting.specs.declared.Fate.the-variants as Fate

@@ -27,9 +27,6 @@ ghost use Rattle.turns.specs.Placing.{placing};
 ghost use Rattle.turns.specs.Steps.{Known, KeptFor, termsSetting};
 ghost use Rattle.page.specs.Steps.{Told, SeenIs, Ready, zeroCounts, finish, endingOf, Few};
 
-// How many fonts a walk remembers: as many as a file may have, each in the place of its number modulo this.
-const FONTS: u64 = 64;
-
 // The hint for the font that is selected now, in exchange for that of the font before, so that no font's search starts from nothing again.
 fn exchanged(hints: &mut [usize; 256], before: u64, after: u64, hint: usize) -> usize {
     hints[(before % 256) as usize] = hint;
@@ -42,9 +39,9 @@ fn kept_for(widths: &[u8], rows: usize, font: Font) -> Kept
     ensures { λ r. ⌜ KeptFor (now (widths .entry)) rows font r ⌝ }
 {
     let name = font.name;
-    let zeros = Name { high: 0, low: 0 };
+    let any_name = Name { high: 0, low: 0 };
     let own = blocks::block_of(widths, rows, font.checksum, font.scale, name);
-    let any = blocks::block_of(widths, rows, font.checksum, font.scale, zeros);
+    let any = blocks::block_of(widths, rows, font.checksum, font.scale, any_name);
     Kept {
         sixteenfold: scaling::sixteenfold_of(font.scale),
         own: own,
@@ -75,7 +72,8 @@ fn recalled(
 }
 
 // Walks over the page whose commands start at a place, counts what they add, and writes each record that the area has room for. A font's scale is halved, and its
-// records are sought in the table, where the font is selected first, not at each of its characters.
+// records are sought in the table, where the font is selected, not at each of its characters; and what was found is remembered, in as many slots as a file may
+// have fonts, by the font's number modulo these.
 pub fn walk(
     file: &[u8],
     widths: &[u8],
@@ -114,7 +112,7 @@ pub fn walk(
         kept: kept,
     };
     let mut hints = [0usize; 256];
-    let mut seen = [none; 64];
+    let mut seen = [none; Page::FONTS];
     let table = commands::length_table();
     loop {
         let now = page.now;
@@ -159,10 +157,10 @@ pub fn walk(
             }
             Turn::Select(number) => {
                 let before = page.font;
-                let place = (numbers::magnitude(number) % FONTS) as usize;
-                let last = seen[place];
+                let slot = numbers::magnitude(number) as usize % Page::FONTS;
+                let last = seen[slot];
                 let found = recalled(file, fonts, widths, terms.rows, number, last);
-                seen[place] = found;
+                seen[slot] = found;
                 let font = found.font;
                 hint = exchanged(&mut hints, before.number, font.number, hint);
                 kept = found.kept;

@@ -1,9 +1,8 @@
 // The records of a page in the output area, and their counts.
 ghost use mathlib.Core.Path.{_≡_};
 ghost use mathlib.Core.List.{_++_};
-ghost use Prim.Native.Nat.{_+_, _≤_, _<_, _^_};
+ghost use Prim.Native.Nat.{_+_, _≤_, _<_};
 ghost use lib.ListN.{length, take, drop};
-ghost use lib.IntN.{natAbs};
 ghost use Rattle.placements.specs.Records.{recordBytes};
 ghost use Rattle.placements.specs.Steps.{InWords, addedOf, putRecord, areaNoted, countNoted, AddsInWords};
 

@@ -1,7 +1,6 @@
 -- What an answer of place_page says of the page and of the output area. Stated of the contract itself. Assumes nothing.
 use Prim.Native.Nat.{ℕ, _+_, _*_, _≤_}
 use mathlib.Core.Path.{_≡_, refl, sym, ap, ap₂, _∙_, subst}
-use mathlib.Core.Bool.{Bool, true, false}
 use mathlib.Core.List.{List, [], _∷_, _++_, map}
 use native.Mathlib.Omega.{arith}
 use lib.Dec.{ltb}
@@ -10,7 +9,7 @@ use lib.Seq.{take-at, drop-at}
 use borrow.Author.Tests.{ltb-false}
 use contract.Lifetimes.{Lfts}
 use Rattle.refusals.specs.Numbers.{noSuchPage, positionOutOfRange, areaTooShort}
-use Rattle.refusals.specs.Answer.{Answer, refused, given, refuseIf, andThen}
+use Rattle.refusals.specs.Answer.{Answer, refused, given, andThen}
 use Rattle.refusals.specs.RefusedOnly.{FileRefusal, UnitRefusal, TableRefusal}
 use Rattle.refusals.proofs.Answer.{given-not-refused, given-next, given-same, then-given, then-refused, refused-next}
 use Rattle.refusals.proofs.RefusedOnly.{only-refused, file-numbers, unit-numbers}

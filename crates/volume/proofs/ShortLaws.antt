@@ -1,31 +1,29 @@
 -- Push, pop and fnt_num_0 to fnt_num_63: on a page, where `mayPass` allows them, they keep every rule and change nothing but the place and the depth; of the
 -- selections this is so if a font is selected already. Assumes nothing.
 use mathlib.Core.Path.{_≡_, refl, sym, ap, _∙_, subst}
-use mathlib.Core.Bool.{Bool, true, false, cond, not, _&&_, and-eq-true-iff, true≢false}
+use mathlib.Core.Bool.{Bool, true, false, cond, not, _&&_, and-eq-true-iff}
 use mathlib.Core.List.{List, []}
 use mathlib.Core.Logic.{_⊎_, inl, inr, ⊎-elim}
 use Prim.Native.Nat.{ℕ, _+_, _-_, _<_, _≤_, max}
 use native.Mathlib.Omega.{arith}
 use lib.Dec.{ltb, leb, eqb}
-use lib.ListN.{length, getD, take, drop, length-drop}
+use lib.ListN.{length, getD, drop}
 use lib.IntN.{pos}
 use borrow.Author.Tests.{eqb-true, ltb-true, leb-true, lt-ltb, le-ltb, lt-leb, le-leb, eq-eqb, ne-eqb}
 use Rattle.commands.specs.declared.Kind.{Kind}
-use Rattle.commands.specs.declared.Kind.the-variants.{Push, Pop, Select, PostPost}
+use Rattle.commands.specs.declared.Kind.the-variants.{Push, Pop, Select}
 use Rattle.commands.specs.Kinds.{kindOf}
 use Rattle.commands.specs.Lengths.{fixedLength, sizeOf}
 use Rattle.commands.specs.Commands.{Command, kindOfCommand, front, whole}
 use Rattle.commands.specs.Parameters.{selectedFont}
-use Rattle.numbers.proofs.Radix.{less-or-not}
 use Rattle.commands.proofs.Opcodes.{kind-range, range-kind}
 use Rattle.commands.proofs.Lengths.{fixed-of, inner-below}
 use Rattle.commands.proofs.Fronts.{after-whole, front-at}
-use Rattle.list.specs.declared.Stage.{Stage}
 use Rattle.list.specs.declared.Stage.the-variants.{OnPage}
 use Rattle.list.specs.declared.Volume.{Volume}
-use Rattle.list.specs.Past.{isA, stage, depth, depthAfter, selected, isDefined, definitionOf}
+use Rattle.list.specs.Past.{stage, depth, depthAfter, selected, isDefined, definitionOf}
 use Rattle.list.specs.Rules.{fault, lawfulFont}
-use Rattle.list.specs.Steps.{command, volumeOf, afterOf, tableAfter, changed, Tells}
+use Rattle.list.specs.Steps.{command, changed}
 use Rattle.volume.specs.Steps.{mayPushOrPop, mayPass, Passes, Going, Onward}
 use Rattle.list.proofs.FontTables.{told-defined}
 use Rattle.volume.proofs.Going.{turn-to, passing}

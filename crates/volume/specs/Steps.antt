@@ -2,7 +2,7 @@
 use Prim.Native.Nat.{ℕ, _+_, _-_, _<_, _≤_}
 use mathlib.Core.Path.{_≡_}
 use mathlib.Core.Bool.{Bool, true, false, cond, not, _&&_, _||_}
-use mathlib.Core.List.{List, []}
+use mathlib.Core.List.{List}
 use lib.Dec.{ltb, leb, eqb}
 use lib.ListN.{length, getD, drop}
 use lib.IntN.{ℤ}
@@ -22,7 +22,7 @@ use Rattle.volume.specs.declared.Named.{Named}
 use Rattle.volume.specs.declared.Named.the-variants as Named
 use Rattle.volume.specs.declared.Checked.{Checked}
 use Rattle.volume.specs.declared.Checked.the-variants as Checked
-use Rattle.list.specs.Past.{depth, greatest, pages, selected, none, stands, definitionOf}
+use Rattle.list.specs.Past.{depth, greatest, pages, definitionOf}
 use Rattle.list.specs.Steps.{Agrees, AllStanding, Lawfully, Tells, volumeOf}
 use Rattle.volume.specs.Judged.{judged, judgedFrom}
 use Rattle.volume.specs.History.{history, historyFrom}

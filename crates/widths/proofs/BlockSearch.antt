@@ -19,7 +19,7 @@ use Rattle.widths.specs.declared.blocks.Block.{Block}
 use Rattle.widths.specs.declared.table.Key.{Key}
 use Rattle.widths.specs.Table.{widthRecordSize, recordIn, recordOf, checkedTable}
 use Rattle.widths.specs.LookUp.{found, absent, metricOf, walk}
-use Rattle.widths.specs.Steps.{blockNumber, keyNumber, KeyIs, KeyAt, withCode, FirstNotBelow, BlockIs, Within, hasCode}
+use Rattle.widths.specs.Steps.{blockNumber, keyNumber, KeyIs, KeyAt, withCode, FirstNotBelow, BlockIs, Within, sameRecords, hasCode}
 use Rattle.widths.proofs.Keys.{characterKey, key-number, key-is, key-for, low-key}
 use Rattle.widths.proofs.TableLaws.{fields-right}
 use Rattle.widths.proofs.Search.{Between, search-ends, own-found, walk-misses}
@@ -44,6 +44,12 @@ module _ (table : List ℕ) (bytes : (i : ℕ) → getD table i 0 < 256) where
       }
 
 -- ---- within a block
+
+-- two blocks of the same records are one
+pub records-same : (a b : Block) → sameRecords a b ≡ true → a ≡ b
+records-same a b e =
+    let both = and-eq-true-iff (eqb (a .start) (b .start)) (eqb (a .end) (b .end)) .0 e in
+    ap₂ (λ (start end : ℕ). record { start = start; end = end }) (eqb-true (a .start) (b .start) (both .0)) (eqb-true (a .end) (b .end) (both .1))
 
 -- a number between the first and the last of a block is in it
 in-between : (block other code first : ℕ) → first ≡ 0 → code < 256 → block * 256 + first ≤ other * 256 + code → other * 256 + code < block * 256 + 256 → other ≡ block

@@ -4,7 +4,6 @@ use mathlib.Core.Bool.{Bool, true, not, _&&_}
 use mathlib.Core.List.{List}
 use Prim.Native.Nat.{ℕ, _+_, _*_, _≤_, _<_}
 use native.Mathlib.Nat.{add-assoc}
-use native.Mathlib.Omega.{arith}
 use lib.Dec.{ltb}
 use lib.ListN.{length}
 use borrow.Author.Tests.{le-ltb}
@@ -12,7 +11,7 @@ use Rattle.names.specs.Names.{nameSize}
 use Rattle.widths.specs.declared.table.Key.{Key}
 use Rattle.widths.specs.Table.{widthRecordSize, recordAt}
 use Rattle.widths.specs.Steps.{blockNumber, keyNumber, KeyAt, lawfulBlock, lawfulRest, Checking, withCode}
-use Rattle.widths.proofs.Keys.{in-key, key-is, code-reaches}
+use Rattle.widths.proofs.Keys.{key-is}
 use Rattle.widths.proofs.TableLaws.{here, keyRight, check-turns}
 
 module _ (table : List ℕ) (at least : ℕ) (checking : Checking nameSize table at least) (key : Key) (is : KeyAt table at key) where

@@ -129,6 +129,10 @@ pub record BlockIs (table : List ℕ) (records checksum scale name : ℕ) (block
 abbrev pub Within : ℕ → Block → Type 0
 Within records block = (block .start ≤ block .end) × (block .end ≤ records)
 
+-- two blocks are of the same records
+abbrev pub sameRecords : Block → Block → Bool
+sameRecords a b = eqb (a .start) (b .start) && eqb (a .end) (b .end)
+
 -- an index is that of a record in a block with a code
 abbrev pub hasCode : List ℕ → Block → ℕ → ℕ → Bool
 hasCode table block byte index = leb (block .start) index && (ltb index (block .end) && eqb (recordOf table index .code) byte)

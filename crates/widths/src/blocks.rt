@@ -9,7 +9,7 @@ ghost use Rattle.refusals.specs.Answer.{given};
 ghost use Rattle.names.specs.Names.{nameNumber};
 ghost use Rattle.names.specs.Steps.{InEights};
 ghost use Rattle.widths.specs.Table.{checkedTable};
-ghost use Rattle.widths.specs.Steps.{Among, BlockIs, Within, hasCode, FirstCode, CodeFound, FoundIn};
+ghost use Rattle.widths.specs.Steps.{Among, BlockIs, Within, sameRecords, hasCode, FirstCode, CodeFound, FoundIn};
 
 // The records of one check sum, scale and name: the index of the first, and that behind the last
 pub struct Block {
@@ -35,6 +35,16 @@ pub fn block_of(table: &[u8], records: usize, checksum: u64, scale: u64, name: N
     Block { start, end }
 }
 
+// Whether two blocks are of the same records.
+fn same_records(a: Block, b: Block) -> bool
+    ensures { λ r. ⌜ r ≡ sameRecords a b ⌝ }
+{
+    if a.start != b.start {
+        return false;
+    }
+    a.end == b.end
+}
+
 // Whether an index is that of a record in a block with a code.
 fn has_code(table: &[u8], records: usize, block: Block, byte: u64, index: usize) -> bool
     requires { ⌜ (checkedTable (now table) ≡ given records) × Within records block ⌝ }
@@ -46,7 +56,7 @@ fn has_code(table: &[u8], records: usize, block: Block, byte: u64, index: usize)
     if block.end <= index {
         return false;
     }
-    numbers::wide(table[index * table::RECORD_SIZE + table::CODE_AT]) == byte
+    table::code_of(table, records, index) == byte
 }
 
 // The first record of a block whose code is not below a code, by halves.
@@ -58,7 +68,7 @@ fn first_code(table: &[u8], records: usize, block: Block, byte: u64) -> usize
     let mut high = block.end;
     while low < high {
         let middle = low + (high - low) / 2;
-        if numbers::wide(table[middle * table::RECORD_SIZE + table::CODE_AT]) < byte {
+        if table::code_of(table, records, middle) < byte {
             low = middle + 1;
         } else {
             high = middle;
@@ -83,7 +93,7 @@ fn find_code(table: &[u8], records: usize, block: Block, byte: u64, hint: usize)
 }
 
 // A character's record, by the records of its font's own name and those for any name: an own one, or else one for any name. A font that the table does not name
-// has none of its own.
+// has none of its own, and one without a name that records can have has the same for both: then one search is enough.
 pub fn find(table: &[u8], records: usize, own: Block, any: Block, byte: u64, hint: usize) -> Place
     requires { ⌜ (checkedTable (now table) ≡ given records) × Within records own × Within records any × (byte < 256) ⌝ }
     ensures { λ r. ⌜ FoundIn (now (table .entry)) records own any byte r × Among records r ⌝ }
@@ -93,6 +103,11 @@ pub fn find(table: &[u8], records: usize, own: Block, any: Block, byte: u64, hin
     }
     match find_code(table, records, own, byte, hint) {
         Place::At(index) => Place::At(index),
-        Place::Nowhere => find_code(table, records, any, byte, hint),
+        Place::Nowhere => {
+            if same_records(own, any) {
+                return Place::Nowhere;
+            }
+            find_code(table, records, any, byte, hint)
+        }
     }
 }

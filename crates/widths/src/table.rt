@@ -20,7 +20,7 @@ const SCALE_AT: usize = 4;
 
 const NAME_AT: usize = 8;
 
-pub const CODE_AT: usize = NAME_AT + names::NAME_SIZE;
+const CODE_AT: usize = NAME_AT + names::NAME_SIZE;
 
 const ZERO_AT: usize = CODE_AT + 1;
 
@@ -28,7 +28,7 @@ const ESCAPEMENT_AT: usize = CODE_AT + 2;
 
 const WIDTH_AT: usize = CODE_AT + 4;
 
-pub const RECORD_SIZE: usize = CODE_AT + 8;
+const RECORD_SIZE: usize = CODE_AT + 8;
 
 // How many values the four bytes of a scale have. In a key's head the check sum counts so many.
 const SCALE_SPAN: u64 = 4294967296;
@@ -78,7 +78,7 @@ fn key_at(table: &[u8], at: usize) -> Key
     requires { ⌜ at + 32 ≤ length (now table) ⌝ }
     ensures { λ r. ⌜ KeyAt (now (table .entry)) at r ⌝ }
 {
-    let checksum = numbers::unsigned_at(table, at, SCALE_AT);
+    let checksum = numbers::unsigned_at(table, at, 4);
     let scale = numbers::unsigned_at(table, at + SCALE_AT, 4);
     let name = names::name_at(table, at + NAME_AT);
     let code = numbers::wide(table[at + CODE_AT]);
@@ -279,6 +279,14 @@ pub fn seek(table: &[u8], records: usize, checksum: u64, scale: u64, name: Name,
             find_key(table, records, key_of(checksum, scale, any, byte))
         }
     }
+}
+
+// The code of a record in a table that was judged right.
+pub fn code_of(table: &[u8], records: usize, index: usize) -> u64
+    requires { ⌜ (checkedTable (now table) ≡ given records) × (index < records) ⌝ }
+    ensures { λ r. ⌜ r ≡ recordOf (now (table .entry)) index .code ⌝ }
+{
+    numbers::wide(table[index * RECORD_SIZE + CODE_AT])
 }
 
 // Escapement and fix word of a record in a table that was judged right.

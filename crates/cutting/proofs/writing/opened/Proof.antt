@@ -4,7 +4,6 @@ use Rattle.cutting.specs.Steps.{between}
 use denote.Ref.{now}
 use mathlib.Core.Path.{refl}
 use native.Mathlib.Omega.{arith}
-use Prim.Native.Nat.{_-_}
 use borrow.Author.Needs.{needs}
 use Rattle.cutting.proofs.writing.opened.Statement.{statement}
 use Rattle.cutting.proofs.writing.opened.Tie as tie

@@ -1,17 +1,12 @@
 -- `list::progress::after` meets its contract: each field of the new state is what the kind makes of the old one. Assumes nothing.
-use mathlib.Core.List.{List, [], _∷_}
+use mathlib.Core.List.{[], _∷_}
 use mathlib.Core.Path.{refl}
-use Prim.Native.Nat.{ℕ, _+_, max}
 use native.Mathlib.Omega.{arith}
 use lib.ListN.{length}
-use mir.Facts.{toZ-ofZ}
-use borrow.Author.Needs.{sfits-of, needs}
+use borrow.Author.Needs.{needs}
 use borrow.Author.Tests.{eq-eqb, ne-eqb}
 use Rattle.numbers.proofs.Signed.{read-pos}
-use Rattle.commands.specs.declared.Kind.{Kind}
 use Rattle.commands.specs.declared.Kind.the-variants.{Pre, Bop, Post, Select, Define}
-use Rattle.list.specs.declared.Volume.{Volume}
-use Rattle.list.specs.Past.{stageAfter, depthAfter}
 use Rattle.list.specs.Steps.{movedOn, afterOf}
 use Rattle.list.proofs.Arms.{kind-others}
 use Rattle.list.proofs.progress.after.Statement.{statement}

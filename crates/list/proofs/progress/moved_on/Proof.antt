@@ -1,5 +1,4 @@
 -- `list::progress::moved_on` meets its contract. Assumes nothing.
-use native.Mathlib.Omega.{arith}
 use mir.Facts.{toZ-ofZ}
 use borrow.Author.Needs.{sfits-of, needs}
 use Rattle.list.proofs.progress.moved_on.Statement.{statement}

@@ -3,7 +3,6 @@ use Rattle.packed.proofs.Says.{says-short, says-wrong, says-right}
 use Rattle.packed.proofs.Forms.{form-known}
 use lib.ListN.{drop}
 use mathlib.Core.Path.{_∙_, sym}
-use Prim.Native.Nat.{_-_}
 use denote.Ref.{now}
 use native.Mathlib.Omega.{arith}
 use borrow.Author.Needs.{needs}

@@ -60,7 +60,7 @@ module _ (k : tie.After-kind-of) where
       → CommandAsks (setting volume) (start .args .level) (start .args .font) asking r
   asks volume {kind} told r comes suits = asks-by-kind (setting volume) (start .args .level) (start .args .font) asking r kind (kind-is told) comes suits
 
-  -- what a character of the code that was read asks, set or put, it asks of its code
+  -- the parameters of a command of one length are four bytes at most
   code-fits : {kind : Kind} → k .kind-of .result ≡ kind → hasInner kind ≡ false → fixedBy kind (last kind) ≤ 4 → length (now (start .args .params)) ≤ 4
   code-fits told plain short = omega (arith, whole-at-most asking (start .pre .0) (kind-is told) plain, short)
 
@@ -124,7 +124,7 @@ module _ (c : tie.After-character) where
   abbrev begun : tie.Start
   begun = start kinded
 
-  -- the code that was read, as it is handed on
+  -- what is asked of the code that was read, set or put, is asked of the command's code
   asked : {test : Bool} → CharacterAsks (begun .args .terms) (now (begun .args .widths)) (begun .args .level) (begun .args .font) test (toZ w64 (ofZ w64 (c .before .character-code .result))) (c .character .result)
       → (sets : Bool) → test ≡ sets
       → CharacterAsks (begun .args .terms) (now (begun .args .widths)) (begun .args .level) (begun .args .font) sets (characterCode (begun .args .opcode) (now (begun .args .params))) (c .character .result)

@@ -1,6 +1,6 @@
 -- `volume::plain::pass_on` meets its contract. The loop's invariant: the scan may go on from what was reached. The measure is what is left of the file.
 -- Assumes nothing.
-use Prim.Native.Nat.{ℕ, _-_, _≤_}
+use Prim.Native.Nat.{_-_, _≤_}
 use native.Mathlib.Omega.{arith}
 use lib.ListN.{length, getD}
 use mathlib.Core.Path.{sym, _∙_}

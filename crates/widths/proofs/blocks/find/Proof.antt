@@ -1,13 +1,14 @@
 -- `widths::blocks::find` meets its contract: a record of the own name, or else one for any name, each character for itself. Assumes nothing.
-use mathlib.Core.Path.{sym, ap, ap₂, subst, _∙_}
+use mathlib.Core.Path.{_≡_, sym, ap, ap₂, subst, _∙_}
 use Prim.Native.Nat.{ℕ, _<_}
 use native.Mathlib.Omega.{arith}
 use borrow.Author.Needs.{needs}
 use lib.ListN.{getD}
 use denote.Ref.{now}
+use Rattle.widths.specs.declared.blocks.Block.{Block}
 use Rattle.widths.specs.LookUp.{LookUp, walk, orElse}
-use Rattle.widths.specs.Steps.{foundAt, Among}
-use Rattle.widths.proofs.BlockSearch.{empty-misses}
+use Rattle.widths.specs.Steps.{foundAt, Among, BlockIs}
+use Rattle.widths.proofs.BlockSearch.{records-same, empty-misses}
 use Rattle.widths.proofs.blocks.find.Statement.{statement}
 use Rattle.widths.proofs.blocks.find.Tie as tie
 
@@ -41,11 +42,30 @@ enum-known-index c = search needs
 enum-told : tie.Need-enum-told
 enum-told c = search needs
 
+same-records-requires : tie.Need-same-records-requires
+same-records-requires c κs = tt
+
+-- both blocks are of the same records, so that the search among the own ones was one for any name
+returns-2 : tie.Need-returns-2
+returns-2 c =
+    let k = c .before .before in
+    let f = k .before .before in
+    let s = f .before .before .before .before in
+    let own : Block = s .args .own in
+    let none = sym (ap (foundAt (now (s .args .table))) (k .enum-told .given .1)) in
+    let same : s .args .any ≡ own = sym (records-same own (s .args .any) (sym (c .before .same-records .ensures) ∙ c .if2 .taken)) in (
+      λ checksum scale name own-is any-is.
+          ap₂ orElse
+          (none ∙ f .find-code2 .ensures .0 checksum scale name own-is)
+          (none ∙ f .find-code2 .ensures .0 checksum scale 0 (subst (BlockIs (now (s .args .table)) (s .args .records) checksum scale 0) same any-is)),
+      tt,
+    )
+
 find-code-requires-3 : tie.Need-find-code-requires-3
 find-code-requires-3 c κs = search needs
 
-returns-2 : tie.Need-returns-2
-returns-2 c =
+returns-3 : tie.Need-returns-3
+returns-3 c =
     let s = c .before .before .before .before .before .before .before in
     let f = c .before .before .before in
     let index = c .before .index .given in (
@@ -54,12 +74,13 @@ returns-2 c =
       subst (Among (s .args .records)) (index .1) (f .find-code2 .ensures .1),
     )
 
-returns-3 : tie.Need-returns-3
-returns-3 c =
-    let s = c .before .before .before .before .before .before .before in
-    let f = c .before .before .before in (
+returns-4 : tie.Need-returns-4
+returns-4 c =
+    let k = c .before .before .before in
+    let f = k .before .before in
+    let s = f .before .before .before .before in (
       λ checksum scale name own-is any-is.
-          ap₂ orElse (sym (ap (foundAt (now (s .args .table))) (c .before .enum-told .given .1)) ∙ f .find-code2 .ensures .0 checksum scale name own-is) (c .find-code3 .ensures .0 checksum scale 0 any-is),
+          ap₂ orElse (sym (ap (foundAt (now (s .args .table))) (k .enum-told .given .1)) ∙ f .find-code2 .ensures .0 checksum scale name own-is) (c .find-code3 .ensures .0 checksum scale 0 any-is),
       c .find-code3 .ensures .1,
     )
 
@@ -72,6 +93,8 @@ find-spec =
     find-code-requires-2
     enum-known-index
     enum-told
-    find-code-requires-3
+    same-records-requires
     returns-2
-    returns-3)
+    find-code-requires-3
+    returns-3
+    returns-4)

@@ -1,14 +1,11 @@
 -- `widths::blocks::first_code` meets its contract: within a block the codes are in order as the keys are. Assumes nothing.
-use Prim.Native.Nat.{ℕ, _+_, _-_, _*_, _/_, _≤_, _<_}
-use mathlib.Core.Path.{_≡_, subst}
+use Prim.Native.Nat.{ℕ, _+_, _-_, _/_, _≤_, _<_}
+use mathlib.Core.Path.{subst}
 use mathlib.Core.List.{List}
 use native.Mathlib.Omega.{arith}
-use lib.ListN.{length, getD}
+use lib.ListN.{getD}
 use denote.Ref.{now}
-use Rattle.names.specs.Names.{nameSize}
-use Rattle.widths.specs.Table.{widthRecordSize, recordIn, recordOf}
 use Rattle.widths.specs.Steps.{keyNumber, withCode, BlockIs}
-use Rattle.widths.proofs.TableLaws.{record-inside}
 use Rattle.widths.proofs.Search.{Between, search-up, search-down, search-ends}
 use Rattle.widths.proofs.BlockSearch.{block-starts, code-below, code-above}
 use Rattle.widths.proofs.blocks.first_code.Statement.{statement}
@@ -47,28 +44,8 @@ add-middle c = omega arith
 abbrev middle : tie.In-loop Inv-loop μ-loop → ℕ
 middle c = c .before .loop .low + (c .before .loop .high - c .before .loop .low) / 2
 
--- the middle record is one of the block and lies within the table
-inside : (c : tie.In-loop Inv-loop μ-loop) → middle c * widthRecordSize + widthRecordSize ≤ length (now (c .before .before .before .args .table))
-inside c =
-    let s = c .before .before .before in
-    record-inside nameSize (now (s .args .table)) (s .args .records) (s .pre .0) (middle c) (omega (arith, c .before .loop .inv .2, s .pre .1 .1))
-
-mul-wide : tie.Need-mul-wide Inv-loop μ-loop
-mul-wide c = omega (arith, inside c)
-
-add-wide : tie.Need-add-wide Inv-loop μ-loop
-add-wide c = omega (arith, inside c)
-
-shared-slice-read-wide : tie.Need-shared-slice-read-wide Inv-loop μ-loop
-shared-slice-read-wide c = omega (arith, inside (c .before))
-
-wide-requires : tie.Need-wide-requires Inv-loop μ-loop
-wide-requires c κs = tt
-
--- the byte that was read is the middle record's code
-code-is : (c : tie.After-wide Inv-loop μ-loop) → c .wide .result ≡ recordOf (now (c .before .before .before .before .before .args .table)) (middle (c .before .before)) .code
-unfolding recordIn
-code-is c = c .wide .ensures .0
+code-of-requires : tie.Need-code-of-requires Inv-loop μ-loop
+code-of-requires c κs = let s = c .before .before .before in (s .pre .0, omega (arith, c .before .loop .inv .2, s .pre .1 .1))
 
 add-low : tie.Need-add-low Inv-loop μ-loop
 add-low c = omega arith
@@ -79,16 +56,16 @@ loop-less c = omega arith
 loop-again : tie.Need-loop-again Inv-loop μ-loop
 loop-again c =
     let w = c .before in
-    let m = middle (w .before .before) in
-    let s = c .before .before .before .before .before .before in
-    let l = c .before .before .before .before .loop in (
+    let m = middle (w .before) in
+    let s = c .before .before .before .before .before in
+    let l = c .before .before .before .loop in (
       omega (arith, l .inv .0),
       omega arith,
       l .inv .2,
       λ checksum scale name is.
           search-up (now (s .args .table)) (s .args .records) (keyNumber (withCode (is .key) (s .args .byte))) (s .pre .0) (l .low) (l .high) m (l .inv .3 checksum scale name is) (omega arith) (omega arith)
-          (code-below (now (s .args .table)) (bytes (c .before .before .before .before .before)) (s .args .records) (s .pre .0) checksum scale name (s .args .block) is m (omega (arith, l .inv .0)) (omega (arith, l .inv .2)) (s .args .byte)
-          (subst (λ (n : ℕ). n < s .args .byte) (code-is w) (c .if1 .taken))),
+          (code-below (now (s .args .table)) (bytes (c .before .before .before .before)) (s .args .records) (s .pre .0) checksum scale name (s .args .block) is m (omega (arith, l .inv .0)) (omega (arith, l .inv .2)) (s .args .byte)
+          (subst (λ (n : ℕ). n < s .args .byte) (w .code-of .ensures) (c .if1 .taken))),
     )
 
 loop-less-2 : tie.Need-loop-less-2 Inv-loop μ-loop
@@ -97,16 +74,16 @@ loop-less-2 c = omega arith
 loop-again-2 : tie.Need-loop-again-2 Inv-loop μ-loop
 loop-again-2 c =
     let w = c .before in
-    let m = middle (w .before .before) in
-    let s = c .before .before .before .before .before .before in
-    let l = c .before .before .before .before .loop in (
+    let m = middle (w .before) in
+    let s = c .before .before .before .before .before in
+    let l = c .before .before .before .loop in (
       l .inv .0,
       omega arith,
       omega (arith, l .inv .2),
       λ checksum scale name is.
           search-down (now (s .args .table)) (s .args .records) (keyNumber (withCode (is .key) (s .args .byte))) (s .pre .0) (l .low) (l .high) m (l .inv .3 checksum scale name is) (omega arith) (omega arith)
-          (code-above (now (s .args .table)) (bytes (c .before .before .before .before .before)) (s .args .records) (s .pre .0) checksum scale name (s .args .block) is m (omega (arith, l .inv .0)) (omega (arith, l .inv .2)) (s .args .byte)
-          (subst (λ (n : ℕ). s .args .byte ≤ n) (code-is w) (c .if1 .left))),
+          (code-above (now (s .args .table)) (bytes (c .before .before .before .before)) (s .args .records) (s .pre .0) checksum scale name (s .args .block) is m (omega (arith, l .inv .0)) (omega (arith, l .inv .2)) (s .args .byte)
+          (subst (λ (n : ℕ). s .args .byte ≤ n) (w .code-of .ensures) (c .if1 .left))),
     )
 
 returns : tie.Need-returns Inv-loop μ-loop
@@ -124,10 +101,7 @@ first-code-spec =
     loop-holds
     sub-middle
     add-middle
-    mul-wide
-    add-wide
-    shared-slice-read-wide
-    wide-requires
+    code-of-requires
     add-low
     loop-less
     loop-again

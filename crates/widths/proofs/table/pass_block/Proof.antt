@@ -1,13 +1,11 @@
 -- `widths::table::pass_block` meets its contract: a record of the same check sum, scale and name is right where its code reaches and its rest is right. Assumes nothing.
-use mathlib.Core.Path.{_≡_, sym, ap, subst, _∙_}
-use mathlib.Core.List.{List}
+use mathlib.Core.Path.{_≡_, sym, subst, _∙_}
 use Prim.Native.Nat.{ℕ, _+_, _-_, _*_, _≤_}
 use native.Mathlib.Omega.{arith}
 use lib.ListN.{length}
 use denote.Ref.{now}
 use borrow.Author.Tests.{eqb-true, not-false}
 use Rattle.names.specs.Names.{nameSize}
-use Rattle.widths.specs.declared.table.Key.{Key}
 use Rattle.widths.specs.Table.{widthRecordSize}
 use Rattle.widths.specs.Steps.{blockNumber, keyNumber, Judging, Checking, withCode}
 use Rattle.widths.proofs.Keys.{in-key, code-reaches}
