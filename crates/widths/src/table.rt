@@ -28,7 +28,7 @@ const ESCAPEMENT_AT: usize = CODE_AT + 2;
 
 const WIDTH_AT: usize = CODE_AT + 4;
 
-const RECORD_SIZE: usize = CODE_AT + 8;
+pub const RECORD_SIZE: usize = CODE_AT + 8;
 
 // How many values the four bytes of a scale have. In a key's head the check sum counts so many.
 const SCALE_SPAN: u64 = 4294967296;
