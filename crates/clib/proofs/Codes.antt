@@ -12,8 +12,8 @@ use Rattle.refusals.specs.Answer.{Answer, refused, given}
 use Rattle.refusals.specs.RefusedOnly.{Listed}
 use Rattle.commands.specs.Reading.{commandRead}
 use Rattle.units.specs.Rounding.{roundedDistance}
-use Rattle.widths.specs.declared.FixWord.{FixWord}
-use Rattle.widths.specs.Scaling.{scaledWidth}
+use Rattle.scaling.specs.declared.FixWord.{FixWord}
+use Rattle.scaling.specs.Scaling.{scaledWidth}
 use Rattle.widths.specs.Table.{checkedTable}
 use Rattle.widths.specs.LookUp.{lookedUp}
 use Rattle.converting.specs.Converting.{widenTable, narrowTable}

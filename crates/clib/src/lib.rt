@@ -17,7 +17,7 @@ ghost use Rattle.commands.specs.Reading.{commandRead};
 ghost use Rattle.volume.specs.Judged.{judged};
 ghost use Rattle.volume.specs.Names.{namePlace};
 ghost use Rattle.units.specs.Rounding.{roundedDistance};
-ghost use Rattle.widths.specs.Scaling.{fixWord, scaledWidth};
+ghost use Rattle.scaling.specs.Scaling.{fixWord, scaledWidth};
 ghost use Rattle.widths.specs.Table.{checkedTable};
 ghost use Rattle.widths.specs.LookUp.{lookedUp};
 ghost use Rattle.converting.specs.Converting.{widenTable, narrowTable, widenedArea, narrowedArea};

@@ -16,8 +16,8 @@ use Rattle.numbers.specs.Sizes.{lawfulSize}
 use Rattle.numbers.proofs.Bytes.{unsigned-more, unsigned-join, power-le}
 use Rattle.numbers.proofs.Radix.{first-decides, second-decides}
 use Rattle.names.specs.Names.{allZeros, nameThenZeros}
-use Rattle.widths.specs.declared.FixWord.{FixWord}
-use Rattle.widths.specs.Scaling.{lawfulFirst}
+use Rattle.scaling.specs.declared.FixWord.{FixWord}
+use Rattle.scaling.specs.Scaling.{lawfulFirst}
 use Rattle.widths.specs.Table.{sizeWith, recordIn, lawfulFields}
 use Rattle.widths.specs.LookUp.{metricOf, isFor}
 

@@ -1,5 +1,4 @@
 // The check of a table of the old form: sixteen bytes a record, of which nine are the key.
-use widths::scaling;
 use widths::table::Table;
 ghost use mathlib.Core.Path.{_≡_};
 ghost use mathlib.Core.Bool.{_&&_};

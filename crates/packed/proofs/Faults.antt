@@ -11,7 +11,7 @@ use lib.IntN.{ℤ}
 use borrow.Author.Tests.{ltb-true, ltb-false, ne-eqb, eqb-true}
 use Rattle.numbers.specs.Bytes.{unsignedAt}
 use Rattle.numbers.proofs.Bytes.{unsigned-front}
-use Rattle.widths.specs.Scaling.{lawfulFirst}
+use Rattle.scaling.specs.Scaling.{lawfulFirst}
 use Rattle.commands.specs.Commands.{Command, place}
 use Rattle.packed.specs.Commands.{isPacket, isNoOp, isPreamble, formOf, countedBytes, paramBytes}
 use Rattle.packed.specs.Packets.{codeIn, widthIn, escapementIn}

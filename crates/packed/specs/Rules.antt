@@ -8,7 +8,7 @@ use lib.IntN.{ℤ, pos, negsuc}
 use lib.Signed.{leZ}
 use Rattle.refusals.specs.Numbers.{misplacedInFont, packetTooShort, wrongPacket}
 use Rattle.numbers.specs.Bytes.{unsignedAt}
-use Rattle.widths.specs.Scaling.{lawfulFirst}
+use Rattle.scaling.specs.Scaling.{lawfulFirst}
 use Rattle.commands.specs.Commands.{Command, place}
 use Rattle.packed.specs.Commands.{isPacket, isPostamble, isNoOp, isPreamble, formOf, countedBytes}
 use Rattle.packed.specs.Packets.{codeIn, widthIn, escapementIn}

@@ -8,7 +8,7 @@ use lib.ListN.{length, drop, getD}
 use lib.IntN.{natAbs}
 use Rattle.refusals.specs.Numbers.{fontEnds, misplacedInFont, packetTooShort, wrongPacket}
 use Rattle.refusals.specs.Answer.{Answer, refused, given, refusal}
-use Rattle.widths.specs.Scaling.{lawfulFirst}
+use Rattle.scaling.specs.Scaling.{lawfulFirst}
 use Rattle.widths.specs.Table.{widthRecordSize}
 use Rattle.commands.specs.Commands.{Command}
 use Rattle.packed.specs.declared.Extent.{Extent}

@@ -5,7 +5,6 @@ use crate::Packet;
 use crate::Scanned;
 use crate::commands_in_font;
 use crate::packets;
-use widths::scaling;
 ghost use mathlib.Core.Path.{_≡_};
 ghost use mathlib.Core.Bool.{cond, _||_};
 ghost use Prim.Native.Nat.{_+_, _≤_, _<_, _^_};

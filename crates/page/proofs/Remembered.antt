@@ -7,7 +7,7 @@ use lib.ListN.{length, getD, set, replicate, length-set, length-replicate, getD-
 use lib.IntN.{negsuc}
 use Rattle.refusals.specs.Answer.{given}
 use Rattle.widths.specs.Table.{checkedTable}
-use Rattle.widths.proofs.OneDivision.{sixteenfold-none}
+use Rattle.scaling.proofs.OneDivision.{sixteenfold-none}
 use Rattle.widths.proofs.BlockSearch.{no-records}
 use Rattle.state.specs.Registers.{unselected}
 use Rattle.page.specs.declared.Seen.{Seen}

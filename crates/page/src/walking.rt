@@ -15,7 +15,6 @@ use turns::Turn;
 use turns::steps;
 use widths::blocks;
 use widths::blocks::Block;
-use widths::scaling;
 ghost use mathlib.Core.Path.{_≡_};
 ghost use lib.ListN.{length};
 ghost use Rattle.refusals.specs.Answer.{given};

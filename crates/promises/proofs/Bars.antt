@@ -16,7 +16,7 @@ use Rattle.numbers.specs.Parts.{up, dn}
 use Rattle.numbers.proofs.Signed.{sum, diff, same}
 use Rattle.units.specs.Rounding.{rounded, roundedUp}
 use Rattle.units.proofs.Rounding.{up-some}
-use Rattle.widths.specs.Scaling.{scaledBy}
+use Rattle.scaling.specs.Scaling.{scaledBy}
 use Rattle.widths.specs.LookUp.{LookUp, found, absent}
 use Rattle.commands.specs.declared.Kind.{Kind}
 use Rattle.commands.specs.declared.Kind.the-variants as Kind

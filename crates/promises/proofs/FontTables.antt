@@ -18,9 +18,9 @@ use Rattle.numbers.specs.Sizes.{lawfulSize}
 use Rattle.names.specs.Names.{nameSize}
 use Rattle.numbers.proofs.Bytes.{unsigned-one, unsigned-drop, read-back, read-signed}
 use Rattle.numbers.proofs.Signed.{le-yes, one-part}
-use Rattle.widths.specs.Scaling.{fixWord, lawfulFirst}
+use Rattle.scaling.specs.Scaling.{fixWord, lawfulFirst}
 use Rattle.packed.specs.Rules.{lawfulEscapement}
-use Rattle.widths.specs.declared.FixWord.{FixWord}
+use Rattle.scaling.specs.declared.FixWord.{FixWord}
 use Rattle.widths.proofs.Keys.{characterKey, key-joined}
 use Rattle.widths.specs.Table.{widthRecordSize, recordAt, recordIn, recordOf, risesIn, lawfulFields, wholeIn, rightIn, checkedFrom, checkedTable}
 use Rattle.widths.specs.Entries.{Entry, entryBytes, tableBytes}

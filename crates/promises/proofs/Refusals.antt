@@ -9,9 +9,10 @@ use denote.Ref.{now}
 use Rattle.refusals.specs.Answer.{Answer}
 use Rattle.refusals.specs.RefusedOnly.{RefusedOnly, FileRefusal, CommandRefusal, NameRefusal, DistanceRefusal, WidthRefusal, TableRefusal, PageRefusal, MadeRefusal, CutRefusal, WidenRefusal, NarrowRefusal}
 use Rattle.units.proofs.RefusedWith.{distance-refused-with}
-use Rattle.widths.specs.Scaling.{fixWord}
+use Rattle.scaling.specs.Scaling.{fixWord}
 use Rattle.widths.specs.Table.{widthRecordSize, oldRecordSize}
-use Rattle.widths.proofs.RefusedWith.{width-refused-with, table-refused-with, look-up-refused-with}
+use Rattle.scaling.proofs.RefusedWith.{width-refused-with}
+use Rattle.widths.proofs.RefusedWith.{table-refused-with, look-up-refused-with}
 use Rattle.converting.proofs.RefusedWith.{widen-refused-with, narrow-refused-with}
 use Rattle.commands.proofs.RefusedWith.{command-refused-with}
 use Rattle.volume.proofs.RefusedWith.{file-refused-with, name-refused-with}

@@ -2,7 +2,7 @@
 use mathlib.Core.Path.{_≡_}
 use mathlib.Core.List.{List, [], _∷_, _++_, map}
 use Rattle.units.specs.Starred.{unitExamples, roundingExamples, unitFound, roundingFound, units-hold, roundings-hold}
-use Rattle.widths.specs.Starred.{widthExamples, widthFound, widths-hold}
+use Rattle.scaling.specs.Starred.{widthExamples, widthFound, widths-hold}
 use Rattle.state.specs.Starred.{moveExamples, moveFound, moves-hold}
 use Rattle.volume.specs.Starred.{fileExamples, fileFound, files-hold}
 use Rattle.promises.specs.Starred.{Example, of-file, of-unit, of-rounding, of-moves, of-width, Holds, AllHold, starred}

@@ -5,10 +5,10 @@ use Prim.Native.Nat.{ℕ, _*_, _/_, _<_}
 use lib.Dec.{eqb}
 use lib.IntN.{pos, _-ℤ_}
 use borrow.Author.Tests.{lt-leb}
-use Rattle.widths.specs.declared.FixWord.{FixWord}
-use Rattle.widths.specs.Scaling.{Halved, halving, halved, signedShare, scaledBy}
-use Rattle.widths.specs.AsBytes.{fraction}
-use Rattle.widths.proofs.OneDivision.{chain-is-one-division}
+use Rattle.scaling.specs.declared.FixWord.{FixWord}
+use Rattle.scaling.specs.Scaling.{Halved, halving, halved, signedShare, scaledBy}
+use Rattle.scaling.specs.Fractions.{fraction}
+use Rattle.scaling.proofs.OneDivision.{chain-is-one-division}
 
 -- below 8,388,608 nothing is halved
 not-halved : (scale : ℕ) → scale < 8388608 → halved scale ≡ record { z = scale; alpha = 16 }

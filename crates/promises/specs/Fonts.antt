@@ -11,7 +11,7 @@ use Rattle.numbers.specs.Parts.{up, dn}
 use Rattle.numbers.specs.Bytes.{unsignedAt, bytesOf}
 use Rattle.numbers.specs.Sizes.{lawfulSize}
 use Rattle.names.specs.Names.{nameSize}
-use Rattle.widths.specs.Scaling.{fixWord, lawfulFirst}
+use Rattle.scaling.specs.Scaling.{fixWord, lawfulFirst}
 use Rattle.widths.specs.Table.{widthRecordSize, WidthRecord, recordOf, checkedTable}
 use Rattle.widths.specs.Entries.{Entry, tableBytes}
 use Rattle.widths.specs.AsBytes.{Bytes}

@@ -2,7 +2,7 @@
 use mathlib.Core.Path.{_≡_}
 use mathlib.Core.List.{List, [], _∷_, _++_, map}
 use Rattle.units.specs.Starred.{UnitExample, RoundingExample, unitExamples, roundingExamples, unitFound, roundingFound}
-use Rattle.widths.specs.Starred.{WidthExample, widthExamples, widthFound}
+use Rattle.scaling.specs.Starred.{WidthExample, widthExamples, widthFound}
 use Rattle.state.specs.Starred.{MoveExample, moveExamples, moveFound}
 use Rattle.volume.specs.Starred.{FileExample, fileExamples, fileFound}
 

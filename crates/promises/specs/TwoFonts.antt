@@ -9,7 +9,7 @@ use Rattle.numbers.specs.Bytes.{unsignedAt}
 use Rattle.names.specs.Names.{soughtName}
 use Rattle.units.specs.Rounding.{nearestWhole}
 use Rattle.units.specs.Divisor.{commonDivisor, divisorWithin, lowest}
-use Rattle.widths.specs.Scaling.{halving}
+use Rattle.scaling.specs.Scaling.{halving}
 use Rattle.widths.specs.Table.{recordIn, checkedFrom}
 use Rattle.widths.specs.LookUp.{walkFrom}
 use Rattle.commands.specs.Kinds.{kindOf}

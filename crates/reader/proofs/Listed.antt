@@ -9,11 +9,12 @@ use Rattle.refusals.specs.RefusedOnly.{RefusedOnly, Listed, FileRefusal, Comman
 use Rattle.refusals.proofs.RefusedOnly.{only-wider, file-numbers, name-numbers, unit-numbers, page-numbers, made-numbers, cut-numbers}
 use Rattle.units.specs.Rounding.{roundedDistance}
 use Rattle.units.proofs.RefusedWith.{distance-refused-with}
-use Rattle.widths.specs.declared.FixWord.{FixWord}
-use Rattle.widths.specs.Scaling.{scaledWidth}
+use Rattle.scaling.specs.declared.FixWord.{FixWord}
+use Rattle.scaling.specs.Scaling.{scaledWidth}
 use Rattle.widths.specs.Table.{widthRecordSize, oldRecordSize, checkedTable}
 use Rattle.widths.specs.LookUp.{lookedUp}
-use Rattle.widths.proofs.RefusedWith.{width-refused-with, table-refused-with, look-up-refused-with}
+use Rattle.scaling.proofs.RefusedWith.{width-refused-with}
+use Rattle.widths.proofs.RefusedWith.{table-refused-with, look-up-refused-with}
 use Rattle.converting.specs.Converting.{widenTable, narrowTable}
 use Rattle.converting.proofs.RefusedWith.{widen-refused-with, narrow-refused-with}
 use Rattle.commands.specs.Reading.{commandRead}

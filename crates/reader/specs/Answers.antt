@@ -2,7 +2,7 @@
 use Prim.Native.Nat.{ℕ, zero, suc, _+_}
 use lib.IntN.{ℤ}
 use Rattle.refusals.specs.Answer.{Answer, refused, given}
-use Rattle.widths.specs.Scaling.{fixWord}
+use Rattle.scaling.specs.Scaling.{fixWord}
 use Rattle.widths.specs.LookUp.{LookUp, found, absent}
 use Rattle.commands.specs.declared.Reading.{Reading}
 use Rattle.volume.specs.declared.Summary.{Summary}

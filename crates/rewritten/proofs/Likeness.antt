@@ -6,7 +6,7 @@ use mathlib.Core.List.{List, [], _∷_}
 use lib.IntN.{ℤ, _+ℤ_}
 use Rattle.refusals.specs.Answer.{Answer, refused, given, andThen}
 use Rattle.units.specs.Rounding.{roundedUp}
-use Rattle.widths.specs.Scaling.{scaledBy}
+use Rattle.scaling.specs.Scaling.{scaledBy}
 use Rattle.widths.specs.LookUp.{LookUp, found, absent}
 use Rattle.commands.specs.declared.Kind.{Kind}
 use Rattle.commands.specs.declared.Kind.the-variants as Kind

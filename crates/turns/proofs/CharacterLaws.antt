@@ -5,7 +5,7 @@ use mathlib.Core.List.{List}
 use Prim.Native.Nat.{ℕ, _≤_, _^_}
 use lib.IntN.{ℤ, natAbs, _+ℤ_}
 use Rattle.widths.specs.declared.Metric.{Metric}
-use Rattle.widths.specs.Scaling.{scaledBy}
+use Rattle.scaling.specs.Scaling.{scaledBy}
 use Rattle.widths.specs.LookUp.{LookUp, found, absent}
 use Rattle.state.specs.declared.Level.{Level}
 use Rattle.state.specs.declared.Font.{Font}

@@ -9,11 +9,11 @@ use lib.IntN.{natAbs}
 use Rattle.numbers.specs.Bytes.{unsignedAt}
 use Rattle.numbers.proofs.Signed.{from-small}
 use Rattle.widths.specs.declared.Metric.{Metric}
-use Rattle.widths.specs.Scaling.{scaledBy}
+use Rattle.scaling.specs.Scaling.{scaledBy}
 use Rattle.names.specs.Names.{nameSize}
 use Rattle.widths.specs.Table.{widthRecordSize, recordIn, recordOf}
 use Rattle.widths.specs.LookUp.{LookUp, found, absent, metricOf, isFor, walkFrom, walk, orElse, lookedFor}
-use Rattle.widths.proofs.OneDivision.{width-small}
+use Rattle.scaling.proofs.OneDivision.{width-small}
 use Rattle.widths.proofs.TableLaws.{width-bytes}
 
 -- a metric was read from the table, at some index

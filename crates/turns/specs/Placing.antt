@@ -9,7 +9,7 @@ use lib.Signed.{ltZ}
 use Rattle.refusals.specs.Numbers.{positionOutOfRange}
 use Rattle.refusals.specs.Answer.{Answer, refused, given, andThen}
 use Rattle.units.specs.Rounding.{roundedUp}
-use Rattle.widths.specs.Scaling.{scaledBy}
+use Rattle.scaling.specs.Scaling.{scaledBy}
 use Rattle.names.specs.Names.{nameNumber, soughtName}
 use Rattle.widths.specs.LookUp.{LookUp, found, absent, codeByte, lookedFor}
 use Rattle.commands.specs.declared.Kind.{Kind}

@@ -8,7 +8,8 @@ use lib.IntN.{ℤ, natAbs, _+ℤ_}
 use Rattle.units.specs.Rounding.{roundedUp}
 use Rattle.names.specs.Names.{nameNumber, anyName}
 use Rattle.names.specs.Steps.{InEights}
-use Rattle.widths.specs.Steps.{sixteenfoldOf, BlockIs}
+use Rattle.scaling.specs.Steps.{sixteenfoldOf}
+use Rattle.widths.specs.Steps.{BlockIs}
 use Rattle.commands.specs.declared.Kind.{Kind}
 use Rattle.commands.specs.declared.Kind.the-variants as Kind
 use Rattle.commands.specs.Kinds.{is}

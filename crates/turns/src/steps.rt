@@ -16,7 +16,6 @@ use state::moving::Direction;
 use state::registers;
 use state::registers::Register;
 use widths::blocks;
-use widths::scaling;
 use widths::table;
 use widths::table::Place;
 ghost use mathlib.Core.Path.{_≡_};

@@ -1,5 +1,3 @@
-pub mod Halving
-pub mod OneDivision
 pub mod Keys
 pub mod TableLaws
 pub mod Search

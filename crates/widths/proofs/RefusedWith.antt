@@ -1,7 +1,7 @@
--- The refusals of scaling a width, of a width table and of looking a character up. Assumes nothing.
+-- The refusals of a width table and of looking a character up. Assumes nothing.
 use Prim.Native.Nat.{ℕ, zero, suc, _*_}
 use mathlib.Core.Path.{_≡_, refl}
-use mathlib.Core.Bool.{Bool, true, false, cond, not, _&&_}
+use mathlib.Core.Bool.{Bool, true, false, cond, not}
 use mathlib.Core.List.{List}
 use lib.Dec.{leb}
 use lib.IntN.{ℤ}
@@ -9,19 +9,11 @@ use lib.ListN.{length}
 use borrow.Author.Tests.{leb-false}
 use Rattle.refusals.specs.Numbers.{wrongWidthTable}
 use Rattle.refusals.specs.Answer.{given, refuseIf}
-use Rattle.refusals.specs.RefusedOnly.{RefusedOnly, WidthRefusal, TableRefusal}
+use Rattle.refusals.specs.RefusedOnly.{RefusedOnly, TableRefusal}
 use Rattle.refusals.proofs.RefusedOnly.{if-only, then-only}
-use Rattle.numbers.specs.Sizes.{lawfulSize}
-use Rattle.widths.specs.declared.FixWord.{FixWord}
-use Rattle.widths.specs.Scaling.{lawfulFirst, scaledBy, scaledWidth}
 use Rattle.names.specs.Names.{nameSize}
 use Rattle.widths.specs.Table.{sizeWith, widthRecordSize, rightIn, checkedFrom, checkedIn, checkedTable}
 use Rattle.widths.specs.LookUp.{lookedUp}
-
--- 14 at 0
-pub width-refused-with : (scale : ℕ) (w : FixWord) → RefusedOnly WidthRefusal (scaledWidth scale w)
-width-refused-with scale w =
-    if-only WidthRefusal (not (lawfulSize scale && lawfulFirst (w .b0))) wrongWidthTable 0 (given (scaledBy scale w)) (refl, refl) tt
 
 module _ (named : ℕ) (table : List ℕ) where
   abbrev size : ℕ

@@ -17,7 +17,7 @@ use Rattle.numbers.specs.Bytes.{unsignedAt}
 use Rattle.numbers.specs.Sizes.{lawfulSize}
 use Rattle.names.specs.Names.{nameThenZeros}
 use Rattle.widths.specs.Steps.{lawfulBlock, lawfulRest, Checking}
-use Rattle.widths.specs.AsBytes.{LastBytes}
+use Rattle.scaling.specs.Fractions.{LastBytes}
 use Rattle.numbers.proofs.Radix.{less-or-not}
 use Rattle.widths.proofs.Keys.{low-key}
 use Rattle.widths.specs.Table.{sizeWith, WidthRecord, recordWith, recordIn, risesIn, lawfulFields, wholeIn, rightIn, checkedFrom, checkedIn}

@@ -1,10 +1,9 @@
--- Bytes and their order. What the laws on keys and on widths are stated with. Assumes nothing.
+-- Bytes and their order. What the laws on keys are stated with. Assumes nothing.
 use Prim.Native.Nat.{ℕ, _+_, _*_, _<_}
 use mathlib.Core.Bool.{Bool, false, cond}
 use mathlib.Core.List.{List, [], _∷_}
 use lib.Dec.{ltb, eqb}
 use lib.ListN.{length, getD, take, drop}
-use Rattle.widths.specs.declared.FixWord.{FixWord}
 use Rattle.widths.specs.Table.{sizeWith}
 
 -- each element is a byte (rule 1.1)
@@ -20,13 +19,3 @@ risesAsBytes (x ∷ xs) (y ∷ ys) = cond (eqb x y) (risesAsBytes xs ys) (ltb x 
 -- the bytes of a record's key, whose name has so many (rules 6.1, 6.11)
 abbrev pub keyBytes : ℕ → List ℕ → ℕ → List ℕ
 keyBytes named table index = take (named + 9) (drop (index * sizeWith named) table)
-
--- the last three parts of a fix word are bytes (rule 6.1)
-pub record LastBytes (w : FixWord) : Type 0 where
-  pub b1-below : w .b1 < 256
-  pub b2-below : w .b2 < 256
-  pub b3-below : w .b3 < 256
-
--- the last three bytes of a fix word as one number (rules 1.2, 6.1)
-abbrev pub fraction : FixWord → ℕ
-fraction w = w .b1 * 65536 + w .b2 * 256 + w .b3

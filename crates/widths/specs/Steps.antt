@@ -1,15 +1,13 @@
 -- What the code's own steps give and keep; no promise cites this. Assumes nothing.
-use Prim.Native.Nat.{ℕ, suc, _+_, _*_, _/_, _^_, _≤_, _<_}
+use Prim.Native.Nat.{ℕ, suc, _+_, _*_, _^_, _≤_, _<_}
 use mathlib.Core.Path.{_≡_}
-use mathlib.Core.Bool.{Bool, true, cond, not, _&&_}
+use mathlib.Core.Bool.{Bool, true, not, _&&_}
 use mathlib.Core.List.{List}
 use lib.Dec.{ltb, leb, eqb}
 use lib.ListN.{length}
-use lib.IntN.{ℤ, pos, _-ℤ_}
 use Rattle.refusals.specs.Numbers.{wrongWidthTable}
 use Rattle.refusals.specs.Answer.{Answer, refused, given}
 use Rattle.names.specs.Names.{nameSize, nameThenZeros, nameNumber, anyName}
-use Rattle.widths.specs.declared.FixWord.{FixWord}
 use Rattle.widths.specs.declared.blocks.Block.{Block}
 use Rattle.widths.specs.declared.table.Key.{Key}
 use Rattle.widths.specs.declared.table.Table.{Table}
@@ -17,18 +15,9 @@ use Rattle.widths.specs.declared.table.Table.the-variants.{Right, Wrong}
 use Rattle.widths.specs.declared.table.Place.{Place}
 use Rattle.widths.specs.declared.table.Place.the-variants.{At, Nowhere}
 use Rattle.numbers.specs.Sizes.{lawfulSize}
-use Rattle.widths.specs.Scaling.{halved, lawfulFirst}
-use Rattle.widths.specs.AsBytes.{fraction}
+use Rattle.scaling.specs.Scaling.{lawfulFirst}
 use Rattle.widths.specs.Table.{sizeWith, WidthRecord, recordIn, risesIn, lawfulFields, checkedFrom, checkedIn, recordAt, recordOf}
 use Rattle.widths.specs.LookUp.{LookUp, found, absent, metricOf, walk, lookedFor}
-
--- sixteen times a scale, less the bits that halving loses
-unfoldable pub sixteenfoldOf : ℕ → ℕ
-sixteenfoldOf scale = halved scale .alpha * halved scale .z
-
--- a width from the sixteenfold of its scale: the last three bytes are 2^24ths of it, a first byte of 255 takes it away
-abbrev pub widthFrom : ℕ → FixWord → ℤ
-widthFrom sixteenfold w = let positive = fraction w * sixteenfold / 16777216 in cond (eqb (w .b0) 255) (pos positive -ℤ pos sixteenfold) (pos positive)
 
 -- check sum, scale and name as one number
 abbrev pub blockNumber : Key → ℕ

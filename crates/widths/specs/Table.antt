@@ -10,8 +10,8 @@ use Rattle.refusals.specs.Answer.{Answer, given, refuseIf}
 use Rattle.numbers.specs.Bytes.{unsignedAt, signedAt}
 use Rattle.numbers.specs.Sizes.{lawfulSize}
 use Rattle.names.specs.Names.{nameSize, nameThenZeros}
-use Rattle.widths.specs.declared.FixWord.{FixWord}
-use Rattle.widths.specs.Scaling.{lawfulFirst}
+use Rattle.scaling.specs.declared.FixWord.{FixWord}
+use Rattle.scaling.specs.Scaling.{lawfulFirst}
 
 -- ---- the layout: everything is told by how many bytes the name has, `named`, which are sixteen (rule 6.1) or, in the old form, none (rule 6.11)
 

@@ -1,8 +1,7 @@
 // The width table: its check, and the search for a character's record.
-use crate::FixWord;
 use crate::Metric;
-use crate::scaling;
 use names::Name;
+use scaling::FixWord;
 ghost use mathlib.Core.Path.{_≡_};
 ghost use mathlib.Core.Bool.{_&&_};
 ghost use Prim.Native.Nat.{_+_, _%_, _≤_, _<_, _^_};

@@ -10,7 +10,7 @@ use mir.Syntax.{w64}
 use mir.Val.{toZ, ofZ}
 use Rattle.refusals.specs.Answer.{Answer}
 use Rattle.numbers.specs.Signs.{toTwos}
-use Rattle.widths.specs.Scaling.{fixWord, scaledWidth}
+use Rattle.scaling.specs.Scaling.{fixWord, scaledWidth}
 use Rattle.reader.specs.Answers.{scaledAnswer}
 use Rattle.clib.specs.Answers.{inFront, signedNumbers}
 use Rattle.clib.proofs.Endings.{leaves-short, leaves-given, leaves-refused}

@@ -6,7 +6,7 @@ use borrow.Author.Tests.{not-true, not-false}
 use mir.Facts.{toZ-ofZ}
 use Rattle.refusals.specs.Answer.{given}
 use Rattle.numbers.specs.Sizes.{lawfulSize}
-use Rattle.widths.specs.Scaling.{lawfulFirst}
+use Rattle.scaling.specs.Scaling.{lawfulFirst}
 use Rattle.reader.proofs.scale_width.Statement.{statement}
 use Rattle.reader.proofs.scale_width.Tie as tie
 

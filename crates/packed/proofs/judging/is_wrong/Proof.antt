@@ -3,7 +3,7 @@ use borrow.Author.Tests.{lt-ltb, le-ltb}
 use Prim.Native.Nat.{_/_}
 use lib.ListN.{getD}
 use Rattle.numbers.proofs.Signed.{read}
-use Rattle.widths.specs.Scaling.{lawfulFirst}
+use Rattle.scaling.specs.Scaling.{lawfulFirst}
 use Rattle.packed.specs.Rules.{lawfulEscapement}
 use mathlib.Core.Path.{_≡_, refl, _∙_, sym, ap}
 use mathlib.Core.Bool.{Bool, true, false, not, _||_}

@@ -13,11 +13,12 @@ use mir.Val.{toZ, ofZ}
 use mir.Facts.{toZ-ofZ}
 use Rattle.numbers.specs.Signs.{toTwos}
 use Rattle.numbers.proofs.Signed.{to-below}
-use Rattle.widths.specs.Scaling.{scaledBy}
+use Rattle.scaling.specs.Scaling.{scaledBy}
 use Rattle.names.specs.Names.{nameSize, nameNumber}
 use Rattle.widths.specs.LookUp.{found, codeByte, lookedFor}
-use Rattle.widths.specs.Steps.{widthFrom, foundAt, Among}
-use Rattle.widths.proofs.OneDivision.{one-division, sixteenfold-small}
+use Rattle.scaling.specs.Steps.{widthFrom}
+use Rattle.widths.specs.Steps.{foundAt, Among}
+use Rattle.scaling.proofs.OneDivision.{one-division, sixteenfold-small}
 use Rattle.widths.proofs.BlockSearch.{in-order}
 use Rattle.widths.proofs.TableLaws.{record-inside}
 use Rattle.state.specs.declared.moving.Direction.the-variants as Direction

@@ -7,11 +7,11 @@ use native.Mathlib.Omega.{arith}
 use lib.Dec.{eqb}
 use lib.IntN.{pos, natAbs, _-ℤ_}
 use Rattle.numbers.proofs.Signed.{abs-gap, abs-cond}
-use Rattle.widths.specs.declared.FixWord.{FixWord}
-use Rattle.widths.specs.Scaling.{Halved, halving, halved, share, scaledBy}
-use Rattle.widths.specs.AsBytes.{LastBytes, fraction}
-use Rattle.widths.specs.Steps.{sixteenfoldOf, widthFrom}
-use Rattle.widths.proofs.Halving.{Settled, settled, alpha-some}
+use Rattle.scaling.specs.declared.FixWord.{FixWord}
+use Rattle.scaling.specs.Scaling.{Halved, halving, halved, share, scaledBy}
+use Rattle.scaling.specs.Fractions.{LastBytes, fraction}
+use Rattle.scaling.specs.Steps.{sixteenfoldOf, widthFrom}
+use Rattle.scaling.proofs.Halving.{Settled, settled, alpha-some}
 
 -- ---- one division
 

@@ -1,4 +1,4 @@
--- `widths::scaling::scaled` meets its contract: the product has 55 bits at most. Assumes nothing.
+-- `scaling::scaled` meets its contract: the product has 55 bits at most. Assumes nothing.
 use mathlib.Core.Path.{_≡_, ap, _∙_}
 use Prim.Native.Nat.{ℕ, _+_, _*_, _/_, _^_, _≤_, _<_}
 use native.Mathlib.Nat.{mul-le-mul}
@@ -9,9 +9,9 @@ use lib.IntN.{pos, _-ℤ_}
 use mir.Syntax.{w64}
 use mir.Facts.{toZ-ofZ}
 use mir.ValLaws.{toZ-pos}
-use Rattle.widths.specs.AsBytes.{fraction}
-use Rattle.widths.proofs.scaling.scaled.Statement.{statement}
-use Rattle.widths.proofs.scaling.scaled.Tie as tie
+use Rattle.scaling.specs.Fractions.{fraction}
+use Rattle.scaling.proofs.scaled.Statement.{statement}
+use Rattle.scaling.proofs.scaled.Tie as tie
 
 wide-requires : tie.Need-wide-requires
 wide-requires c κs = search needs

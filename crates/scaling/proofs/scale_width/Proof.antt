@@ -1,4 +1,4 @@
--- `widths::scaling::scale_width` meets its contract: one product and one division come to the chain. Assumes nothing.
+-- `scaling::scale_width` meets its contract: one product and one division come to the chain. Assumes nothing.
 use mathlib.Core.Path.{_∙_, ap}
 use mathlib.Core.Bool.{and-eq-true-iff}
 use Prim.Native.Nat.{ℕ, _≤_}
@@ -7,10 +7,10 @@ use lib.Dec.{leb}
 use borrow.Author.Needs.{sfits-of}
 use borrow.Author.Tests.{leb-true}
 use mir.Facts.{toZ-ofZ}
-use Rattle.widths.specs.Steps.{widthFrom}
-use Rattle.widths.proofs.OneDivision.{one-division, sixteenfold-small}
-use Rattle.widths.proofs.scaling.scale_width.Statement.{statement}
-use Rattle.widths.proofs.scaling.scale_width.Tie as tie
+use Rattle.scaling.specs.Steps.{widthFrom}
+use Rattle.scaling.proofs.OneDivision.{one-division, sixteenfold-small}
+use Rattle.scaling.proofs.scale_width.Statement.{statement}
+use Rattle.scaling.proofs.scale_width.Tie as tie
 
 lawful : (c : tie.Start) → c .args .scale ≤ 134217727
 lawful c =

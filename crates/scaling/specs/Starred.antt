@@ -4,8 +4,8 @@ use mathlib.Core.Path.{_≡_, refl}
 use mathlib.Core.List.{List, [], _∷_, map}
 use lib.IntN.{ℤ, pos, negsuc}
 use Rattle.refusals.specs.Answer.{Answer, given}
-use Rattle.widths.specs.declared.FixWord.{FixWord}
-use Rattle.widths.specs.Scaling.{fixWord, halving, scaledWidth}
+use Rattle.scaling.specs.declared.FixWord.{FixWord}
+use Rattle.scaling.specs.Scaling.{fixWord, halving, scaledWidth}
 
 -- a fix word and a scale, and the width that they must give
 pub record WidthExample : Type 0 where

@@ -1,11 +1,18 @@
 // Scaling a width, from TeX and DVItype.
-use crate::FixWord;
 ghost use mathlib.Core.Path.{_≡_};
 ghost use mathlib.Core.Bool.{true};
 ghost use Prim.Native.Nat.{_≤_, _<_, _^_};
 ghost use Rattle.numbers.specs.Sizes.{lawfulSize};
-ghost use Rattle.widths.specs.Scaling.{scaledBy, lawfulFirst};
-ghost use Rattle.widths.specs.Steps.{sixteenfoldOf, widthFrom};
+ghost use Rattle.scaling.specs.Scaling.{scaledBy, lawfulFirst};
+ghost use Rattle.scaling.specs.Steps.{sixteenfoldOf, widthFrom};
+
+// A TFM fix word: its four bytes, the highest first
+pub struct FixWord {
+    pub b0: u8,
+    pub b1: u8,
+    pub b2: u8,
+    pub b3: u8,
+}
 
 // Sixteen times the scale, less the bits that halving loses: α × z. While z is 8,388,608 or more, z is halved downwards and α doubled.
 pub fn sixteenfold_of(scale: u64) -> u64

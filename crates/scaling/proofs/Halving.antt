@@ -7,7 +7,7 @@ use native.Mathlib.Omega.{arith}
 use lib.Dec.{leb}
 use lib.Pow.{pow-pos}
 use borrow.Author.Tests.{le-leb, lt-leb}
-use Rattle.widths.specs.Scaling.{Halved, halving, halved}
+use Rattle.scaling.specs.Scaling.{Halved, halving, halved}
 
 abbrev at : ℕ → ℕ → Halved
 at z alpha = record { z = z; alpha = alpha }

@@ -1,12 +1,12 @@
--- `widths::scaling::sixteenfold_of` meets its contract. Assumes nothing.
+-- `scaling::sixteenfold_of` meets its contract. Assumes nothing.
 use mathlib.Core.Path.{ap}
 use Prim.Native.Nat.{ℕ, _*_}
 use native.Mathlib.Omega.{arith}
-use Rattle.widths.specs.Scaling.{Halved}
-use Rattle.widths.specs.Steps.{sixteenfoldOf}
-use Rattle.widths.proofs.Halving.{Left, start, turn, done, alpha-small}
-use Rattle.widths.proofs.scaling.sixteenfold_of.Statement.{statement}
-use Rattle.widths.proofs.scaling.sixteenfold_of.Tie as tie
+use Rattle.scaling.specs.Scaling.{Halved}
+use Rattle.scaling.specs.Steps.{sixteenfoldOf}
+use Rattle.scaling.proofs.Halving.{Left, start, turn, done, alpha-small}
+use Rattle.scaling.proofs.sixteenfold_of.Statement.{statement}
+use Rattle.scaling.proofs.sixteenfold_of.Tie as tie
 
 abbrev Inv-loop : tie.InvT-loop
 Inv-loop scale z₀ alpha₀ z alpha = (times : ℕ) × Left scale times z alpha

@@ -6,7 +6,7 @@ use lib.IntN.{ℤ, pos, _-ℤ_}
 use Rattle.refusals.specs.Numbers.{wrongWidthTable}
 use Rattle.refusals.specs.Answer.{Answer, given, refuseIf}
 use Rattle.numbers.specs.Sizes.{lawfulSize}
-use Rattle.widths.specs.declared.FixWord.{FixWord}
+use Rattle.scaling.specs.declared.FixWord.{FixWord}
 
 -- a fix word by its four bytes (rule 6.1)
 abbrev pub fixWord : ℕ → ℕ → ℕ → ℕ → FixWord

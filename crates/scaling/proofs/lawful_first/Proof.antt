@@ -1,7 +1,7 @@
--- `widths::scaling::lawful_first` meets its contract: the code's tests are those of `lawfulFirst`. Assumes nothing.
+-- `scaling::lawful_first` meets its contract: the code's tests are those of `lawfulFirst`. Assumes nothing.
 use borrow.Author.Tests.{eq-eqb, ne-eqb}
-use Rattle.widths.proofs.scaling.lawful_first.Statement.{statement}
-use Rattle.widths.proofs.scaling.lawful_first.Tie as tie
+use Rattle.scaling.proofs.lawful_first.Statement.{statement}
+use Rattle.scaling.proofs.lawful_first.Tie as tie
 
 returns : tie.Need-returns
 returns c = simp (eq-eqb _ _ (c .if1 .taken))

@@ -1,0 +1,4 @@
+pub mod Scaling
+pub mod Fractions
+pub mod Steps
+pub mod Starred
