@@ -1,8 +1,9 @@
-// What the programs that ask the reader share: a file read whole, numbers and bytes in words, and a placed page as lines.
+// What the programs that ask the reader share: a file read whole, a line's words, numbers and bytes in words, and a placed page as lines.
 use printing::line::Line;
 ghost use Prim.Native.Nat.{_≤_};
 
 pub mod files;
+pub mod lines;
 pub mod pages;
 pub mod spelled;
 pub mod words;

@@ -1,15 +1,5 @@
 // Every public entry of the reader on a desk: a question a line on standard input, its answer on standard output.
-mod cuts_asked;
-mod files_asked;
-mod fonts_asked;
-mod forms_asked;
-mod lines;
-mod numbers_asked;
-mod pages_asked;
 mod questions;
-mod records;
-mod rooms;
-mod tables_asked;
 
 use libc::STDIN_FILENO;
 

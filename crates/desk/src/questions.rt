@@ -1,14 +1,14 @@
 // A line's question, by its first word and how many words it has.
-use crate::cuts_asked;
-use crate::files_asked;
-use crate::fonts_asked;
-use crate::forms_asked;
-use crate::forms_asked::Form;
-use crate::lines;
-use crate::numbers_asked;
-use crate::pages_asked;
-use crate::tables_asked;
+use asking::lines;
+use filling::cuts_asked;
+use filling::fonts_asked;
+use filling::forms_asked;
+use filling::forms_asked::Form;
+use filling::pages_asked;
 use printing::line::Line;
+use telling::files_asked;
+use telling::numbers_asked;
+use telling::tables_asked;
 
 enum Question {
     Read,
