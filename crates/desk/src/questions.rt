@@ -5,7 +5,6 @@ use filling::fonts_asked;
 use filling::forms_asked;
 use filling::forms_asked::Form;
 use filling::pages_asked;
-use printing::line::Line;
 use telling::files_asked;
 use telling::numbers_asked;
 use telling::tables_asked;

@@ -1,4 +1,4 @@
-// The question that is answered by many lines: a page placed.
+// The question that places a page.
 use crate::rooms;
 use asking::files;
 use asking::lines::word;

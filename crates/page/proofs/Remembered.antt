@@ -1,4 +1,4 @@
--- The fonts that a walk remembers: at first none, and each place keeps a font with what is right for it. Assumes nothing.
+-- The fonts that a walk remembers: at first none, and each slot keeps a font with what is right for it. Assumes nothing.
 use mathlib.Core.Path.{_≡_, refl, sym, subst, _∙_}
 use mathlib.Core.List.{List, [], _∷_}
 use Prim.Native.Nat.{ℕ, zero, suc, _<_}

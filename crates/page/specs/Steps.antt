@@ -93,7 +93,7 @@ zeroSeen =
     let nowhere : Block = record { start = 0; end = 0 } in
     record { number = pos 0; font = unselected; kept = record { sixteenfold = 0; own = nowhere; any = nowhere } }
 
--- so in each of 64 places
+-- so in each of 64 slots
 abbrev pub AllSeen : List ℕ → List ℕ → List ℕ → ℕ → List Seen → Type 0
 AllSeen file fonts table rows seen = (length seen ≡ 64) × ((place : ℕ) → place < length seen → SeenIs file fonts table rows (getD seen place zeroSeen))
 

@@ -1,4 +1,4 @@
--- Placement records and their bytes. Assumes nothing.
+-- Placement records and their bytes, and what a command adds to a page. Assumes nothing.
 use Prim.Native.Nat.{ℕ}
 use mathlib.Core.List.{List, [], _∷_, _++_}
 use lib.IntN.{ℤ}

@@ -1,4 +1,4 @@
--- `reader::scale_width` meets its contract: the scale is judged, then the first byte, and what is left is `widths::scaling::scale_width`. Assumes nothing.
+-- `reader::scale_width` meets its contract: the scale is judged, then the first byte, and what is left is `scaling::scale_width`. Assumes nothing.
 use mathlib.Core.Path.{_≡_, sym, ap, _∙_}
 use mathlib.Core.Bool.{true, false}
 use borrow.Author.Needs.{needs, sfits-of}
