@@ -1,3 +1,4 @@
+pub mod AnyRuler
 pub mod Finishing
 pub mod FontLaws
 pub mod Remembered

@@ -31,7 +31,7 @@ module _ {k : Ratio} (a : Accepted k) (m : ℕ) where
       let half : 2 * k .p * m ≤ k .q * m = mul-le-mul-right m (a .half) in
       let left : (x + x) * k .q ≡ x * (2 * k .q) = add-mul x x (k .q) ∙ sym (ap (λ (t : ℕ). x * t) (two-mul (k .q)) ∙ mul-add x (k .q) (k .q)) in
       let right : (m + 1) * k .q ≡ k .q * m + k .q = add-mul m 1 (k .q) ∙ simp (one-mul, mul-comm m (k .q)) in
-      le-of-mul-le-mul-right {k = k .q} (omega (arith, low, half, left, right)) (omega (arith, a .positive, a .half))
+      le-of-mul-le-mul-right {k = k .q} (omega (arith, low, half, left, right)) (a .parted)
 
 -- |rounded n| ≤ (|n| + 1) / 2
 pub rounded-half : {k : Ratio} (a : Accepted k) (n : ℤ) → natAbs (rounded k n) + natAbs (rounded k n) ≤ natAbs n + 1
@@ -45,6 +45,19 @@ rounded-zero k = ap pos (by (k .q))
     by : (q : ℕ) → (2 * k .p * 0 + q) / (2 * q) ≡ 0
     by zero = div-zero (2 * k .p * 0 + 0)
     by (suc q) = div-eq-of-lt (omega arith)
+
+-- where K is 0, so is every rounded distance
+pub rounded-none : (k : Ratio) → k .p ≡ 0 → (n : ℤ) → rounded k n ≡ pos 0
+unfolding nearestWhole
+rounded-none k none n = ap (withSign n) (ap (λ (p : ℕ). (2 * p * natAbs n + k .q) / (2 * k .q)) none ∙ by (k .q)) ∙ zero-sign n
+  where
+    by : (q : ℕ) → (2 * 0 * natAbs n + q) / (2 * q) ≡ 0
+    by zero = div-zero (2 * 0 * natAbs n + 0)
+    by (suc q) = div-eq-of-lt (omega arith)
+
+    zero-sign : (z : ℤ) → withSign z 0 ≡ pos 0
+    zero-sign (pos a) = refl
+    zero-sign (negsuc a) = refl
 
 -- ---- rounding up, by the sign
 
@@ -62,14 +75,11 @@ up-some k p q (pos m) e = lt-ltb 0 _ (le-div-iff-mul-le q .1 (omega (arith, one-
 up-some k p q (negsuc m) e = absurd (subst T (sym e) tt)
 
 module _ {k : Ratio} (a : Accepted k) where
-  wide : 0 < k .q
-  wide = omega (arith, a .positive, a .half)
-
   -- K × m rounded up is at most m
   up-small : (m : ℕ) → (k .p * m + (k .q - 1)) / k .q ≤ m
   up-small m =
       let less : (k .p * m + (k .q - 1)) / k .q < m + 1 =
-      div-lt-iff-lt-mul wide .1 (omega (arith, wide, mul-le-mul-right m (a .half), two-mul (k .p), add-mul (k .p) (k .p) m, add-mul m 1 (k .q), one-mul (k .q), mul-comm m (k .q))) in
+      div-lt-iff-lt-mul (a .parted) .1 (omega (arith, a .parted, mul-le-mul-right m (a .half), two-mul (k .p), add-mul (k .p) (k .p) m, add-mul m 1 (k .q), one-mul (k .q), mul-comm m (k .q))) in
       omega arith
 
   -- a rounded-up distance is no longer than the distance
@@ -78,5 +88,5 @@ module _ {k : Ratio} (a : Accepted k) where
   up-within (negsuc m) =
       rw (abs-neg (pos (k .p * suc m / k .q)))
       (let less : k .p * suc m / k .q < suc m + 1 =
-      div-lt-iff-lt-mul wide .1 (omega (arith, wide, mul-le-mul-right (suc m) (a .half), two-mul (k .p), add-mul (k .p) (k .p) (suc m), add-mul (suc m) 1 (k .q), one-mul (k .q), mul-comm (suc m) (k .q))) in
+      div-lt-iff-lt-mul (a .parted) .1 (omega (arith, a .parted, mul-le-mul-right (suc m) (a .half), two-mul (k .p), add-mul (k .p) (k .p) (suc m), add-mul (suc m) 1 (k .q), one-mul (k .q), mul-comm (suc m) (k .q))) in
       omega arith)

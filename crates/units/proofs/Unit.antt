@@ -23,10 +23,11 @@ neither false b e = (refl, e)
 lowest-accepted : (n d : ℕ) → 0 < n → d < 2 ^ 60 → outOfRange (lowest n d) ≡ false → Accepted (lowest n d)
 lowest-accepted n d h l e =
     let out = neither (ltb 1073741823 (lowest n d .p)) (ltb (lowest n d .q) (2 * lowest n d .p)) e in
+    let half = ltb-false (lowest n d .q) (2 * lowest n d .p) (out .1) in
     record {
-      positive = num-some (cut n d h) h;
+      parted = omega (arith, num-some (cut n d h) h, half);
       small = ltb-false 1073741823 (lowest n d .p) (out .0);
-      half = ltb-false (lowest n d .q) (2 * lowest n d .p) (out .1);
+      half = half;
       room = omega (arith, den-small (cut n d h));
     }
 
