@@ -18,11 +18,14 @@ use Rattle.list.specs.Rules.{wrongAtDepth}
 use Rattle.volume.specs.History.{history}
 use Rattle.list.proofs.Arms.{is-kind}
 use Rattle.volume.proofs.Going.{after-command}
+use Rattle.units.specs.declared.Ratio.{Ratio}
 use Rattle.state.specs.declared.Level.{Level}
+use Rattle.state.specs.declared.KeptLevel.{KeptLevel}
 use Rattle.state.specs.declared.Page.{Page}
 use Rattle.state.specs.Registers.{State, freshState, poppedTo}
-use Rattle.state.specs.Steps.{pageState, savedOf, withLevel, Bounded, AllBounded}
+use Rattle.state.specs.Steps.{zeroKept, levelIn, RoundsLevel, RoundsBelow, pageState, savedOf, withLevel, Bounded, AllBounded}
 use Rattle.state.proofs.Levels.{bounded-zero}
+use Rattle.state.proofs.Kept.{rounds-zero}
 use Rattle.placements.specs.declared.Counts.{Counts}
 use Rattle.turns.specs.declared.Terms.{Terms}
 use Rattle.turns.specs.declared.Turn.{Turn}
@@ -43,21 +46,26 @@ use Rattle.turns.proofs.Frames.{isEnding, opening-push, closing-pop, ending-eop
 
 -- ---- the code's page
 
--- its numbers are in their ranges, and its stack is that long
-pub record Sound (page : Page) : Type 0 where
-  pub bounded : Bounded (page .now)
+-- its numbers are in their ranges, the roundings that it keeps are those of h and v, now and in each level that is saved, and its stack is that long
+pub record Sound (k : Ratio) (page : Page) : Type 0 where
+  pub bounded : Bounded (levelIn (page .now))
   pub kept : AllBounded (savedOf (page .depth) (page .stack))
+  pub rounds : RoundsLevel k (page .now)
+  pub rounds-below : RoundsBelow k (page .depth) (page .stack)
   pub known : Known (page .font)
   pub shallow : page .depth ≤ 100
   pub full : length (page .stack) ≡ 100
 
 -- so it is where the state that it stands for has its numbers in their ranges
-pub state-sound : (page : Page) (s : State) → pageState page ≡ s → Bounded (s .level) → AllBounded (s .saved) → Known (s .font) → page .depth ≤ 100
-    → length (page .stack) ≡ 100 → Sound page
-state-sound page s is-s bounded kept known shallow full =
+pub state-sound : (k : Ratio) (page : Page) (s : State) → pageState page ≡ s → Bounded (s .level) → AllBounded (s .saved)
+    → RoundsLevel k (page .now) → RoundsBelow k (page .depth) (page .stack) → Known (s .font) → page .depth ≤ 100
+    → length (page .stack) ≡ 100 → Sound k page
+state-sound k page s is-s bounded kept rounds rounds-below known shallow full =
     record {
       bounded = subst (λ (x : State). Bounded (x .level)) (sym is-s) bounded;
       kept = subst (λ (x : State). AllBounded (x .saved)) (sym is-s) kept;
+      rounds = rounds;
+      rounds-below = rounds-below;
       known = subst (λ (x : State). Known (x .font)) (sym is-s) known;
       shallow = shallow;
       full = full;
@@ -83,7 +91,7 @@ pub record Walking (file fonts table : List ℕ) (terms : Terms) (start : ℕ) (
   pub runs : Runs file at (page .depth) rest
   pub same : finish out counts (placing (termsSetting terms table (history file)) (pageState page) rest)
       ≡ finish out₀ zeroCounts (placing (termsSetting terms table (history file)) freshState (pageOf (terms .page) (history file)))
-  pub sound : Sound page
+  pub sound : Sound (terms .ruler .k) page
   pub few-records : counts .records ≤ at
   pub few-missing : counts .missing ≤ at
   pub few-specials : counts .specials ≤ at
@@ -91,14 +99,17 @@ pub record Walking (file fonts table : List ℕ) (terms : Terms) (start : ℕ) (
 
 -- at the start all of the page is to come
 pub starting : {file fonts table : List ℕ} {terms : Terms} {start : ℕ} (ready : Ready file fonts table terms start) (out : List ℕ) (page : Page)
-    → pageState page ≡ freshState → page .depth ≡ 0 → length (page .stack) ≡ 100 → Walking file fonts table terms start out out page zeroCounts start
-starting {file} {fonts} {table} {terms} {start} ready out page fresh flat full =
+    → pageState page ≡ freshState → page .depth ≡ 0 → length (page .stack) ≡ 100 → page .now ≡ zeroKept
+    → Walking file fonts table terms start out out page zeroCounts start
+starting {file} {fonts} {table} {terms} {start} ready out page fresh flat full zero =
     record {
       ready = ready;
       rest = pageOf (terms .page) (history file);
       runs = subst (λ (depth : ℕ). Runs file start depth (pageOf (terms .page) (history file))) (sym flat) (ready .runs);
       same = ap (λ (s : State). finish out zeroCounts (placing (termsSetting terms table (history file)) s (pageOf (terms .page) (history file)))) fresh;
-      sound = state-sound page freshState fresh bounded-zero tt unselected-known (omega arith) full;
+      sound =
+          state-sound (terms .ruler .k) page freshState fresh bounded-zero tt (subst (RoundsLevel (terms .ruler .k)) (sym zero) (rounds-zero (terms .ruler .k)))
+          (λ place less. absurd (omega (arith, flat, less))) unselected-known (omega arith) full;
       few-records = omega arith;
       few-missing = omega arith;
       few-specials = omega arith;
@@ -131,7 +142,7 @@ neither false b e = refl
 
 module _ {file fonts table : List ℕ} {terms : Terms} {start : ℕ} {out₀ out : List ℕ} {page : Page} {counts : Counts} {at : ℕ}
     (w : Walking file fonts table terms start out₀ out page counts at) (r : Step)
-    (asks : StepAsks file at (termsSetting terms table (history file)) (page .now) (page .font) r) where
+    (asks : StepAsks file at (termsSetting terms table (history file)) (levelIn (page .now)) (page .font) r) where
   abbrev setting : Setting
   setting = termsSetting terms table (history file)
 
@@ -187,20 +198,20 @@ module _ {file fonts table : List ℕ} {terms : Terms} {start : ℕ} {out₀ out
       omega (arith, ap (λ (n : Counts). n .records) counts-are, few-noted counts at (r .next) (advances .0) (addedOf (r .asked .adds)) (w .few-records) (w .few-missing) (w .few-specials) .0, advances .1)
 
   -- the record that is added, and the turn, are in their ranges
-  pub in-ranges : AddsInWords (r .asked .adds) × Safe (page .now) (r .asked .turn)
+  pub in-ranges : AddsInWords (r .asked .adds) × Safe (levelIn (page .now)) (r .asked .turn)
   in-ranges = by here
     where
-      both : {c : Command} {rest : List ℕ} → front (drop at file) ≡ whole c rest → AddsInWords (r .asked .adds) × Safe (page .now) (r .asked .turn)
+      both : {c : Command} {rest : List ℕ} → front (drop at file) ≡ whole c rest → AddsInWords (r .asked .adds) × Safe (levelIn (page .now)) (r .asked .turn)
       both {c} {rest} stands = (asks c rest stands .0 .0 .words, asks c rest stands .0 .0 .safe)
 
-      by : Here → AddsInWords (r .asked .adds) × Safe (page .now) (r .asked .turn)
+      by : Here → AddsInWords (r .asked .adds) × Safe (levelIn (page .now)) (r .asked .turn)
       by (last c rest stands eop e) = both stands
       by (next c rest later stands goes-on right e runs) = both stands
 
   module _ (turn : Turn) (turn-is : r .asked .turn ≡ turn) where
     -- a command that leads to a next state
     pub onwards : isEnding (turnFrame turn) ≡ false → (s′ : State) → did setting s turn (r .asked .adds) ≡ continues s′ (addedOf (r .asked .adds))
-        → (page′ : Page) → pageState page′ ≡ s′ → page′ .depth ≡ depthBy (turnFrame turn) (page .depth) → Sound page′
+        → (page′ : Page) → pageState page′ ≡ s′ → page′ .depth ≡ depthBy (turnFrame turn) (page .depth) → Sound (terms .ruler .k) page′
         → (out′ : List ℕ) → out′ ≡ areaNoted out (counts .records) (addedOf (r .asked .adds))
         → (counts′ : Counts) → counts′ ≡ countNoted counts (addedOf (r .asked .adds))
         → Walking file fonts table terms start out₀ out′ page′ counts′ (r .next)
@@ -237,15 +248,16 @@ module _ {file fonts table : List ℕ} {terms : Terms} {start : ℕ} {out₀ out
             }
 
     -- one that leads to another level only
-    pub leveled : turnFrame turn ≡ inside → (l : Level) → did setting s turn (r .asked .adds) ≡ continues (withNumbers s l) (addedOf (r .asked .adds))
-        → (page′ : Page) → page′ ≡ withLevel page l → Bounded l
+    pub leveled : turnFrame turn ≡ inside → (l : KeptLevel) → did setting s turn (r .asked .adds) ≡ continues (withNumbers s (levelIn l)) (addedOf (r .asked .adds))
+        → (page′ : Page) → page′ ≡ withLevel page l → Bounded (levelIn l) → RoundsLevel (terms .ruler .k) l
         → (out′ : List ℕ) → out′ ≡ areaNoted out (counts .records) (addedOf (r .asked .adds))
         → (counts′ : Counts) → counts′ ≡ countNoted counts (addedOf (r .asked .adds))
         → Walking file fonts table terms start out₀ out′ page′ counts′ (r .next)
-    leveled is-inside l led page′ page-is bounded out′ out-is counts′ counts-are =
+    leveled is-inside l led page′ page-is bounded rounds out′ out-is counts′ counts-are =
         let sound = w .sound in
-        onwards (ap isEnding is-inside) (withNumbers s l) led page′ (ap pageState page-is) (ap (λ (p : Page). p .depth) page-is ∙ sym (ap (λ (frame : Frame). depthBy frame (page .depth)) is-inside))
-        (subst Sound (sym page-is) (record { bounded = bounded; kept = sound .kept; known = sound .known; shallow = sound .shallow; full = sound .full }))
+        onwards (ap isEnding is-inside) (withNumbers s (levelIn l)) led page′ (ap pageState page-is) (ap (λ (p : Page). p .depth) page-is ∙ sym (ap (λ (frame : Frame). depthBy frame (page .depth)) is-inside))
+        (subst (Sound (terms .ruler .k)) (sym page-is)
+        (record { bounded = bounded; kept = sound .kept; rounds = rounds; rounds-below = sound .rounds-below; known = sound .known; shallow = sound .shallow; full = sound .full }))
         out′ out-is counts′ counts-are
 
   -- push and pop keep to the depths
@@ -277,7 +289,7 @@ module _ {file fonts table : List ℕ} {terms : Terms} {start : ℕ} {out₀ out
       by : Here → through out′ counts′ ≡ finish out₀ zeroCounts (placing setting freshState (pageOf (terms .page) (history file)))
       by (last c rest stands eop e) =
           let same-outcome : continues s (addedOf (r .asked .adds)) ≡ continues s nothing =
-          does stands Turn.End turn-is ∙ sym (after-kind setting (page .now) (savedOf (page .depth) (page .stack)) (page .font) c Eop (is-kind (kindOfCommand c) Eop eop)) in
+          does stands Turn.End turn-is ∙ sym (after-kind setting (levelIn (page .now)) (savedOf (page .depth) (page .stack)) (page .font) c Eop (is-kind (kindOfCommand c) Eop eop)) in
           let none : addedOf (r .asked .adds) ≡ nothing = cc in
           ap₂ through (out-is ∙ ap (areaNoted out (counts .records)) none) (counts-are ∙ ap (countNoted counts) none)
           ∙ finish-none out counts

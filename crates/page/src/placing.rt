@@ -7,6 +7,7 @@ use list::Volume;
 use refusals::Refusal;
 use state::moving::Ruler;
 use turns::Terms;
+use units::Ratio;
 use units::UnitFound;
 use volume::Scanned;
 use volume::scanning;
@@ -32,7 +33,8 @@ fn refused(number: u8, place: usize) -> PagePlaced
     PagePlaced::Refused(Refusal { number, place })
 }
 
-// 16 and 17: a walk over the page with no area judges and counts, a second one writes.
+// 16 and 17: a walk over the page with no area judges and counts, a second one writes. The first one goes by a K of 0, which rounds nothing: neither its judgement nor
+// its counts depend on K.
 fn place_commands(
     file: &[u8],
     widths: &[u8],
@@ -45,7 +47,15 @@ fn place_commands(
     ensures { λ r. ⌜ placeAnswer r ≡ placedCounts (andThen (placing (termsSetting terms (now (widths .entry)) (history (now (file .entry)))) freshState (pageOf (terms .page) (history (now (file .entry))))) (withRoom (length (now (out .entry))))) ⌝ }
     ensures { λ _. ⌜ now (out .exit) ≡ areaAfter (now (out .entry)) (andThen (placing (termsSetting terms (now (widths .entry)) (history (now (file .entry)))) freshState (pageOf (terms .page) (history (now (file .entry))))) (withRoom (length (now (out .entry))))) ⌝ }
 {
-    match walking::walk(file, widths, fonts, terms, start, &mut out[..0]) {
+    let counting = Terms {
+        ruler: Ruler {
+            k: Ratio { p: 0, q: 1 },
+            drift: 0,
+        },
+        rows: terms.rows,
+        page: terms.page,
+    };
+    match walking::walk(file, widths, fonts, counting, start, &mut out[..0]) {
         Walked::Left(place) => refused(refusals::POSITION_OUT_OF_RANGE, place),
         Walked::Through(counts) => {
             if out.len() < placements::RECORD_SIZE * counts.records {

@@ -6,7 +6,6 @@ use names::Name;
 use placements::Counts;
 use state::Font;
 use state::Page;
-use state::moving::Direction;
 use state::moving::Stride;
 use state::registers;
 use turns::Kept;
@@ -114,9 +113,19 @@ pub fn walk(
     let mut seen = [none; Page::FONTS];
     let table = commands::length_table();
     loop {
-        let now = page.now;
+        let level = registers::level_of(page.now);
         let depth = page.depth;
-        let step = steps::step_at(&table, file, widths, terms, at, now, page.font, kept, hint);
+        let step = steps::step_at(
+            &table,
+            file,
+            widths,
+            terms,
+            at,
+            level,
+            page.font,
+            kept,
+            hint,
+        );
         let asked = step.asked;
         let adds = asked.adds;
         let turn = asked.turn;
@@ -126,12 +135,11 @@ pub fn walk(
         counts = placements::note(&mut *out, counts, adds);
         match turn {
             Turn::Stay => {}
-            Turn::By(direction, n) => match direction {
-                Direction::Sideways => page = page.sideways(ruler, Stride::Rounded, n),
-                Direction::Down => page = page.down(ruler, n),
-            },
+            Turn::Sideways(stride, n) => page = page.sideways(ruler, stride, n),
+            Turn::Down(n) => page = page.down(ruler, n),
             Turn::ByRegister(register, n) => {
                 let scale = page.font.scale;
+                let now = page.now;
                 let next = registers::moved_by_register(
                     register,
                     Stride::Rounded,
@@ -145,8 +153,8 @@ pub fn walk(
             Turn::PastCharacter(width, escapement) => {
                 page = page.past_character(ruler, width, escapement);
             }
-            Turn::PastRule(width) => page = page.sideways(ruler, Stride::RoundedUp, width),
             Turn::Push => {
+                let now = page.now;
                 page.stack[depth] = now;
                 page = page.push();
             }

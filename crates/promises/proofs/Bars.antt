@@ -27,11 +27,10 @@ use Rattle.list.proofs.Arms.{is-kind}
 use Rattle.state.specs.declared.Level.{Level}
 use Rattle.state.specs.declared.moving.Direction.{Direction}
 use Rattle.state.specs.declared.moving.Direction.the-variants as Direction
-use Rattle.state.specs.declared.moving.Spot.{Spot}
 use Rattle.state.specs.declared.moving.Stride.the-variants as Stride
 use Rattle.state.specs.declared.registers.Register.{Register}
 use Rattle.state.specs.declared.registers.Register.the-variants as Register
-use Rattle.state.specs.Moving.{leaves}
+use Rattle.state.specs.Moving.{Spot, leaves}
 use Rattle.state.specs.Registers.{State, freshState, poppedTo, spotOf, registerOf, directionOf}
 use Rattle.state.specs.Nearby.{Near, AllNear, StateNear}
 use Rattle.state.proofs.Nearby.{near-moved, near-character, near-register, near-fresh, up-unheld, up-stays, up-nearly}

@@ -10,17 +10,17 @@ use lib.ListN.{length, getD, set}
 use lib.Seq.{getD-set-same, getD-set-other}
 use lib.IntN.{ℤ, natAbs, _+ℤ_}
 use Rattle.state.specs.declared.Level.{Level}
+use Rattle.state.specs.declared.KeptLevel.{KeptLevel}
 use Rattle.state.specs.declared.Page.{Page}
 use Rattle.state.specs.declared.moving.Direction.{Direction}
 use Rattle.state.specs.declared.moving.Direction.the-variants.{Sideways, Down}
 use Rattle.state.specs.declared.moving.Stride.{Stride}
 use Rattle.state.specs.declared.moving.Ruler.{Ruler}
-use Rattle.state.specs.declared.moving.Spot.{Spot}
-use Rattle.state.specs.Moving.{leaves, settled, followed}
+use Rattle.state.specs.Moving.{Spot, leaves, settled, followed}
 use Rattle.state.specs.declared.registers.Register.{Register}
 use Rattle.state.specs.declared.registers.Register.the-variants.{W, X, Y, Z}
 use Rattle.state.specs.Registers.{zeroLevel, spotOf, atSpot, movedBy, characterMoved, registerOf, withRegister, directionOf, movedByRegister}
-use Rattle.state.specs.Steps.{savedOf, pageState, Ruled, Bounded}
+use Rattle.state.specs.Steps.{zeroKept, levelIn, savedOf, pageState, Ruled, Bounded}
 use Rattle.state.proofs.Nearness.{settled-small}
 
 -- ---- ranges
@@ -119,25 +119,25 @@ bounded-by-register register stride ruler scale n l ruled b small stays =
 -- ---- the levels that are saved
 
 -- one more is saved where it was stored above the others
-pub saved-one-more : (depth : ℕ) (stack : List Level) (l : Level) → getD stack depth zeroLevel ≡ l → savedOf (depth + 1) stack ≡ l ∷ savedOf depth stack
-saved-one-more depth stack l e = rw add-one (ap (λ (top : Level). top ∷ savedOf depth stack) e)
+pub saved-one-more : (depth : ℕ) (stack : List KeptLevel) (l : KeptLevel) → getD stack depth zeroKept ≡ l → savedOf (depth + 1) stack ≡ levelIn l ∷ savedOf depth stack
+saved-one-more depth stack l e = rw add-one (ap (λ (top : KeptLevel). levelIn top ∷ savedOf depth stack) e)
 
 -- the one that was saved last stands above the others
-pub saved-last : (depth : ℕ) (stack : List Level) → 0 < depth → savedOf depth stack ≡ getD stack (depth - 1) zeroLevel ∷ savedOf (depth - 1) stack
+pub saved-last : (depth : ℕ) (stack : List KeptLevel) → 0 < depth → savedOf depth stack ≡ levelIn (getD stack (depth - 1) zeroKept) ∷ savedOf (depth - 1) stack
 saved-last zero stack some = absurd (omega arith)
 saved-last (suc depth) stack some = rw sub-one
 
 -- a store above the levels that are saved does not change them
-saved-kept : (depth at : ℕ) (stack : List Level) (l : Level) → depth ≤ at → savedOf depth (set stack at l) ≡ savedOf depth stack
+saved-kept : (depth at : ℕ) (stack : List KeptLevel) (l : KeptLevel) → depth ≤ at → savedOf depth (set stack at l) ≡ savedOf depth stack
 saved-kept zero at stack l below = refl
 saved-kept (suc depth) at stack l below =
-    ap₂ _∷_ (getD-set-other stack at depth l zeroLevel (λ same. omega arith)) (saved-kept depth at stack l (omega arith))
+    ap₂ _∷_ (ap levelIn (getD-set-other stack at depth l zeroKept (λ same. omega arith))) (saved-kept depth at stack l (omega arith))
 
 -- the caller's store before a push changes no state, and leaves the level where push asks it
 pub stored : (p : Page) → p .depth < length (p .stack)
     → (pageState (record { now = p .now; depth = p .depth; font = p .font; stack = set (p .stack) (p .depth) (p .now) }) ≡ pageState p)
-    × (getD (set (p .stack) (p .depth) (p .now)) (p .depth) zeroLevel ≡ p .now)
+    × (getD (set (p .stack) (p .depth) (p .now)) (p .depth) zeroKept ≡ p .now)
 stored p room = (
-  ap (λ (levels : List Level). record { level = p .now; saved = levels; font = p .font }) (saved-kept (p .depth) (p .depth) (p .stack) (p .now) (omega arith)),
-  getD-set-same (p .stack) (p .depth) (p .now) zeroLevel room,
+  ap (λ (levels : List Level). record { level = levelIn (p .now); saved = levels; font = p .font }) (saved-kept (p .depth) (p .depth) (p .stack) (p .now) (omega arith)),
+  getD-set-same (p .stack) (p .depth) (p .now) zeroKept room,
 )

@@ -17,9 +17,8 @@ use Rattle.state.specs.declared.moving.Direction.the-variants.{Sideways,
 use Rattle.state.specs.declared.moving.Stride.{Stride}
 use Rattle.state.specs.declared.moving.Stride.the-variants.{Rounded, RoundedUp}
 use Rattle.state.specs.declared.moving.Ruler.{Ruler}
-use Rattle.state.specs.declared.moving.Spot.{Spot}
 use Rattle.state.specs.declared.registers.Register.{Register}
-use Rattle.state.specs.Moving.{near, strays, settled, followed, moved}
+use Rattle.state.specs.Moving.{Spot, near, strays, settled, followed, moved}
 use Rattle.state.specs.Registers.{zeroLevel, freshState, spotOf, atSpot, movedBy, characterMoved, withRegister, directionOf, movedByRegister}
 use Rattle.state.specs.Nearby.{Near, StateNear}
 use Rattle.state.proofs.Nearness.{within, held, held-nearly}

@@ -1,9 +1,9 @@
 -- A pixel stays near its position: within D of the rounded position after every move, whatever the direction. Assumes nothing.
-use Prim.Native.Nat.{ℕ, _+_, _≤_}
-use mathlib.Core.Path.{_≡_, refl, sym, subst}
+use Prim.Native.Nat.{ℕ, _+_, _*_, _≤_}
+use mathlib.Core.Path.{_≡_, refl, sym, ap, subst}
 use mathlib.Core.Bool.{Bool, true, false, cond}
 use native.Mathlib.Omega.{arith}
-use borrow.Author.Tests.{ltb-true, ltb-false}
+use borrow.Author.Tests.{ltb-true, ltb-false, lt-ltb, le-ltb}
 use lib.Dec.{ltb}
 use lib.IntN.{ℤ, pos, natAbs, negℤ, _+ℤ_, _-ℤ_}
 use lib.Signed.{ltZ}
@@ -11,8 +11,11 @@ use Rattle.numbers.proofs.Signed.{abs-is, sum, diff, up-neg, dn-neg, one-part, 
 use Rattle.units.specs.Steps.{Accepted}
 use Rattle.units.specs.Rounding.{rounded}
 use Rattle.units.proofs.Rounding.{rounded-half}
+use Rattle.state.specs.declared.moving.Direction.{Direction}
+use Rattle.state.specs.declared.moving.Direction.the-variants.{Sideways, Down}
 use Rattle.state.specs.declared.moving.Ruler.{Ruler}
-use Rattle.state.specs.Moving.{drifted, settled}
+use Rattle.state.specs.Moving.{near, drifted, settled}
+use Rattle.state.specs.Steps.{tenths}
 
 above : (centre : ℤ) (d : ℕ) → (centre +ℤ pos d) -ℤ centre ≡ pos d
 above centre d = same _ _ (omega (arith, sum centre (pos d), diff (centre +ℤ pos d) centre))
@@ -66,3 +69,43 @@ settled-small ruler a position pixel =
     let put = drifted (ruler .drift) centre pixel in
     let off : natAbs put ≤ natAbs centre + natAbs (put -ℤ centre) = subst (λ (z : ℤ). natAbs z ≤ natAbs centre + natAbs (put -ℤ centre)) (sym (apart put centre)) (abs-sum centre (put -ℤ centre)) in
     omega (arith, off, held (ruler .drift) centre pixel, rounded-half a position)
+
+-- a pixel that is held within 0 of its centre is there
+pub held-at : (centre pixel : ℤ) → drifted 0 centre pixel ≡ centre
+held-at centre pixel = same _ _ (omega (arith, diff put centre, abs-is (put -ℤ centre), held 0 centre pixel))
+  where
+    put : ℤ
+    put = drifted 0 centre pixel
+
+-- one that stands there stays, however far it may stand
+pub held-there : (d : ℕ) (centre : ℤ) → drifted d centre centre ≡ centre
+held-there d centre =
+    ap (λ (far : Bool). cond far (cond (ltZ centre centre) (centre +ℤ pos d) (centre -ℤ pos d)) centre)
+    (le-ltb d _ (within d (same (centre -ℤ centre) (pos 0) (omega (arith, diff centre centre))) (omega arith)))
+
+-- ---- near moves, by tenths of the scale
+
+-- a test of two numbers is that of their doubles
+doubled : (a b a′ b′ : ℕ) → a′ ≡ 2 * a → b′ ≡ 2 * b → ltb a′ b′ ≡ ltb a b
+doubled a b a′ b′ twice-a twice-b = by (ltb a b) refl
+  where
+    by : (t : Bool) → ltb a b ≡ t → ltb a′ b′ ≡ t
+    by true e = lt-ltb a′ b′ (omega (arith, twice-a, twice-b, ltb-true a b e))
+    by false e = le-ltb a′ b′ (omega (arith, twice-a, twice-b, ltb-false a b e))
+
+pub near-tenths : (direction : Direction) (n : ℤ) (scale : ℕ) → ltb (10 * natAbs n) (tenths direction n * scale) ≡ near direction n scale
+near-tenths Sideways n scale = by (ltZ n (pos 0))
+  where
+    by : (t : Bool) → ltb (10 * natAbs n) (cond t 9 2 * scale) ≡ cond t (ltb (10 * natAbs n) (9 * scale)) (ltb (5 * natAbs n) scale)
+    by true = refl
+    by false = doubled (5 * natAbs n) scale (10 * natAbs n) (2 * scale) (omega arith) (omega arith)
+near-tenths Down n scale = doubled (5 * natAbs n) (4 * scale) (10 * natAbs n) (8 * scale) (omega arith) (omega arith)
+
+-- at most nine
+pub few-tenths : (direction : Direction) (n : ℤ) → tenths direction n ≤ 9
+few-tenths Sideways n = by (ltZ n (pos 0))
+  where
+    by : (t : Bool) → cond t 9 2 ≤ 9
+    by true = omega arith
+    by false = omega arith
+few-tenths Down n = omega arith

@@ -10,7 +10,11 @@ use Rattle.state.specs.declared.moving.Direction.the-variants.{Sideways,
 use Rattle.state.specs.declared.moving.Stride.{Stride}
 use Rattle.state.specs.declared.moving.Stride.the-variants.{Rounded, RoundedUp}
 use Rattle.state.specs.declared.moving.Ruler.{Ruler}
-use Rattle.state.specs.declared.moving.Spot.{Spot}
+
+-- a position and its pixel: h and hh, or v and vv (rule 7.3)
+pub record Spot : Type 0 where
+  pub position : ℤ
+  pub pixel : ℤ
 
 -- a position past the range of h and v (rule 7.5)
 abbrev pub leaves : ℤ → Bool

@@ -9,10 +9,9 @@ use Rattle.state.specs.declared.moving.Direction.{Direction}
 use Rattle.state.specs.declared.moving.Direction.the-variants.{Sideways, Down}
 use Rattle.state.specs.declared.moving.Stride.{Stride}
 use Rattle.state.specs.declared.moving.Ruler.{Ruler}
-use Rattle.state.specs.declared.moving.Spot.{Spot}
 use Rattle.state.specs.declared.registers.Register.{Register}
 use Rattle.state.specs.declared.registers.Register.the-variants.{W, X, Y, Z}
-use Rattle.state.specs.Moving.{settled, moved}
+use Rattle.state.specs.Moving.{Spot, settled, moved}
 
 -- the eight numbers, the levels that push saved, the newest first, and the font (rule 7.1)
 pub record State : Type 0 where

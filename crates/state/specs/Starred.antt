@@ -7,8 +7,7 @@ use Rattle.units.specs.Rounding.{nearestWhole}
 use Rattle.state.specs.declared.moving.Direction.the-variants.{Sideways}
 use Rattle.state.specs.declared.moving.Stride.the-variants.{Rounded}
 use Rattle.state.specs.declared.moving.Ruler.{Ruler}
-use Rattle.state.specs.declared.moving.Spot.{Spot}
-use Rattle.state.specs.Moving.{moved}
+use Rattle.state.specs.Moving.{Spot, moved}
 
 -- how often a move by how much is made, and the h and hh that it must lead to
 pub record MoveExample : Type 0 where

@@ -1,5 +1,7 @@
-// The page's state: the eight numbers, the levels that are saved, the font; a fresh one, and how commands change it.
+// The page's state: the eight numbers with rounded h and v beside them, the levels that are saved, the font; a fresh one, and how commands change it.
+use moving::Aim;
 use moving::Direction;
+use moving::KeptSpot;
 use moving::Ruler;
 use moving::Stride;
 use names::Name;
@@ -11,8 +13,8 @@ ghost use lib.IntN.{natAbs, _+ℤ_};
 ghost use Rattle.state.specs.declared.moving.Direction.the-variants.{Sideways, Down};
 ghost use Rattle.state.specs.declared.moving.Stride.the-variants.{Rounded};
 ghost use Rattle.state.specs.Moving.{leaves};
-ghost use Rattle.state.specs.Registers.{zeroLevel, freshState, pushed, popped, movedBy, characterMoved};
-ghost use Rattle.state.specs.Steps.{pageState, withLevel, withFont, Ruled, Bounded};
+ghost use Rattle.state.specs.Registers.{freshState, pushed, popped};
+ghost use Rattle.state.specs.Steps.{pageState, withLevel, withFont, Ruled, Bounded, Rounds, zeroKept, levelIn, keptMovedBy, keptPast};
 
 pub mod moving;
 pub mod registers;
@@ -29,6 +31,16 @@ pub struct Level {
     pub vv: i64,
 }
 
+// A level as the page keeps it: where it stands sideways and down, and the registers
+pub struct KeptLevel {
+    pub across: KeptSpot,
+    pub down: KeptSpot,
+    pub w: i64,
+    pub x: i64,
+    pub y: i64,
+    pub z: i64,
+}
+
 // The current font: its number, check sum and scale, and the name that it seeks in the width table; the scale is 0 while none is selected
 pub struct Font {
     pub number: u64,
@@ -39,10 +51,10 @@ pub struct Font {
 
 // The state of a page. The array stands last, so that a change of what stands before it copies no array.
 pub struct Page {
-    pub now: Level,
+    pub now: KeptLevel,
     pub depth: usize,
     pub font: Font,
-    pub stack: [Level; 100],
+    pub stack: [KeptLevel; 100],
 }
 
 impl Page {
@@ -51,19 +63,22 @@ impl Page {
     // at most 64 fonts
     pub const FONTS: usize = 64;
 
-    // What bop sets: every register zero, an empty stack, no font.
+    // What bop sets: every register zero, an empty stack, no font. The rounding of 0 is 0 by any ruler.
     pub fn fresh() -> Self
-        ensures { λ r. ⌜ (pageState r ≡ freshState) × (r .depth ≡ 0) × (length (r .stack) ≡ 100) ⌝ }
+        ensures { λ r. ⌜ (pageState r ≡ freshState) × (r .depth ≡ 0) × (length (r .stack) ≡ 100) × (r .now ≡ zeroKept) ⌝ }
     {
-        let zero = Level {
-            h: 0,
-            v: 0,
+        let origin = KeptSpot {
+            position: 0,
+            rounded: 0,
+            pixel: 0,
+        };
+        let zero = KeptLevel {
+            across: origin,
+            down: origin,
             w: 0,
             x: 0,
             y: 0,
             z: 0,
-            hh: 0,
-            vv: 0,
         };
         let stack = [zero; 100];
         Page {
@@ -79,47 +94,59 @@ impl Page {
         }
     }
 
-    // Sideways by n, in the stride that the caller names.
+    // Sideways by n, in the stride that the caller names. What stands for down is left alone.
     pub fn sideways(mut self, ruler: Ruler, stride: Stride, n: i64) -> Self
-        requires { ⌜ Ruled ruler (self .font .scale) × Bounded (self .now) ⌝ }
-        requires { ⌜ (natAbs n ≤ 2 ^ 31) × (leaves (self .now .h +ℤ n) ≡ false) ⌝ }
-        ensures { λ r. ⌜ r ≡ withLevel self (movedBy Sideways stride ruler (self .font .scale) n (self .now)) ⌝ }
+        requires { ⌜ Ruled ruler (self .font .scale) × Bounded (levelIn (self .now)) × Rounds (ruler .k) (self .now .across) ⌝ }
+        requires { ⌜ (natAbs n ≤ 2 ^ 31) × (leaves (self .now .across .position +ℤ n) ≡ false) ⌝ }
+        ensures { λ r. ⌜ r ≡ withLevel self (keptMovedBy Sideways stride ruler (self .font .scale) n (self .now)) ⌝ }
+        ensures { λ r. ⌜ r .now .down ≡ self .now .down ⌝ }
     {
         let scale = self.font.scale;
-        let level = self.now;
-        let next = registers::moved_by(Direction::Sideways, stride, ruler, scale, n, level);
-        self.now = next;
+        let mut level = self.now;
+        let from = level.across;
+        let spot = moving::move_by(Direction::Sideways, stride, ruler, scale, n, from);
+        level.across = spot;
+        self.now = level;
         self
     }
 
-    // Down by n: the rounded stride is the only one.
+    // Down by n: the rounded stride is the only one. What stands for sideways is left alone.
     pub fn down(mut self, ruler: Ruler, n: i64) -> Self
-        requires { ⌜ Ruled ruler (self .font .scale) × Bounded (self .now) ⌝ }
-        requires { ⌜ (natAbs n ≤ 2 ^ 31) × (leaves (self .now .v +ℤ n) ≡ false) ⌝ }
-        ensures { λ r. ⌜ r ≡ withLevel self (movedBy Down Rounded ruler (self .font .scale) n (self .now)) ⌝ }
+        requires { ⌜ Ruled ruler (self .font .scale) × Bounded (levelIn (self .now)) × Rounds (ruler .k) (self .now .down) ⌝ }
+        requires { ⌜ (natAbs n ≤ 2 ^ 31) × (leaves (self .now .down .position +ℤ n) ≡ false) ⌝ }
+        ensures { λ r. ⌜ r ≡ withLevel self (keptMovedBy Down Rounded ruler (self .font .scale) n (self .now)) ⌝ }
+        ensures { λ r. ⌜ r .now .across ≡ self .now .across ⌝ }
     {
         let scale = self.font.scale;
-        let level = self.now;
-        let next = registers::moved_by(Direction::Down, Stride::Rounded, ruler, scale, n, level);
-        self.now = next;
+        let mut level = self.now;
+        let from = level.down;
+        let spot = moving::move_by(Direction::Down, Stride::Rounded, ruler, scale, n, from);
+        level.down = spot;
+        self.now = level;
         self
     }
 
-    // Past a character that was set: by its width, and by the table's escapement in pixels.
+    // Past a character that was set: by its width, and by the table's escapement in pixels. What stands for down is left alone.
     pub fn past_character(mut self, ruler: Ruler, width: i64, escapement: i64) -> Self
-        requires { ⌜ Ruled ruler (self .font .scale) × Bounded (self .now) ⌝ }
-        requires { ⌜ (natAbs width ≤ 2 ^ 31) × (natAbs escapement ≤ 2 ^ 31) × (leaves (self .now .h +ℤ width) ≡ false) ⌝ }
-        ensures { λ r. ⌜ r ≡ withLevel self (characterMoved ruler width escapement (self .now)) ⌝ }
+        requires { ⌜ Ruled ruler (self .font .scale) × Bounded (levelIn (self .now)) × Rounds (ruler .k) (self .now .across) ⌝ }
+        requires { ⌜ (natAbs width ≤ 2 ^ 31) × (natAbs escapement ≤ 2 ^ 31) × (leaves (self .now .across .position +ℤ width) ≡ false) ⌝ }
+        ensures { λ r. ⌜ r ≡ withLevel self (keptPast ruler width escapement (self .now)) ⌝ }
+        ensures { λ r. ⌜ r .now .down ≡ self .now .down ⌝ }
     {
-        let level = self.now;
-        let spot = moving::settle(ruler, level.h + width, level.hh + escapement);
-        let next = registers::at_spot(Direction::Sideways, spot, level);
-        self.now = next;
+        let mut level = self.now;
+        let from = level.across;
+        let aim = Aim {
+            pixel: from.pixel + escapement,
+            drift: ruler.drift,
+        };
+        let spot = moving::settle(ruler.k, from, width, aim);
+        level.across = spot;
+        self.now = level;
         self
     }
 
     // At a level that a register has moved: the loop over a page finds it first, where its branches copy no array.
-    pub fn moved_to(mut self, level: Level) -> Self
+    pub fn moved_to(mut self, level: KeptLevel) -> Self
         ensures { λ r. ⌜ r ≡ withLevel self level ⌝ }
     {
         self.now = level;
@@ -136,17 +163,17 @@ impl Page {
 
     // One level deeper: the caller has stored the current level above the saved ones, where it copies no array.
     pub fn push(mut self) -> Self
-        requires { ⌜ (self .depth < 100) × (getD (self .stack) (self .depth) zeroLevel ≡ self .now) ⌝ }
-        ensures { λ r. ⌜ (pageState r ≡ pushed (pageState self)) × (r .depth ≡ self .depth + 1) × (r .stack ≡ self .stack) ⌝ }
+        requires { ⌜ (self .depth < 100) × (getD (self .stack) (self .depth) zeroKept ≡ self .now) ⌝ }
+        ensures { λ r. ⌜ (pageState r ≡ pushed (pageState self)) × (r .depth ≡ self .depth + 1) × (r .stack ≡ self .stack) × (r .now ≡ self .now) ⌝ }
     {
         self.depth = self.depth + 1;
         self
     }
 
-    // Back to the level that was saved last, which the caller has read, where that copies no array.
-    pub fn pop(mut self, last: Level) -> Self
-        requires { ⌜ (0 < self .depth) × (last ≡ getD (self .stack) (self .depth - 1) zeroLevel) ⌝ }
-        ensures { λ r. ⌜ (pageState r ≡ popped (pageState self)) × (r .depth ≡ self .depth - 1) × (r .stack ≡ self .stack) ⌝ }
+    // Back to the level that was saved last, its roundings with it, which the caller has read, where that copies no array.
+    pub fn pop(mut self, last: KeptLevel) -> Self
+        requires { ⌜ (0 < self .depth) × (last ≡ getD (self .stack) (self .depth - 1) zeroKept) ⌝ }
+        ensures { λ r. ⌜ (pageState r ≡ popped (pageState self)) × (r .depth ≡ self .depth - 1) × (r .stack ≡ self .stack) × (r .now ≡ last) ⌝ }
     {
         self.now = last;
         self.depth = self.depth - 1;

@@ -3,11 +3,11 @@ use units::Ratio;
 ghost use mathlib.Core.Path.{_≡_};
 ghost use mathlib.Core.Bool.{false};
 ghost use Prim.Native.Nat.{_≤_, _^_};
-ghost use lib.IntN.{natAbs, _+ℤ_};
+ghost use lib.IntN.{ℤ, natAbs, _+ℤ_};
 ghost use Rattle.units.specs.Rounding.{rounded};
 ghost use Rattle.units.specs.Steps.{Accepted};
-ghost use Rattle.state.specs.Moving.{leaves, near, drifted, settled, followed, moved};
-ghost use Rattle.state.specs.Steps.{Ruled};
+ghost use Rattle.state.specs.Moving.{leaves, near, drifted, moved};
+ghost use Rattle.state.specs.Steps.{tenths, Ruled, aimed, spotIn, keptSpot, Rounds};
 
 pub enum Direction {
     Sideways,
@@ -28,10 +28,17 @@ pub struct Ruler {
     pub drift: u64,
 }
 
-// h and hh, or v and vv
-pub struct Spot {
+// h with rounded h and hh, or v with rounded v and vv. Between the other two the rounding is cheapest to keep.
+pub struct KeptSpot {
     pub position: i64,
+    pub rounded: i64,
     pub pixel: i64,
+}
+
+// A pixel that has moved along, and how far it may stand from the rounded new position
+pub struct Aim {
+    pub pixel: i64,
+    pub drift: u64,
 }
 
 // Whether a position would leave −2,147,483,647 to 2,147,483,647.
@@ -42,22 +49,22 @@ pub fn leaves_range(position: i64, n: i64) -> bool
     2147483647 < numbers::magnitude(position + n)
 }
 
+// How many tenths of the font's scale a near move is shorter than.
+fn tenths_of(direction: Direction, n: i64) -> u64
+    ensures { λ r. ⌜ r ≡ tenths direction n ⌝ }
+{
+    match direction {
+        Direction::Sideways => { if n < 0 { 9 } else { 2 } }
+        Direction::Down => 8,
+    }
+}
+
 // Whether a move is so small that the pixel moves by the rounded distance.
 pub fn is_near(direction: Direction, n: i64, scale: u64) -> bool
     requires { ⌜ (natAbs n ≤ 2 ^ 31) × (scale ≤ 134217727) ⌝ }
     ensures { λ r. ⌜ r ≡ near direction n scale ⌝ }
 {
-    let distance = numbers::magnitude(n);
-    match direction {
-        Direction::Sideways => {
-            if n < 0 {
-                10 * distance < 9 * scale
-            } else {
-                5 * distance < scale
-            }
-        }
-        Direction::Down => 5 * distance < 4 * scale,
-    }
+    10 * numbers::magnitude(n) < tenths_of(direction, n) * scale
 }
 
 // The pixel, brought back to within D of the centre, the rounded position, if it is further.
@@ -75,43 +82,58 @@ pub fn held_near(drift: u64, centre: i64, pixel: i64) -> i64
     }
 }
 
-// A new position, with the pixel that has moved along.
-pub fn settle(ruler: Ruler, position: i64, pixel: i64) -> Spot
-    requires { ⌜ Accepted (ruler .k) × (ruler .drift ≤ 2) ⌝ }
-    requires { ⌜ (natAbs position ≤ 2 ^ 31) × (natAbs pixel ≤ 2 ^ 32) ⌝ }
-    ensures { λ r. ⌜ r ≡ settled ruler position pixel ⌝ }
+// The rounded new position: the one that is kept where nothing moves, or where K is 0.
+fn rounded_after(k: Ratio, from: KeptSpot, n: i64) -> i64
+    requires { ⌜ Accepted k × Rounds k from × (natAbs (from .position) ≤ 2 ^ 31) × (natAbs n ≤ 2 ^ 31) × (leaves (from .position +ℤ n) ≡ false) ⌝ }
+    ensures { λ r. ⌜ r ≡ rounded k (from .position +ℤ n) ⌝ }
 {
-    let centre = units::round(ruler.k, position);
-    Spot {
-        position: position,
-        pixel: held_near(ruler.drift, centre, pixel),
+    if n == 0 {
+        return from.rounded;
+    }
+    if k.p == 0 {
+        return from.rounded;
+    }
+    units::round(k, from.position + n)
+}
+
+// Moved on by n, with the pixel that has moved along: the one place where a new position is rounded, once.
+pub fn settle(k: Ratio, from: KeptSpot, n: i64, aim: Aim) -> KeptSpot
+    requires { ⌜ Accepted k × Rounds k from × (natAbs (from .position) ≤ 2 ^ 31) × (natAbs n ≤ 2 ^ 31) × (leaves (from .position +ℤ n) ≡ false) ⌝ }
+    requires { ⌜ (natAbs (aim .pixel) ≤ 2 ^ 32) × (aim .drift ≤ 2) ⌝ }
+    ensures { λ r. ⌜ r ≡ keptSpot k (aimed k aim (from .position +ℤ n)) ⌝ }
+{
+    let centre = rounded_after(k, from, n);
+    KeptSpot {
+        position: from.position + n,
+        rounded: centre,
+        pixel: held_near(aim.drift, centre, aim.pixel),
     }
 }
 
-// Where a move by n takes the pixel. The centre, to which a far one goes, is the rounded new position.
-fn follow(
-    direction: Direction,
-    stride: Stride,
-    ruler: Ruler,
-    scale: u64,
-    n: i64,
-    spot: Spot,
-    centre: i64,
-) -> i64
-    requires { ⌜ Ruled ruler scale × (natAbs n ≤ 2 ^ 31) × (natAbs (spot .pixel) ≤ 2 ^ 31) ⌝ }
-    requires { ⌜ (centre ≡ rounded (ruler .k) (spot .position +ℤ n)) × (natAbs centre ≤ 2 ^ 31) ⌝ }
-    ensures { λ r. ⌜ (r ≡ followed direction stride ruler scale n spot) × (natAbs r ≤ 2 ^ 32) ⌝ }
+// Where a move by n takes the pixel. A far one takes it to the rounded new position, which is to hold it within 0 of that.
+fn follow(direction: Direction, stride: Stride, ruler: Ruler, scale: u64, n: i64, pixel: i64) -> Aim
+    requires { ⌜ Ruled ruler scale × (natAbs n ≤ 2 ^ 31) × (natAbs pixel ≤ 2 ^ 31) ⌝ }
+    ensures { λ r. ⌜ ((position : ℤ) → aimed (ruler .k) r (position +ℤ n) ≡ moved direction stride ruler scale n (record { position = position; pixel = pixel })) ⌝ }
+    ensures { λ r. ⌜ (natAbs (r .pixel) ≤ 2 ^ 32) × (r .drift ≤ 2) ⌝ }
 {
-    let pixel = spot.pixel;
     match stride {
         Stride::Rounded => {
             if is_near(direction, n, scale) {
-                pixel + units::round(ruler.k, n)
+                Aim {
+                    pixel: pixel + units::round(ruler.k, n),
+                    drift: ruler.drift,
+                }
             } else {
-                centre
+                Aim {
+                    pixel: pixel,
+                    drift: 0,
+                }
             }
         }
-        Stride::RoundedUp => pixel + units::round_up(ruler.k, n),
+        Stride::RoundedUp => Aim {
+            pixel: pixel + units::round_up(ruler.k, n),
+            drift: ruler.drift,
+        },
     }
 }
 
@@ -122,17 +144,12 @@ pub fn move_by(
     ruler: Ruler,
     scale: u64,
     n: i64,
-    spot: Spot,
-) -> Spot
-    requires { ⌜ Ruled ruler scale × (natAbs (spot .position) ≤ 2 ^ 31) × (natAbs (spot .pixel) ≤ 2 ^ 31) ⌝ }
-    requires { ⌜ (natAbs n ≤ 2 ^ 31) × (leaves (spot .position +ℤ n) ≡ false) ⌝ }
-    ensures { λ r. ⌜ r ≡ moved direction stride ruler scale n spot ⌝ }
+    from: KeptSpot,
+) -> KeptSpot
+    requires { ⌜ Ruled ruler scale × Rounds (ruler .k) from × (natAbs (from .position) ≤ 2 ^ 31) × (natAbs (from .pixel) ≤ 2 ^ 31) ⌝ }
+    requires { ⌜ (natAbs n ≤ 2 ^ 31) × (leaves (from .position +ℤ n) ≡ false) ⌝ }
+    ensures { λ r. ⌜ r ≡ keptSpot (ruler .k) (moved direction stride ruler scale n (spotIn from)) ⌝ }
 {
-    let after = spot.position + n;
-    let centre = units::round(ruler.k, after);
-    let pixel = follow(direction, stride, ruler, scale, n, spot, centre);
-    Spot {
-        position: after,
-        pixel: held_near(ruler.drift, centre, pixel),
-    }
+    let aim = follow(direction, stride, ruler, scale, n, from.pixel);
+    settle(ruler.k, from, n, aim)
 }

@@ -1,17 +1,18 @@
-// A level by direction and by register: h with hh and v with vv, and w, x, y, z, each written here alone.
+// A level by direction and by register: its eight numbers, and w, x, y, z, each written here alone.
+use crate::KeptLevel;
 use crate::Level;
 use crate::moving;
 use crate::moving::Direction;
+use crate::moving::KeptSpot;
 use crate::moving::Ruler;
-use crate::moving::Spot;
 use crate::moving::Stride;
 ghost use mathlib.Core.Path.{_≡_};
 ghost use mathlib.Core.Bool.{false};
 ghost use Prim.Native.Nat.{_≤_, _^_};
 ghost use lib.IntN.{natAbs, _+ℤ_};
 ghost use Rattle.state.specs.Moving.{leaves};
-ghost use Rattle.state.specs.Registers.{spotOf, atSpot, movedBy, registerOf, withRegister, directionOf, movedByRegister};
-ghost use Rattle.state.specs.Steps.{Ruled, Bounded};
+ghost use Rattle.state.specs.Registers.{spotOf, registerOf, directionOf};
+ghost use Rattle.state.specs.Steps.{Ruled, Bounded, Rounds, levelIn, keptSpotOf, atKeptSpot, keptWithRegister, keptMovedBy};
 
 pub enum Register {
     W,
@@ -20,63 +21,59 @@ pub enum Register {
     Z,
 }
 
-// h and hh, or v and vv.
-pub fn spot_of(direction: Direction, level: Level) -> Spot
-    ensures { λ r. ⌜ r ≡ spotOf direction level ⌝ }
+// The eight numbers of a kept level.
+pub fn level_of(kept: KeptLevel) -> Level
+    ensures { λ r. ⌜ r ≡ levelIn kept ⌝ }
 {
-    match direction {
-        Direction::Sideways => Spot {
-            position: level.h,
-            pixel: level.hh,
-        },
-        Direction::Down => Spot {
-            position: level.v,
-            pixel: level.vv,
-        },
+    let across = kept.across;
+    let down = kept.down;
+    Level {
+        h: across.position,
+        v: down.position,
+        w: kept.w,
+        x: kept.x,
+        y: kept.y,
+        z: kept.z,
+        hh: across.pixel,
+        vv: down.pixel,
     }
 }
 
-// The level with another h and hh, or v and vv.
-pub fn at_spot(direction: Direction, spot: Spot, level: Level) -> Level
-    ensures { λ r. ⌜ r ≡ atSpot direction spot level ⌝ }
+// h or v.
+pub fn position_of(direction: Direction, level: Level) -> i64
+    ensures { λ r. ⌜ r ≡ spotOf direction level .position ⌝ }
+{
+    match direction {
+        Direction::Sideways => level.h,
+        Direction::Down => level.v,
+    }
+}
+
+// Where a level stands in a direction.
+fn spot_of(direction: Direction, level: KeptLevel) -> KeptSpot
+    ensures { λ r. ⌜ r ≡ keptSpotOf direction level ⌝ }
+{
+    match direction {
+        Direction::Sideways => level.across,
+        Direction::Down => level.down,
+    }
+}
+
+// The level that stands elsewhere in a direction. The other direction's numbers are left alone.
+fn at_spot(direction: Direction, spot: KeptSpot, level: KeptLevel) -> KeptLevel
+    ensures { λ r. ⌜ r ≡ atKeptSpot direction spot level ⌝ }
 {
     let mut next = level;
     match direction {
         Direction::Sideways => {
-            next.h = spot.position;
-            next.hh = spot.pixel;
+            next.across = spot;
             next
         }
         Direction::Down => {
-            next.v = spot.position;
-            next.vv = spot.pixel;
+            next.down = spot;
             next
         }
     }
-}
-
-// The level moved by n in a direction and a stride.
-pub fn moved_by(
-    direction: Direction,
-    stride: Stride,
-    ruler: Ruler,
-    scale: u64,
-    n: i64,
-    level: Level,
-) -> Level
-    requires { ⌜ Ruled ruler scale × Bounded level ⌝ }
-    requires { ⌜ (natAbs n ≤ 2 ^ 31) × (leaves (spotOf direction level .position +ℤ n) ≡ false) ⌝ }
-    ensures { λ r. ⌜ r ≡ movedBy direction stride ruler scale n level ⌝ }
-{
-    let spot = moving::move_by(
-        direction,
-        stride,
-        ruler,
-        scale,
-        n,
-        spot_of(direction, level),
-    );
-    at_spot(direction, spot, level)
 }
 
 // w and x move sideways, y and z down.
@@ -104,8 +101,8 @@ pub fn register_of(register: Register, level: Level) -> i64
 }
 
 // The level with n in a register.
-pub fn with_register(register: Register, n: i64, level: Level) -> Level
-    ensures { λ r. ⌜ r ≡ withRegister register n level ⌝ }
+fn with_register(register: Register, n: i64, level: KeptLevel) -> KeptLevel
+    ensures { λ r. ⌜ r ≡ keptWithRegister register n level ⌝ }
 {
     let mut next = level;
     match register {
@@ -128,18 +125,18 @@ pub fn with_register(register: Register, n: i64, level: Level) -> Level
     }
 }
 
-// The level with n in a register, moved by n in the register's direction and a stride. It does not call moved_by: the compiler would then not put that into the walk over a page, and would copy the page at each such move.
+// The level with n in a register, moved by n in the register's direction and a stride.
 pub fn moved_by_register(
     register: Register,
     stride: Stride,
     ruler: Ruler,
     scale: u64,
     n: i64,
-    level: Level,
-) -> Level
-    requires { ⌜ Ruled ruler scale × Bounded level ⌝ }
-    requires { ⌜ (natAbs n ≤ 2 ^ 31) × (leaves (spotOf (directionOf register) level .position +ℤ n) ≡ false) ⌝ }
-    ensures { λ r. ⌜ r ≡ movedByRegister register stride ruler scale n level ⌝ }
+    level: KeptLevel,
+) -> KeptLevel
+    requires { ⌜ Ruled ruler scale × Bounded (levelIn level) × Rounds (ruler .k) (keptSpotOf (directionOf register) level) ⌝ }
+    requires { ⌜ (natAbs n ≤ 2 ^ 31) × (leaves (spotOf (directionOf register) (levelIn level) .position +ℤ n) ≡ false) ⌝ }
+    ensures { λ r. ⌜ r ≡ keptMovedBy (directionOf register) stride ruler scale n (keptWithRegister register n level) ⌝ }
 {
     let direction = direction_of(register);
     let holding = with_register(register, n, level);

@@ -95,8 +95,8 @@ module _ (setting : Setting) (level : Level) (saved : List Level) (font : Font) 
   s = stateWith level saved font
 
   plain-does : (direction : Direction) → did setting s (plainTurn direction level (c .params)) Adds.Nothing ≡ plainMove direction setting s (c .params)
-  plain-does direction =
-      let n = distance (c .params) in did-unless setting s (Turn.By direction n) Adds.Nothing (leaves (spotOf direction level .position +ℤ n))
+  plain-does Direction.Sideways = let n = distance (c .params) in did-unless setting s (Turn.Sideways Stride.Rounded n) Adds.Nothing (leaves (level .h +ℤ n))
+  plain-does Direction.Down = let n = distance (c .params) in did-unless setting s (Turn.Down n) Adds.Nothing (leaves (level .v +ℤ n))
 
   register-does : (register : Register) → did setting s (registerTurn register level (c .params)) Adds.Nothing ≡ registerMove register setting s (c .params)
   register-does register =
@@ -135,7 +135,8 @@ module _ (setting : Setting) (level : Level) (saved : List Level) (font : Font) 
 
 module _ (level : Level) (params : List ℕ) where
   plain-inside : (direction : Direction) → turnFrame (plainTurn direction level params) ≡ inside
-  plain-inside direction = let n = distance params in inside-unless direction level n (Turn.By direction n) refl
+  plain-inside Direction.Sideways = let n = distance params in inside-unless Direction.Sideways level n (Turn.Sideways Stride.Rounded n) refl
+  plain-inside Direction.Down = let n = distance params in inside-unless Direction.Down level n (Turn.Down n) refl
 
   register-inside : (register : Register) → turnFrame (registerTurn register level params) ≡ inside
   register-inside register =
@@ -179,7 +180,8 @@ module _ (params : List ℕ) (bytes : (i : ℕ) → getD params i 0 < 256) where
 
   module _ (level : Level) (bounded : Bounded level) where
     plain-safe : (direction : Direction) → length params ≤ 4 → Safe level (plainTurn direction level params)
-    plain-safe direction fits = let n = distance params in safe-unless direction level n (Turn.By direction n) (λ stays. (distance-small fits, stays))
+    plain-safe Direction.Sideways fits = let n = distance params in safe-unless Direction.Sideways level n (Turn.Sideways Stride.Rounded n) (λ stays. (distance-small fits, stays))
+    plain-safe Direction.Down fits = let n = distance params in safe-unless Direction.Down level n (Turn.Down n) (λ stays. (distance-small fits, stays))
 
     register-safe : (register : Register) → length params ≤ 4 → Safe level (registerTurn register level params)
     register-safe register fits =
@@ -237,7 +239,7 @@ module _ (setting : Setting) (level : Level) (font : Font) (c : Command) (r : As
 
 module _ (terms : Terms) (table : List ℕ) (volume : List Command) (level : Level) (font : Font) (params : List ℕ) (bounded : Bounded level) (bytes : (i : ℕ) → getD params i 0 < 256) where
   abbrev past : Turn
-  past = Turn.PastRule (ruleWidth params)
+  past = Turn.Sideways Stride.RoundedUp (ruleWidth params)
 
   -- what a rule comes to that is set
   rule-does : (saved : List Level) (adds : Adds) → addedOf adds ≡ ruleBy terms level (ruleHeight params) (ruleWidth params)

@@ -56,10 +56,10 @@ stateWith level saved font = record { level = level; saved = saved; font = font 
 -- the outcome of what the code says that a command does and adds
 abbrev pub did : Setting → State → Turn → Adds → Outcome
 did setting s Turn.Stay adds = continues s (addedOf adds)
-did setting s (Turn.By direction n) adds = continues (withNumbers s (movedBy direction Stride.Rounded (setting .ruler) (s .font .scale) n (s .level))) (addedOf adds)
+did setting s (Turn.Sideways stride n) adds = continues (withNumbers s (movedBy Direction.Sideways stride (setting .ruler) (s .font .scale) n (s .level))) (addedOf adds)
+did setting s (Turn.Down n) adds = continues (withNumbers s (movedBy Direction.Down Stride.Rounded (setting .ruler) (s .font .scale) n (s .level))) (addedOf adds)
 did setting s (Turn.ByRegister register n) adds = continues (withNumbers s (movedByRegister register Stride.Rounded (setting .ruler) (s .font .scale) n (s .level))) (addedOf adds)
 did setting s (Turn.PastCharacter width escapement) adds = continues (withNumbers s (characterMoved (setting .ruler) width escapement (s .level))) (addedOf adds)
-did setting s (Turn.PastRule width) adds = continues (withNumbers s (movedBy Direction.Sideways Stride.RoundedUp (setting .ruler) (s .font .scale) width (s .level))) (addedOf adds)
 did setting s Turn.Push adds = continues (pushed s) (addedOf adds)
 did setting s Turn.Pop adds = continues (popped s) (addedOf adds)
 did setting s (Turn.Select number) adds = continues (record { level = s .level; saved = s .saved; font = fontOf setting number }) (addedOf adds)
@@ -73,10 +73,10 @@ Stays direction level n = (natAbs n ≤ 2 ^ 31) × (leaves (spotOf direction lev
 -- what the page's methods need of a turn
 abbrev pub Safe : Level → Turn → Type 0
 Safe now Turn.Stay = Unit {0}
-Safe now (Turn.By direction n) = Stays direction now n
+Safe now (Turn.Sideways stride n) = Stays Direction.Sideways now n
+Safe now (Turn.Down n) = Stays Direction.Down now n
 Safe now (Turn.ByRegister register n) = Stays (directionOf register) now n
 Safe now (Turn.PastCharacter width escapement) = Stays Direction.Sideways now width × (natAbs escapement ≤ 2 ^ 31)
-Safe now (Turn.PastRule width) = Stays Direction.Sideways now width
 Safe now Turn.Push = Unit {0}
 Safe now Turn.Pop = Unit {0}
 Safe now (Turn.Select number) = natAbs number ≤ 2 ^ 31
@@ -86,10 +86,10 @@ Safe now Turn.Leave = Unit {0}
 -- what a turn is to the blocks of its page
 abbrev pub turnFrame : Turn → Frame
 turnFrame Turn.Stay = inside
-turnFrame (Turn.By direction n) = inside
+turnFrame (Turn.Sideways stride n) = inside
+turnFrame (Turn.Down n) = inside
 turnFrame (Turn.ByRegister register n) = inside
 turnFrame (Turn.PastCharacter width escapement) = inside
-turnFrame (Turn.PastRule width) = inside
 turnFrame Turn.Push = opening
 turnFrame Turn.Pop = closing
 turnFrame (Turn.Select number) = inside
@@ -134,9 +134,14 @@ ruleBy terms level height width =
 abbrev pub unlessLeft : Direction → Level → ℤ → Turn → Turn
 unlessLeft direction level n turn = cond (leaves (spotOf direction level .position +ℤ n)) Turn.Leave turn
 
+-- the turn of a move by n in a direction, in the rounded stride
+abbrev pub roundedTurn : Direction → ℤ → Turn
+roundedTurn Direction.Sideways n = Turn.Sideways Stride.Rounded n
+roundedTurn Direction.Down n = Turn.Down n
+
 -- the turn of a move by its own distance
 abbrev pub plainTurn : Direction → Level → List ℕ → Turn
-plainTurn direction level params = let n = distance params in unlessLeft direction level n (Turn.By direction n)
+plainTurn direction level params = let n = distance params in unlessLeft direction level n (roundedTurn direction n)
 
 -- the turn of a move by a register
 abbrev pub registerTurn : Register → Level → List ℕ → Turn
@@ -145,7 +150,7 @@ registerTurn register level params =
 
 -- what a rule asks, set or put
 pub record RuleAsks (terms : Terms) (level : Level) (sets : Bool) (params : List ℕ) (r : Asked) : Type 0 where
-  pub turn-is : r .turn ≡ cond sets (unlessLeft Direction.Sideways level (ruleWidth params) (Turn.PastRule (ruleWidth params))) Turn.Stay
+  pub turn-is : r .turn ≡ cond sets (unlessLeft Direction.Sideways level (ruleWidth params) (Turn.Sideways Stride.RoundedUp (ruleWidth params))) Turn.Stay
   pub adds-are : addedOf (r .adds) ≡ ruleBy terms level (ruleHeight params) (ruleWidth params)
   pub words : AddsInWords (r .adds)
 

@@ -1,7 +1,7 @@
 // One command of a page: the turn of the state that it asks, and what it adds to the page.
 use placements::Adds;
-use state::moving::Direction;
 use state::moving::Ruler;
+use state::moving::Stride;
 use state::registers::Register;
 use widths::blocks::Block;
 
@@ -25,14 +25,14 @@ pub struct Kept {
 // What a command does to the page's state
 pub enum Turn {
     Stay,
-    // by a distance in a direction
-    By(Direction, i64),
+    // sideways by a distance in a stride
+    Sideways(Stride, i64),
+    // down by a distance
+    Down(i64),
     // by a distance that a register is set to
     ByRegister(Register, i64),
     // by the width of a character that is set, and its escapement in pixels
     PastCharacter(i64, i64),
-    // by the width of a rule that is set
-    PastRule(i64),
     Push,
     Pop,
     // the font of a number

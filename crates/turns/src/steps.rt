@@ -13,6 +13,7 @@ use state::Font;
 use state::Level;
 use state::moving;
 use state::moving::Direction;
+use state::moving::Stride;
 use state::registers;
 use state::registers::Register;
 use widths::blocks;
@@ -131,8 +132,7 @@ fn unless_left(direction: Direction, level: Level, n: i64, turn: Turn) -> Turn
     requires { ⌜ Bounded level × (natAbs n ≤ 2 ^ 31) ⌝ }
     ensures { λ r. ⌜ r ≡ unlessLeft direction level n turn ⌝ }
 {
-    let spot = registers::spot_of(direction, level);
-    if moving::leaves_range(spot.position, n) {
+    if moving::leaves_range(registers::position_of(direction, level), n) {
         return Turn::Leave;
     }
     turn
@@ -144,7 +144,13 @@ fn plain_turn(direction: Direction, level: Level, params: &[u8]) -> Turn
     ensures { λ r. ⌜ r ≡ plainTurn direction level (now (params .entry)) ⌝ }
 {
     let n = parameters::distance_of(params);
-    unless_left(direction, level, n, Turn::By(direction, n))
+    match direction {
+        Direction::Sideways => {
+            let right = Turn::Sideways(Stride::Rounded, n);
+            unless_left(direction, level, n, right)
+        }
+        Direction::Down => unless_left(direction, level, n, Turn::Down(n)),
+    }
 }
 
 // The distance of a move: w0, x0, y0 and z0 have none and take the register.
@@ -196,7 +202,7 @@ fn rule(terms: Terms, level: Level, sets: bool, params: &[u8], hint: usize) -> A
     let width = parameters::rule_width(params);
     let adds = rule_adds(terms, level, height, width);
     if sets {
-        let past = Turn::PastRule(width);
+        let past = Turn::Sideways(Stride::RoundedUp, width);
         return Asked {
             turn: unless_left(Direction::Sideways, level, width, past),
             adds: adds,

@@ -9,6 +9,7 @@ use denote.Ref.{now}
 use Rattle.refusals.specs.Answer.{Answer}
 use Rattle.volume.specs.History.{history}
 use Rattle.state.specs.Registers.{freshState}
+use Rattle.state.specs.declared.moving.Ruler.{Ruler}
 use Rattle.placements.specs.declared.Counts.{Counts}
 use Rattle.page.specs.declared.Walked.{Walked}
 use Rattle.page.specs.declared.Walked.the-variants as Walked
@@ -17,6 +18,7 @@ use Rattle.page.specs.PageList.{pageOf}
 use Rattle.turns.specs.Placing.{Contents, placing}
 use Rattle.turns.specs.Steps.{termsSetting}
 use Rattle.page.specs.Steps.{zeroCounts, finish, endingOf, Few}
+use Rattle.page.proofs.AnyRuler.{byRuler, any-ruler, ends-alike}
 use Rattle.page.proofs.PlaceLaws.{Through, walk-through, walk-again, left-to, short-to, all-to}
 use Rattle.page.proofs.placing.place_commands.Statement.{statement}
 use Rattle.page.proofs.placing.place_commands.Tie as tie
@@ -38,9 +40,22 @@ module _ (w : tie.After-walk) where
   abbrev entry : List ℕ
   entry = now (start .args .out)
 
+  -- the page by a ruler
+  abbrev by : Ruler → Answer Contents
+  by ruler =
+      placing (byRuler ruler (termsSetting (start .args .terms) (now (start .args .widths)) (history (now (start .args .file))))) freshState (pageOf (start .args .terms .page) (history (now (start .args .file))))
+
+  -- by the caller's, and by the one that the walk counts with
   abbrev answer : Answer Contents
-  answer =
-      placing (termsSetting (start .args .terms) (now (start .args .widths)) (history (now (start .args .file)))) freshState (pageOf (start .args .terms .page) (history (now (start .args .file))))
+  answer = by (start .args .terms .ruler)
+
+  abbrev counting : Ruler
+  counting = record { k = record { p = 0; q = 1 }; drift = 0 }
+
+  same-counts : finish [] zeroCounts (by counting) ≡ finish [] zeroCounts answer
+  same-counts =
+      ends-alike (by counting) answer
+      (any-ruler counting (start .args .terms .ruler) (termsSetting (start .args .terms) (now (start .args .widths)) (history (now (start .args .file)))) freshState (pageOf (start .args .terms .page) (history (now (start .args .file)))))
 
   -- an area without room stays so
   nothing-written : (area : List ℕ) → length area ≡ 0 → area ≡ []
@@ -54,7 +69,7 @@ module _ (w : tie.After-walk) where
   unchanged = ap (λ (area : List ℕ). area ++ entry) empty
 
   shows : (r : Walked) → w .walk .result ≡ r → endingOf (w .walk .last .1 .1 .1 .1 .1 .0) r ≡ finish [] zeroCounts answer
-  shows r e = subst (λ (x : Walked). endingOf (w .walk .last .1 .1 .1 .1 .1 .0) x ≡ finish [] zeroCounts answer) e (w .walk .ensures .0)
+  shows r e = subst (λ (x : Walked). endingOf (w .walk .last .1 .1 .1 .1 .1 .0) x ≡ finish [] zeroCounts answer) e (w .walk .ensures .0 ∙ same-counts)
 
   counted : (counts : Counts) → w .walk .result ≡ Walked.Through counts → Through [] answer (w .walk .last .1 .1 .1 .1 .1 .0) counts
   counted counts e = walk-through [] answer (w .walk .last .1 .1 .1 .1 .1 .0) counts (shows (Walked.Through counts) e)

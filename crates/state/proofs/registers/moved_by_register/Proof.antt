@@ -1,14 +1,16 @@
 -- `state::registers::moved_by_register` meets its contract, for every register and either stride. Assumes nothing.
-use mathlib.Core.Path.{_≡_, ap, ap₂, _∙_}
+use mathlib.Core.Path.{_≡_, ap, ap₂, _∙_, subst}
+use mathlib.Core.Bool.{false}
 use borrow.Author.Needs.{needs}
-use lib.IntN.{ℤ}
+use lib.IntN.{ℤ, _+ℤ_}
 use mir.Facts.{toZ-ofZ}
-use Rattle.state.specs.declared.Level.{Level}
+use Rattle.state.specs.declared.KeptLevel.{KeptLevel}
 use Rattle.state.specs.declared.moving.Direction.{Direction}
-use Rattle.state.specs.declared.moving.Spot.{Spot}
-use Rattle.state.specs.Moving.{moved}
-use Rattle.state.specs.Registers.{spotOf, atSpot, withRegister, directionOf}
-use Rattle.state.proofs.Levels.{spot-in, bounded-register, register-stays}
+use Rattle.state.specs.declared.moving.KeptSpot.{KeptSpot}
+use Rattle.state.specs.Moving.{Spot, leaves, moved}
+use Rattle.state.specs.Registers.{directionOf}
+use Rattle.state.specs.Steps.{spotIn, keptSpot, keptSpotOf, atKeptSpot, keptWithRegister}
+use Rattle.state.proofs.Kept.{spot-kept, kept-in, spot-register}
 use Rattle.state.proofs.Words.{asWord}
 use Rattle.state.proofs.registers.moved_by_register.Statement.{statement}
 use Rattle.state.proofs.registers.moved_by_register.Tie as tie
@@ -30,24 +32,29 @@ module _ (c : tie.After-spot-of) where
   abbrev direction : Direction
   direction = directionOf (start .args .register)
 
-  abbrev holding : Level
-  holding = withRegister (start .args .register) (start .args .n) (start .args .level)
+  abbrev holding : KeptLevel
+  holding = keptWithRegister (start .args .register) (start .args .n) (start .args .level)
 
   direction-is : c .before .before .direction-of .result ≡ direction
   direction-is = c .before .before .direction-of .ensures
 
   holding-is : c .before .with-register .result ≡ holding
-  holding-is = c .before .with-register .ensures ∙ ap (λ (n : ℤ). withRegister (start .args .register) n (start .args .level)) (toZ-ofZ (start .fits .n))
+  holding-is = c .before .with-register .ensures ∙ ap (λ (n : ℤ). keptWithRegister (start .args .register) n (start .args .level)) (toZ-ofZ (start .fits .n))
 
-  spot-is : c .spot-of .result ≡ spotOf direction holding
-  spot-is = c .spot-of .ensures ∙ ap₂ spotOf direction-is holding-is
+  spot-is : c .spot-of .result ≡ keptSpotOf direction holding
+  spot-is = c .spot-of .ensures ∙ ap₂ keptSpotOf direction-is holding-is
+
+  -- a register does not move it
+  spot-there : c .spot-of .result ≡ keptSpotOf direction (start .args .level)
+  spot-there = spot-is ∙ spot-register (start .args .register) direction (start .args .n) (start .args .level)
 
 move-by-requires : tie.Need-move-by-requires
 move-by-requires c κs =
     let s = start c in
     let a = s .args in
-    let small = spot-in (direction c) (holding c) (bounded-register (a .register) (a .n) (a .level) (s .pre .0 .1) (s .pre .1 .0)) in
-    rw (spot-is c, toZ-ofZ (s .fits .n)) ((s .pre .0 .0, small .0, small .1), (s .pre .1 .0, register-stays (a .register) (a .n) (a .level) (s .pre .1 .1)))
+    let small = kept-in (direction c) (a .level) (s .pre .0 .1) in
+    let stays = subst (λ (spot : Spot). leaves (spot .position +ℤ a .n) ≡ false) (spot-kept (direction c) (a .level)) (s .pre .1 .1) in
+    rw (spot-there c, toZ-ofZ (s .fits .n)) ((s .pre .0 .0, s .pre .0 .2, small .0, small .1), (s .pre .1 .0, stays))
 
 at-spot-requires : tie.Need-at-spot-requires
 at-spot-requires c κs = search needs
@@ -58,12 +65,13 @@ returns c =
     let s = start before in
     let a = s .args in
     let moves = c .before .move-by in
+    let leads : Direction → ℤ → KeptSpot → KeptSpot = λ way n spot. keptSpot (a .ruler .k) (moved way (a .stride) (a .ruler) (a .scale) n (spotIn spot)) in
     c .at-spot .ensures
-    ∙ ap₂ (λ (way : Direction) (level : Level). atSpot way (moves .result) level) (direction-is before) (holding-is before)
-    ∙ ap (λ (spot : Spot). atSpot (direction before) spot (holding before))
+    ∙ ap₂ (λ (way : Direction) (level : KeptLevel). atKeptSpot way (moves .result) level) (direction-is before) (holding-is before)
+    ∙ ap (λ (spot : KeptSpot). atKeptSpot (direction before) spot (holding before))
     (moves .ensures
-    ∙ ap (λ (way : Direction). moved way (a .stride) (a .ruler) (a .scale) (asWord (a .n)) (before .spot-of .result)) (direction-is before)
-    ∙ ap₂ (moved (direction before) (a .stride) (a .ruler) (a .scale)) (toZ-ofZ (s .fits .n)) (spot-is before))
+    ∙ ap (λ (way : Direction). leads way (asWord (a .n)) (before .spot-of .result)) (direction-is before)
+    ∙ ap₂ (leads (direction before)) (toZ-ofZ (s .fits .n)) (spot-is before))
 
 pub moved-by-register-spec : {M : Type 1} → statement M
 moved-by-register-spec =

@@ -8,6 +8,7 @@ use mir.Val.{toZ, ofZ}
 use mir.Facts.{toZ-ofZ}
 use Rattle.commands.specs.Parameters.{ruleHeight, ruleWidth}
 use Rattle.state.specs.declared.moving.Direction.the-variants as Direction
+use Rattle.state.specs.declared.moving.Stride.the-variants as Stride
 use Rattle.turns.specs.declared.Turn.the-variants as Turn
 use Rattle.placements.specs.Steps.{addedOf}
 use Rattle.turns.specs.Steps.{ruleBy, unlessLeft}
@@ -40,7 +41,7 @@ returns : tie.Need-returns
 returns c =
     let s = c .before .before .before .before .before .before in
     record {
-      turn-is = c .unless-left .ensures ∙ ap (λ (n : ℤ). unlessLeft Direction.Sideways (s .args .level) n (Turn.PastRule n)) (width-is (c .before .before .before)) ∙ simp (c .before .if1 .taken);
+      turn-is = c .unless-left .ensures ∙ ap (λ (n : ℤ). unlessLeft Direction.Sideways (s .args .level) n (Turn.Sideways Stride.RoundedUp n)) (width-is (c .before .before .before)) ∙ simp (c .before .if1 .taken);
       adds-are = adds-are (c .before .before);
       words = c .before .before .rule-adds .ensures .1;
     }

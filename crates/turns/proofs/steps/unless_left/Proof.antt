@@ -7,7 +7,6 @@ use lib.IntN.{ℤ, natAbs, _+ℤ_}
 use mir.Syntax.{w64}
 use mir.Val.{toZ, ofZ}
 use mir.Facts.{toZ-ofZ}
-use Rattle.state.specs.declared.moving.Spot.{Spot}
 use Rattle.state.specs.Moving.{leaves}
 use Rattle.state.specs.Registers.{spotOf}
 use Rattle.state.proofs.Levels.{spot-in}
@@ -15,13 +14,13 @@ use Rattle.turns.proofs.Words.{word, small-word}
 use Rattle.turns.proofs.steps.unless_left.Statement.{statement}
 use Rattle.turns.proofs.steps.unless_left.Tie as tie
 
-spot-of-requires : tie.Need-spot-of-requires
-spot-of-requires c κs = search needs
+position-of-requires : tie.Need-position-of-requires
+position-of-requires c κs = search needs
 
 -- the position that the code reads, in the direction
-module _ (c : tie.After-struct-told) where
+module _ (c : tie.After-position-of) where
   abbrev start : tie.Start
-  start = c .before .before
+  start = c .before
 
   abbrev position : ℤ
   position = spotOf (start .args .direction) (start .args .level) .position
@@ -29,8 +28,8 @@ module _ (c : tie.After-struct-told) where
   position-small : natAbs position ≤ 2 ^ 31
   position-small = spot-in (start .args .direction) (start .args .level) (start .pre .0) .0
 
-  position-is : toZ w64 (ofZ w64 (c .before .spot-of .result .position)) ≡ position
-  position-is = ap (λ (spot : Spot). toZ w64 (ofZ w64 (spot .position))) (c .before .spot-of .ensures) ∙ word position position-small
+  position-is : toZ w64 (ofZ w64 (c .position-of .result)) ≡ position
+  position-is = ap (λ (z : ℤ). toZ w64 (ofZ w64 z)) (c .position-of .ensures) ∙ word position position-small
 
 leaves-range-requires : tie.Need-leaves-range-requires
 leaves-range-requires c κs =
@@ -51,4 +50,4 @@ returns-2 c =
     rw e
 
 pub unless-left-spec : {M : Type 1} → statement M
-unless-left-spec = tie.close (tie.spec spot-of-requires leaves-range-requires returns returns-2)
+unless-left-spec = tie.close (tie.spec position-of-requires leaves-range-requires returns returns-2)
