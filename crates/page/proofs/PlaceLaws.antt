@@ -208,7 +208,7 @@ module _ {file : List ℕ} {page : ℕ} {fonts : List ℕ} {v : Volume} (held : 
         record {
           short = held-short;
           right = table-is;
-          unit = accepted (v .num) (v .den) (v .mag) resolution (terms .ruler .k) (held-units bytes) unit-is;
+          unit = accepted (v .num) (v .den) (v .mag) resolution (terms .ruler .k) (held-units bytes) unit-is .1;
           drift-small = subst (λ (d : ℕ). d ≤ 2) (sym drift-is) (drift-bound resolution);
           told =
               record {

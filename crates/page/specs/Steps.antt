@@ -7,7 +7,7 @@ use lib.ListN.{length, getD, drop}
 use lib.IntN.{ℤ, pos}
 use Rattle.refusals.specs.Numbers.{positionOutOfRange}
 use Rattle.refusals.specs.Answer.{Answer, refused, given, refusal}
-use Rattle.units.specs.Steps.{Accepted}
+use Rattle.units.specs.Steps.{Workable}
 use Rattle.widths.specs.declared.blocks.Block.{Block}
 use Rattle.widths.specs.Table.{checkedTable}
 use Rattle.commands.specs.declared.Kind.{Kind}
@@ -110,7 +110,7 @@ pub data Runs (file : List ℕ) : ℕ → ℕ → List Located → Type 0 where
 pub record Ready (file fonts table : List ℕ) (terms : Terms) (start : ℕ) : Type 0 where
   pub short : length file ≤ longestFile
   pub right : checkedTable table ≡ given (terms .rows)
-  pub unit : Accepted (terms .ruler .k)
+  pub unit : Workable (terms .ruler .k)
   pub drift-small : terms .ruler .drift ≤ 2
   pub told : Told file fonts (history file)
   pub runs : Runs file start 0 (pageOf (terms .page) (history file))

@@ -8,7 +8,7 @@ use lib.Dec.{ltb}
 use lib.IntN.{ℤ, pos, natAbs, negℤ, _+ℤ_, _-ℤ_}
 use lib.Signed.{ltZ}
 use Rattle.numbers.proofs.Signed.{abs-is, sum, diff, up-neg, dn-neg, one-part, abs-within, abs-neg, abs-sum, same, lt-yes, lt-no}
-use Rattle.units.specs.Steps.{Accepted}
+use Rattle.units.specs.Steps.{Workable}
 use Rattle.units.specs.Rounding.{rounded}
 use Rattle.units.proofs.Rounding.{rounded-half}
 use Rattle.state.specs.declared.moving.Direction.{Direction}
@@ -62,7 +62,7 @@ apart : (pixel centre : ℤ) → pixel ≡ centre +ℤ (pixel -ℤ centre)
 apart pixel centre = same _ _ (omega (arith, diff pixel centre, sum centre (pixel -ℤ centre)))
 
 -- so it is about half as far from 0 as the position is
-pub settled-small : (ruler : Ruler) → Accepted (ruler .k) → (position pixel : ℤ)
+pub settled-small : (ruler : Ruler) → Workable (ruler .k) → (position pixel : ℤ)
     → natAbs (settled ruler position pixel .pixel) + natAbs (settled ruler position pixel .pixel) ≤ natAbs position + 1 + (ruler .drift + ruler .drift)
 settled-small ruler a position pixel =
     let centre = rounded (ruler .k) position in

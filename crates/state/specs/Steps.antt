@@ -8,7 +8,7 @@ use lib.IntN.{ℤ, pos, natAbs, _+ℤ_}
 use lib.Signed.{ltZ}
 use Rattle.units.specs.declared.Ratio.{Ratio}
 use Rattle.units.specs.Rounding.{rounded}
-use Rattle.units.specs.Steps.{Accepted}
+use Rattle.units.specs.Steps.{Workable}
 use Rattle.state.specs.declared.Font.{Font}
 use Rattle.state.specs.declared.Level.{Level}
 use Rattle.state.specs.declared.KeptLevel.{KeptLevel}
@@ -118,7 +118,7 @@ withFont p font = record { now = p .now; depth = p .depth; font = font; stack = 
 
 -- K and D of a resolution, and a font's scale or 0
 pub record Ruled (ruler : Ruler) (scale : ℕ) : Type 0 where
-  pub unit : Accepted (ruler .k)
+  pub unit : Workable (ruler .k)
   pub drift-small : ruler .drift ≤ 2
   pub scale-small : scale ≤ 134217727
 

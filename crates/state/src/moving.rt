@@ -5,7 +5,7 @@ ghost use mathlib.Core.Bool.{false};
 ghost use Prim.Native.Nat.{_≤_, _^_};
 ghost use lib.IntN.{ℤ, natAbs, _+ℤ_};
 ghost use Rattle.units.specs.Rounding.{rounded};
-ghost use Rattle.units.specs.Steps.{Accepted};
+ghost use Rattle.units.specs.Steps.{Workable};
 ghost use Rattle.state.specs.Moving.{leaves, near, drifted, moved};
 ghost use Rattle.state.specs.Steps.{tenths, Ruled, aimed, spotIn, keptSpot, Rounds};
 
@@ -84,7 +84,7 @@ pub fn held_near(drift: u64, centre: i64, pixel: i64) -> i64
 
 // The rounded new position: the one that is kept where nothing moves, or where K is 0.
 fn rounded_after(k: Ratio, from: KeptSpot, n: i64) -> i64
-    requires { ⌜ Accepted k × Rounds k from × (natAbs (from .position) ≤ 2 ^ 31) × (natAbs n ≤ 2 ^ 31) × (leaves (from .position +ℤ n) ≡ false) ⌝ }
+    requires { ⌜ Workable k × Rounds k from × (natAbs (from .position) ≤ 2 ^ 31) × (natAbs n ≤ 2 ^ 31) × (leaves (from .position +ℤ n) ≡ false) ⌝ }
     ensures { λ r. ⌜ r ≡ rounded k (from .position +ℤ n) ⌝ }
 {
     if n == 0 {
@@ -98,7 +98,7 @@ fn rounded_after(k: Ratio, from: KeptSpot, n: i64) -> i64
 
 // Moved on by n, with the pixel that has moved along: the one place where a new position is rounded, once.
 pub fn settle(k: Ratio, from: KeptSpot, n: i64, aim: Aim) -> KeptSpot
-    requires { ⌜ Accepted k × Rounds k from × (natAbs (from .position) ≤ 2 ^ 31) × (natAbs n ≤ 2 ^ 31) × (leaves (from .position +ℤ n) ≡ false) ⌝ }
+    requires { ⌜ Workable k × Rounds k from × (natAbs (from .position) ≤ 2 ^ 31) × (natAbs n ≤ 2 ^ 31) × (leaves (from .position +ℤ n) ≡ false) ⌝ }
     requires { ⌜ (natAbs (aim .pixel) ≤ 2 ^ 32) × (aim .drift ≤ 2) ⌝ }
     ensures { λ r. ⌜ r ≡ keptSpot k (aimed k aim (from .position +ℤ n)) ⌝ }
 {

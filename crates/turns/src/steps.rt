@@ -25,7 +25,7 @@ ghost use Prim.Native.Nat.{_≤_, _<_, _^_};
 ghost use lib.ListN.{length};
 ghost use lib.IntN.{natAbs};
 ghost use Rattle.refusals.specs.Answer.{given};
-ghost use Rattle.units.specs.Steps.{Accepted};
+ghost use Rattle.units.specs.Steps.{Workable};
 ghost use Rattle.widths.specs.Table.{checkedTable};
 ghost use Rattle.commands.specs.Lengths.{lengths};
 ghost use Rattle.commands.specs.Commands.{Command, Whole};
@@ -106,7 +106,7 @@ fn character(
 
 // What a rule adds: a side that is not above 0 gives no record.
 fn rule_adds(terms: Terms, level: Level, height: i64, width: i64) -> Adds
-    requires { ⌜ Accepted (terms .ruler .k) × Bounded level × (natAbs height ≤ 2 ^ 31) × (natAbs width ≤ 2 ^ 31) ⌝ }
+    requires { ⌜ Workable (terms .ruler .k) × Bounded level × (natAbs height ≤ 2 ^ 31) × (natAbs width ≤ 2 ^ 31) ⌝ }
     ensures { λ r. ⌜ (addedOf r ≡ ruleBy terms level height width) × AddsInWords r ⌝ }
 {
     if height <= 0 {
@@ -195,7 +195,7 @@ fn turn_of(kind: Kind, level: Level, params: &[u8]) -> Turn
 
 // What a rule asks, set or put.
 fn rule(terms: Terms, level: Level, sets: bool, params: &[u8], hint: usize) -> Asked
-    requires { ⌜ Accepted (terms .ruler .k) × Bounded level × (8 ≤ length (now params)) ⌝ }
+    requires { ⌜ Workable (terms .ruler .k) × Bounded level × (8 ≤ length (now params)) ⌝ }
     ensures { λ r. ⌜ RuleAsks terms level sets (now (params .entry)) r ⌝ }
 {
     let height = parameters::rule_height(params);
@@ -228,7 +228,7 @@ fn asked_by(
     hint: usize,
 ) -> Asked
     requires { ⌜ Whole (command opcode (now params)) ⌝ }
-    requires { ⌜ (checkedTable (now widths) ≡ given (terms .rows)) × Accepted (terms .ruler .k) × Known font × Bounded level × KeptFor (now widths) (terms .rows) font kept ⌝ }
+    requires { ⌜ (checkedTable (now widths) ≡ given (terms .rows)) × Workable (terms .ruler .k) × Known font × Bounded level × KeptFor (now widths) (terms .rows) font kept ⌝ }
     ensures { λ r. ⌜ ((volume : List Command) → CommandAsks (termsSetting terms (now (widths .entry)) volume) level font (command opcode (now (params .entry))) r) ⌝ }
 {
     let kind = commands::kind_of(opcode);
@@ -273,7 +273,7 @@ pub fn step_at(
     kept: Kept,
     hint: usize,
 ) -> Step
-    requires { ⌜ (checkedTable (now widths) ≡ given (terms .rows)) × Accepted (terms .ruler .k) × Known font × Bounded level × (now table ≡ lengths) × KeptFor (now widths) (terms .rows) font kept ⌝ }
+    requires { ⌜ (checkedTable (now widths) ≡ given (terms .rows)) × Workable (terms .ruler .k) × Known font × Bounded level × (now table ≡ lengths) × KeptFor (now widths) (terms .rows) font kept ⌝ }
     ensures { λ r. ⌜ ((volume : List Command) → StepAsks (now (file .entry)) at (termsSetting terms (now (widths .entry)) volume) level font r) ⌝ }
 {
     match commands::read_by(table, file, at) {

@@ -11,10 +11,10 @@ use lib.Signed.{ltZ}
 use Rattle.numbers.specs.Signs.{withSign}
 use Rattle.numbers.proofs.Signed.{abs-sign, abs-neg}
 use Rattle.units.specs.declared.Ratio.{Ratio}
-use Rattle.units.specs.Steps.{Accepted}
+use Rattle.units.specs.Steps.{Workable}
 use Rattle.units.specs.Rounding.{nearestWhole, rounded, roundedUp}
 
-module _ {k : Ratio} (a : Accepted k) (m : ℕ) where
+module _ {k : Ratio} (a : Workable k) (m : ℕ) where
   -- a product of the numerator and a 32-bit magnitude
   pub product-small : m ≤ 2 ^ 31 → k .p * m ≤ 1073741823 * 2 ^ 31
   product-small h = mul-le-mul (a .small) h
@@ -34,7 +34,7 @@ module _ {k : Ratio} (a : Accepted k) (m : ℕ) where
       le-of-mul-le-mul-right {k = k .q} (omega (arith, low, half, left, right)) (a .parted)
 
 -- |rounded n| ≤ (|n| + 1) / 2
-pub rounded-half : {k : Ratio} (a : Accepted k) (n : ℤ) → natAbs (rounded k n) + natAbs (rounded k n) ≤ natAbs n + 1
+pub rounded-half : {k : Ratio} (a : Workable k) (n : ℤ) → natAbs (rounded k n) + natAbs (rounded k n) ≤ natAbs n + 1
 rounded-half {k} a n = subst (λ (m : ℕ). m + m ≤ natAbs n + 1) (sym (abs-sign n (nearestWhole k (natAbs n)))) (nearest-half a (natAbs n))
 
 -- rounded 0 is 0
@@ -74,7 +74,7 @@ pub up-some : (k : Ratio) → 0 < k .p → 0 < k .q → (n : ℤ) → ltZ (pos 0
 up-some k p q (pos m) e = lt-ltb 0 _ (le-div-iff-mul-le q .1 (omega (arith, one-mul (k .q), p, q, le-mul-of-pos-right (k .p) (ltb-true 0 m e))))
 up-some k p q (negsuc m) e = absurd (subst T (sym e) tt)
 
-module _ {k : Ratio} (a : Accepted k) where
+module _ {k : Ratio} (a : Workable k) where
   -- K × m rounded up is at most m
   up-small : (m : ℕ) → (k .p * m + (k .q - 1)) / k .q ≤ m
   up-small m =

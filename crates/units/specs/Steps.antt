@@ -31,8 +31,8 @@ pub record Units (num den mag : ℕ) : Type 0 where
   pub mag-positive : 0 < mag
   pub mag-below : mag < 2 ^ 31
 
--- K that was accepted, or 0 for a walk that only counts: at most 1/2, with room for a product with 32 bits
-pub record Accepted (k : Ratio) : Type 0 where
+-- K that the code can work with: at most 1/2, 0 too, with room for a product with 32 bits
+pub record Workable (k : Ratio) : Type 0 where
   pub parted : 0 < k .q
   pub small : k .p ≤ 1073741823
   pub half : 2 * k .p ≤ k .q

@@ -6,7 +6,7 @@ ghost use lib.IntN.{natAbs};
 ghost use Rattle.units.specs.Divisor.{commonDivisor, lowest};
 ghost use Rattle.units.specs.Unit.{inRange, unitOf, drift};
 ghost use Rattle.units.specs.Rounding.{nearestWhole, rounded, roundedUp};
-ghost use Rattle.units.specs.Steps.{product, Cancelled, Units, Accepted, unitAnswer};
+ghost use Rattle.units.specs.Steps.{product, Cancelled, Units, Workable, unitAnswer};
 
 // P/Q
 pub struct Ratio {
@@ -128,7 +128,7 @@ pub fn drift_of(resolution: u64) -> u64
 
 // The whole part of K × m + 1/2.
 fn nearest_whole(k: Ratio, m: u64) -> u64
-    requires { ⌜ Accepted k × (m ≤ 2 ^ 31) ⌝ }
+    requires { ⌜ Workable k × (m ≤ 2 ^ 31) ⌝ }
     ensures { λ r. ⌜ r ≡ nearestWhole k m ⌝ }
 {
     let p = k.p;
@@ -138,7 +138,7 @@ fn nearest_whole(k: Ratio, m: u64) -> u64
 
 // n in pixels, to the nearest; a half goes away from 0.
 pub fn round(k: Ratio, n: i64) -> i64
-    requires { ⌜ Accepted k × (natAbs n ≤ 2 ^ 31) ⌝ }
+    requires { ⌜ Workable k × (natAbs n ≤ 2 ^ 31) ⌝ }
     ensures { λ r. ⌜ r ≡ rounded k n ⌝ }
 {
     numbers::with_sign(n, nearest_whole(k, numbers::magnitude(n)))
@@ -146,7 +146,7 @@ pub fn round(k: Ratio, n: i64) -> i64
 
 // K × n rounded up, towards plus infinity.
 pub fn round_up(k: Ratio, n: i64) -> i64
-    requires { ⌜ Accepted k × (natAbs n ≤ 2 ^ 31) ⌝ }
+    requires { ⌜ Workable k × (natAbs n ≤ 2 ^ 31) ⌝ }
     ensures { λ r. ⌜ r ≡ roundedUp k n ⌝ }
 {
     let p = k.p;

@@ -111,7 +111,7 @@ round-requires : tie.Need-round-requires
 round-requires c κs =
     let e = c .before .before .before .before in
     let s = e .before .before .before in
-    (accepted (natAbs (s .args .num)) (natAbs (s .args .den)) (natAbs (s .args .mag)) (s .args .resolution) (c .before .k .given .0 .0) (units e) (given-is c), rw (distance-is c) (small (s .args .n) (s .fits .n)))
+    (accepted (natAbs (s .args .num)) (natAbs (s .args .den)) (natAbs (s .args .mag)) (s .args .resolution) (c .before .k .given .0 .0) (units e) (given-is c) .1, rw (distance-is c) (small (s .args .n) (s .fits .n)))
 
 -- where each unit is positive, what is left of the meaning is what follows K
 goes-on : (c : tie.Else3) → let a = c .before .before .before .args in roundedDistance (a .num) (a .den) (a .mag) (a .resolution) (a .n) ≡ andThen (unitOf (natAbs (a .num)) (natAbs (a .den)) (natAbs (a .mag)) (a .resolution)) (λ k. given (rounded k (a .n)))
