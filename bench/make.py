@@ -381,6 +381,29 @@ def rules_page(rng, rules):
     return b"".join(out), 0
 
 
+def levels_page(rng, levels):
+    """Push and pop alone, so many of each, to depths up to a hundred."""
+    out, depth, deepest, left = bytearray(), 0, 0, levels
+    while left or depth:
+        opens = left > 0 and depth < 100 and (depth == 0 or rng.random() < 0.5)
+        out.append(dvi.PUSH if opens else dvi.POP)
+        depth += 1 if opens else -1
+        left -= opens
+        deepest = max(deepest, depth)
+    return bytes(out), deepest
+
+
+def boxes_page(rng, boxes):
+    """A push, a character and a pop, over and over: no more than the character is between a level saved and brought back."""
+    return dvi.select(0) + b"".join(bytes([dvi.PUSH, rng.randrange(97, 123), dvi.POP]) for _ in range(boxes)), 1
+
+
+def still_page(rng, moves):
+    """Moves by 0: of the registers, which hold 0, and by a distance of one byte."""
+    still = [bytes([first]) for first in (dvi.W0, dvi.X0, dvi.Y0, dvi.Z0)] + [bytes([first, 0]) for first in (dvi.RIGHT1, dvi.DOWN1)]
+    return dvi.select(0) + b"".join(rng.choice(still) for _ in range(moves)), 0
+
+
 # ---- PK fonts ----
 
 
@@ -538,6 +561,23 @@ def place_jobs(work, rng, sizes):
             work.place_again(f"{group}-{naming}", f"{group}-{naming}-{size}", f"{group}-{size}", named)
 
 
+def level_jobs(work, rng, sizes):
+    """Pages on which levels are saved and brought back, on which nothing moves, and one with no command at all."""
+    font = dvi.Font(0, 0x1234, 655_360)
+    table = ("widths-levels", table_for(rng, [font], unit_of(dvi.TEX_UNITS, RESOLUTION)))
+
+    def add(group, size, page_of, files):
+        volumes = [Volume(fonts=[font]) for _ in range(files)]
+        for volume in volumes:
+            volume.add(*page_of())
+        work.place(group, f"{group}-{size}", size, [volume.finished() for volume in volumes], table)
+
+    for size in sizes:
+        for group, page_of in (("levels", levels_page), ("boxes", boxes_page), ("still", still_page)):
+            add(group, size, lambda: page_of(rng, size), max(1, DIFFERENT_RECORDS // size))
+    add("empty-page", 1, lambda: (b"", 0), 1)
+
+
 def one_key_jobs(work, rng, sizes):
     """Text in 64 fonts of check sum 0 and one scale, which only their names tell apart, by own names and by both."""
     fonts = [dvi.Font(n, 0, SCALE, name=b"font%d" % n) for n in range(MOST_FONTS)]
@@ -649,7 +689,7 @@ def real_font_jobs(work, fonts):
 def is_quick(line):
     """Whether a work is in the short form: one size or two of each group."""
     _, group, name, *_ = line.split()
-    return group.startswith("published-") or group in ("scale", "scale-halved", "pk-fonts") or name.removeprefix(group) in QUICK
+    return group.startswith("published-") or group in ("scale", "scale-halved", "pk-fonts", "empty-page") or name.removeprefix(group) in QUICK
 
 
 def main():
@@ -665,6 +705,7 @@ def main():
     definition_jobs(work, list(steps(1, MOST_FONTS, 4)))
     place_jobs(work, rng, list(steps(100, 100_000, 10)))
     one_key_jobs(work, random.Random(SEED), list(steps(100, 100_000, 10)))  # numbers of their own, so that the works after them keep their bytes
+    level_jobs(work, random.Random(SEED), list(steps(100, 100_000, 10)))  # these too
     published_page_jobs(work, published, 6)
     scale_jobs(work, random.Random(SEED))
     table_jobs(work, list(steps(16, 65_536, 4)))

@@ -9,7 +9,10 @@ UNITS = {
     "check": "byte", "place": "record", "scale": "width", "table": "record", "look": "record", "widths": "byte", "cut": "byte", "widen": "record",
     "narrow": "record",
 }
-OTHER_UNITS = {"moves": "move", "pk-packets": "packet", **{f"published-pages{names}": "byte" for names in ("", "-own", "-mixed")}}
+OTHER_UNITS = {
+    "moves": "move", "still": "move", "levels": "level", "empty-page": "page", "pk-packets": "packet",
+    **{f"published-pages{names}": "byte" for names in ("", "-own", "-mixed")},
+}
 
 
 def exponent(points):

@@ -16,12 +16,12 @@ use Rattle.state.specs.declared.moving.Direction.{Direction}
 use Rattle.state.specs.declared.moving.Direction.the-variants.{Sideways, Down}
 use Rattle.state.specs.declared.moving.Stride.{Stride}
 use Rattle.state.specs.declared.moving.Ruler.{Ruler}
-use Rattle.state.specs.declared.moving.KeptSpot.{KeptSpot}
 use Rattle.state.specs.declared.registers.Register.{Register}
 use Rattle.state.specs.declared.registers.Register.the-variants.{W, X, Y, Z}
 use Rattle.state.specs.Moving.{Spot}
 use Rattle.state.specs.Registers.{spotOf, movedBy, withRegister, directionOf, movedByRegister}
 use Rattle.state.specs.Steps.{spotIn, keptSpot, Rounds, zeroKept, levelIn, keptSpotOf, atKeptSpot, keptWithRegister, keptMovedBy, RoundsLevel, RoundsBelow, Bounded}
+use Rattle.state.proofs.Levels.{spot-in}
 
 -- ---- what it stands for
 
@@ -33,8 +33,8 @@ spot-kept Down l = refl
 -- its position and its pixel are small where the level is in its ranges
 pub kept-in : (direction : Direction) (l : KeptLevel) → Bounded (levelIn l)
     → (natAbs (keptSpotOf direction l .position) ≤ 2 ^ 31) × (natAbs (keptSpotOf direction l .pixel) ≤ 2 ^ 31)
-kept-in Sideways l b = (omega (arith, b .h-in), b .hh-in)
-kept-in Down l b = (omega (arith, b .v-in), b .vv-in)
+kept-in direction l b =
+    subst (λ (spot : Spot). (natAbs (spot .position) ≤ 2 ^ 31) × (natAbs (spot .pixel) ≤ 2 ^ 31)) (spot-kept direction l) (spot-in direction (levelIn l) b)
 
 -- one that has moved
 pub level-moved : (direction : Direction) (stride : Stride) (ruler : Ruler) (scale : ℕ) (n : ℤ) (l : KeptLevel)
@@ -55,7 +55,7 @@ pub level-by-register : (register : Register) (stride : Stride) (ruler : Ruler) 
 level-by-register register stride ruler scale n l =
     level-moved (directionOf register) stride ruler scale n (keptWithRegister register n l) ∙ ap (movedBy (directionOf register) stride ruler scale n) (level-register register n l)
 
--- which stands where it stood
+-- a number in a register does not move it
 pub spot-register : (register : Register) (direction : Direction) (n : ℤ) (l : KeptLevel) → keptSpotOf direction (keptWithRegister register n l) ≡ keptSpotOf direction l
 spot-register W Sideways n l = refl
 spot-register W Down n l = refl

@@ -27,7 +27,6 @@ use Rattle.state.specs.Registers.{State, pushed, popped, spotOf, movedBy, chara
 use Rattle.turns.specs.declared.Kept.{Kept}
 use Rattle.turns.specs.declared.Terms.{Terms}
 use Rattle.placements.specs.declared.Adds.{Adds}
-use Rattle.placements.specs.declared.Adds.the-variants as Adds
 use Rattle.turns.specs.declared.Turn.{Turn}
 use Rattle.turns.specs.declared.Turn.the-variants as Turn
 use Rattle.turns.specs.declared.Asked.{Asked}

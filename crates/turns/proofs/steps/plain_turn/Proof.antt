@@ -4,7 +4,6 @@ use borrow.Author.Needs.{needs, sfits-of}
 use lib.IntN.{ℤ}
 use denote.Ref.{now}
 use mir.Facts.{toZ-ofZ}
-use Rattle.commands.specs.Parameters.{distance}
 use Rattle.state.specs.declared.moving.Direction.{Direction}
 use Rattle.turns.specs.declared.Turn.{Turn}
 use Rattle.turns.specs.Steps.{unlessLeft, roundedTurn, plainTurn}
