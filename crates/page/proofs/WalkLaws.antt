@@ -49,7 +49,7 @@ use Rattle.turns.proofs.Frames.{isEnding, opening-push, closing-pop, ending-eop
 -- its numbers are in their ranges, the roundings that it keeps are those of h and v, now and in each level that is saved, and its stack is that long
 pub record Sound (k : Ratio) (page : Page) : Type 0 where
   pub bounded : Bounded (levelIn (page .now))
-  pub kept : AllBounded (savedOf (page .depth) (page .stack))
+  pub saved-bounded : AllBounded (savedOf (page .depth) (page .stack))
   pub rounds : RoundsLevel k (page .now)
   pub rounds-below : RoundsBelow k (page .depth) (page .stack)
   pub known : Known (page .font)
@@ -63,7 +63,7 @@ pub state-sound : (k : Ratio) (page : Page) (s : State) → pageState page ≡ s
 state-sound k page s is-s bounded kept rounds rounds-below known shallow full =
     record {
       bounded = subst (λ (x : State). Bounded (x .level)) (sym is-s) bounded;
-      kept = subst (λ (x : State). AllBounded (x .saved)) (sym is-s) kept;
+      saved-bounded = subst (λ (x : State). AllBounded (x .saved)) (sym is-s) kept;
       rounds = rounds;
       rounds-below = rounds-below;
       known = subst (λ (x : State). Known (x .font)) (sym is-s) known;
@@ -257,7 +257,7 @@ module _ {file fonts table : List ℕ} {terms : Terms} {start : ℕ} {out₀ out
         let sound = w .sound in
         onwards (ap isEnding is-inside) (withNumbers s (levelIn l)) led page′ (ap pageState page-is) (ap (λ (p : Page). p .depth) page-is ∙ sym (ap (λ (frame : Frame). depthBy frame (page .depth)) is-inside))
         (subst (Sound (terms .ruler .k)) (sym page-is)
-        (record { bounded = bounded; kept = sound .kept; rounds = rounds; rounds-below = sound .rounds-below; known = sound .known; shallow = sound .shallow; full = sound .full }))
+        (record { bounded = bounded; saved-bounded = sound .saved-bounded; rounds = rounds; rounds-below = sound .rounds-below; known = sound .known; shallow = sound .shallow; full = sound .full }))
         out′ out-is counts′ counts-are
 
   -- push and pop keep to the depths

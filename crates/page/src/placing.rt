@@ -33,8 +33,8 @@ fn refused(number: u8, place: usize) -> PagePlaced
     PagePlaced::Refused(Refusal { number, place })
 }
 
-// 16 and 17: a walk over the page with no area judges and counts, a second one writes. The first one goes by a K of 0, which rounds nothing: neither its judgement nor
-// its counts depend on K.
+// 16 and 17: a walk over the page with no area judges and counts, a second one writes. Neither the judgement nor the counts depend on K and D, so the first walk goes
+// by a K of 0, by which no new position has to be rounded.
 fn place_commands(
     file: &[u8],
     widths: &[u8],

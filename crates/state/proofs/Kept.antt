@@ -20,7 +20,7 @@ use Rattle.state.specs.declared.registers.Register.{Register}
 use Rattle.state.specs.declared.registers.Register.the-variants.{W, X, Y, Z}
 use Rattle.state.specs.Moving.{Spot}
 use Rattle.state.specs.Registers.{spotOf, movedBy, withRegister, directionOf, movedByRegister}
-use Rattle.state.specs.Steps.{spotIn, keptSpot, Rounds, zeroKept, levelIn, keptSpotOf, atKeptSpot, keptWithRegister, keptMovedBy, RoundsLevel, RoundsBelow, Bounded}
+use Rattle.state.specs.Steps.{spotIn, keptSpot, Rounds, zeroKept, levelIn, other, keptSpotOf, atKeptSpot, keptWithRegister, keptMovedBy, RoundsLevel, RoundsBelow, Bounded}
 use Rattle.state.proofs.Levels.{spot-in}
 
 -- ---- what it stands for
@@ -42,6 +42,12 @@ pub level-moved : (direction : Direction) (stride : Stride) (ruler : Ruler) (sca
 level-moved Sideways stride ruler scale n l = refl
 level-moved Down stride ruler scale n l = refl
 
+-- it stands in the other direction as it stood
+pub others-left : (direction : Direction) (stride : Stride) (ruler : Ruler) (scale : ℕ) (n : ℤ) (l : KeptLevel)
+    → keptSpotOf (other direction) (keptMovedBy direction stride ruler scale n l) ≡ keptSpotOf (other direction) l
+others-left Sideways stride ruler scale n l = refl
+others-left Down stride ruler scale n l = refl
+
 -- one with another number in a register
 level-register : (register : Register) (n : ℤ) (l : KeptLevel) → levelIn (keptWithRegister register n l) ≡ withRegister register n (levelIn l)
 level-register W n l = refl
@@ -56,15 +62,15 @@ level-by-register register stride ruler scale n l =
     level-moved (directionOf register) stride ruler scale n (keptWithRegister register n l) ∙ ap (movedBy (directionOf register) stride ruler scale n) (level-register register n l)
 
 -- a number in a register does not move it
-pub spot-register : (register : Register) (direction : Direction) (n : ℤ) (l : KeptLevel) → keptSpotOf direction (keptWithRegister register n l) ≡ keptSpotOf direction l
-spot-register W Sideways n l = refl
-spot-register W Down n l = refl
-spot-register X Sideways n l = refl
-spot-register X Down n l = refl
-spot-register Y Sideways n l = refl
-spot-register Y Down n l = refl
-spot-register Z Sideways n l = refl
-spot-register Z Down n l = refl
+pub unmoved-by-register : (register : Register) (direction : Direction) (n : ℤ) (l : KeptLevel) → keptSpotOf direction (keptWithRegister register n l) ≡ keptSpotOf direction l
+unmoved-by-register W Sideways n l = refl
+unmoved-by-register W Down n l = refl
+unmoved-by-register X Sideways n l = refl
+unmoved-by-register X Down n l = refl
+unmoved-by-register Y Sideways n l = refl
+unmoved-by-register Y Down n l = refl
+unmoved-by-register Z Sideways n l = refl
+unmoved-by-register Z Down n l = refl
 
 -- ---- the roundings
 
@@ -83,7 +89,7 @@ module _ (k : Ratio) where
 
   -- one with another number in a register keeps them
   pub rounds-register : (register : Register) (n : ℤ) (l : KeptLevel) → RoundsLevel k l → RoundsLevel k (keptWithRegister register n l)
-  rounds-register register n l rounds direction = subst (Rounds k) (sym (spot-register register direction n l)) (rounds direction)
+  rounds-register register n l rounds direction = subst (Rounds k) (sym (unmoved-by-register register direction n l)) (rounds direction)
 
   -- one more below the depth, where it was stored above the others
   pub rounds-pushed : (depth : ℕ) (stack : List KeptLevel) (l : KeptLevel) → depth < length stack → RoundsBelow k depth stack → RoundsLevel k l

@@ -82,7 +82,7 @@ register-in Y l b = b .y-in
 register-in Z l b = b .z-in
 
 -- the level with another number in a register is in its ranges too
-pub bounded-register : (register : Register) (n : ℤ) (l : Level) → Bounded l → natAbs n ≤ 2 ^ 31 → Bounded (withRegister register n l)
+bounded-register : (register : Register) (n : ℤ) (l : Level) → Bounded l → natAbs n ≤ 2 ^ 31 → Bounded (withRegister register n l)
 bounded-register W n l b small =
     record { h-in = b .h-in; v-in = b .v-in; w-in = small; x-in = b .x-in; y-in = b .y-in; z-in = b .z-in; hh-in = b .hh-in; vv-in = b .vv-in }
 bounded-register X n l b small =
@@ -104,7 +104,7 @@ register-spot Z Sideways n l = refl
 register-spot Z Down n l = refl
 
 -- so a move by it stays in range where one from the level does
-pub register-stays : (register : Register) (n : ℤ) (l : Level) → leaves (spotOf (directionOf register) l .position +ℤ n) ≡ false
+register-stays : (register : Register) (n : ℤ) (l : Level) → leaves (spotOf (directionOf register) l .position +ℤ n) ≡ false
     → leaves (spotOf (directionOf register) (withRegister register n l) .position +ℤ n) ≡ false
 register-stays register n l stays =
     subst (λ (spot : Spot). leaves (spot .position +ℤ n) ≡ false) (sym (register-spot register (directionOf register) n l)) stays

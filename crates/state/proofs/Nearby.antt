@@ -21,7 +21,7 @@ use Rattle.state.specs.declared.registers.Register.{Register}
 use Rattle.state.specs.Moving.{Spot, near, strays, settled, followed, moved}
 use Rattle.state.specs.Registers.{zeroLevel, freshState, spotOf, atSpot, movedBy, characterMoved, withRegister, directionOf, movedByRegister}
 use Rattle.state.specs.Nearby.{Near, StateNear}
-use Rattle.state.proofs.Nearness.{within, held, held-nearly}
+use Rattle.state.proofs.Nearness.{within, held, held-nearly, held-there}
 use Rattle.state.proofs.Levels.{register-spot}
 
 module _ (ruler : Ruler) where
@@ -117,12 +117,7 @@ module _ (ruler : Ruler) where
 
   -- a pixel at its centre is held there
   settled-centred : (position : ℤ) → settled ruler position (rounded (ruler .k) position) ≡ record { position = position; pixel = rounded (ruler .k) position }
-  settled-centred position =
-      let at = rounded (ruler .k) position in
-      let none : natAbs (at -ℤ at) ≤ ruler .drift = within (ruler .drift) (same (at -ℤ at) (pos 0) (omega (arith, diff at at))) (omega arith) in
-      ap
-      (λ (t : Bool). record { position = position; pixel = cond t (cond (ltZ at at) (at +ℤ pos (ruler .drift)) (at -ℤ pos (ruler .drift))) at })
-      (le-ltb (ruler .drift) _ none)
+  settled-centred position = ap (λ (pixel : ℤ). record { position = position; pixel = pixel }) (held-there (ruler .drift) (rounded (ruler .k) position))
 
   -- so a move in the rounded stride, one of 0 too, sets the pixel to the rounded position, wherever a bar has left it
   pub fontless-sets-back : (direction : Direction) (n : ℤ) (spot : Spot)

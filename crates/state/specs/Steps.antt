@@ -65,6 +65,11 @@ abbrev pub keptSpotOf : Direction → KeptLevel → KeptSpot
 keptSpotOf Sideways l = l .across
 keptSpotOf Down l = l .down
 
+-- sideways for down, and down for sideways
+abbrev pub other : Direction → Direction
+other Sideways = Down
+other Down = Sideways
+
 -- one that stands elsewhere in a direction
 abbrev pub atKeptSpot : Direction → KeptSpot → KeptLevel → KeptLevel
 atKeptSpot Sideways spot l = record { across = spot; down = l .down; w = l .w; x = l .x; y = l .y; z = l .z }
@@ -116,7 +121,7 @@ withFont p font = record { now = p .now; depth = p .depth; font = font; stack = 
 
 -- ---- ranges
 
--- K and D of a resolution, and a font's scale or 0
+-- K and D that the code can work with, and a font's scale or 0
 pub record Ruled (ruler : Ruler) (scale : ℕ) : Type 0 where
   pub unit : Workable (ruler .k)
   pub drift-small : ruler .drift ≤ 2

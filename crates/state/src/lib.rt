@@ -19,7 +19,7 @@ ghost use Rattle.state.specs.Steps.{pageState, withLevel, withFont, Rule
 pub mod moving;
 pub mod registers;
 
-// The eight numbers that push saves: the position, the registers, the pixel
+// The eight numbers of a level, by which a command is asked what it does: the position, the registers, the pixel
 pub struct Level {
     pub h: i64,
     pub v: i64,

@@ -28,7 +28,7 @@ pub struct Ruler {
     pub drift: u64,
 }
 
-// h with rounded h and hh, or v with rounded v and vv. Between the other two the rounding is cheapest to keep.
+// h with rounded h and hh, or v with rounded v and vv. The order of the fields was measured (docs/DECISIONS.md).
 pub struct KeptSpot {
     pub position: i64,
     pub rounded: i64,
@@ -60,7 +60,7 @@ fn tenths_of(direction: Direction, n: i64) -> u64
 }
 
 // Whether a move is so small that the pixel moves by the rounded distance.
-pub fn is_near(direction: Direction, n: i64, scale: u64) -> bool
+fn is_near(direction: Direction, n: i64, scale: u64) -> bool
     requires { ⌜ (natAbs n ≤ 2 ^ 31) × (scale ≤ 134217727) ⌝ }
     ensures { λ r. ⌜ r ≡ near direction n scale ⌝ }
 {
@@ -68,7 +68,7 @@ pub fn is_near(direction: Direction, n: i64, scale: u64) -> bool
 }
 
 // The pixel, brought back to within D of the centre, the rounded position, if it is further.
-pub fn held_near(drift: u64, centre: i64, pixel: i64) -> i64
+fn held_near(drift: u64, centre: i64, pixel: i64) -> i64
     requires { ⌜ (drift ≤ 2) × (natAbs centre ≤ 2 ^ 31) × (natAbs pixel ≤ 2 ^ 32) ⌝ }
     ensures { λ r. ⌜ r ≡ drifted drift centre pixel ⌝ }
 {

@@ -1,4 +1,4 @@
-// A level by direction and by register: its eight numbers, and w, x, y, z, each written here alone.
+// A level by direction and by register, and its eight numbers.
 use crate::KeptLevel;
 use crate::Level;
 use crate::moving;
@@ -12,7 +12,7 @@ ghost use Prim.Native.Nat.{_≤_, _^_};
 ghost use lib.IntN.{natAbs, _+ℤ_};
 ghost use Rattle.state.specs.Moving.{leaves};
 ghost use Rattle.state.specs.Registers.{spotOf, registerOf, directionOf};
-ghost use Rattle.state.specs.Steps.{Ruled, Bounded, Rounds, levelIn, keptSpotOf, atKeptSpot, keptWithRegister, keptMovedBy};
+ghost use Rattle.state.specs.Steps.{Ruled, Bounded, Rounds, levelIn, other, keptSpotOf, atKeptSpot, keptWithRegister, keptMovedBy};
 
 pub enum Register {
     W,
@@ -125,7 +125,7 @@ fn with_register(register: Register, n: i64, level: KeptLevel) -> KeptLevel
     }
 }
 
-// The level with n in a register, moved by n in the register's direction and a stride.
+// The level with n in a register, moved by n in the register's direction and a stride. What stands for the other direction is left alone.
 pub fn moved_by_register(
     register: Register,
     stride: Stride,
@@ -137,6 +137,7 @@ pub fn moved_by_register(
     requires { ⌜ Ruled ruler scale × Bounded (levelIn level) × Rounds (ruler .k) (keptSpotOf (directionOf register) level) ⌝ }
     requires { ⌜ (natAbs n ≤ 2 ^ 31) × (leaves (spotOf (directionOf register) (levelIn level) .position +ℤ n) ≡ false) ⌝ }
     ensures { λ r. ⌜ r ≡ keptMovedBy (directionOf register) stride ruler scale n (keptWithRegister register n level) ⌝ }
+    ensures { λ r. ⌜ keptSpotOf (other (directionOf register)) r ≡ keptSpotOf (other (directionOf register)) level ⌝ }
 {
     let direction = direction_of(register);
     let holding = with_register(register, n, level);

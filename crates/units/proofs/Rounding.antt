@@ -31,7 +31,7 @@ module _ {k : Ratio} (a : Workable k) (m : ℕ) where
       let half : 2 * k .p * m ≤ k .q * m = mul-le-mul-right m (a .half) in
       let left : (x + x) * k .q ≡ x * (2 * k .q) = add-mul x x (k .q) ∙ sym (ap (λ (t : ℕ). x * t) (two-mul (k .q)) ∙ mul-add x (k .q) (k .q)) in
       let right : (m + 1) * k .q ≡ k .q * m + k .q = add-mul m 1 (k .q) ∙ simp (one-mul, mul-comm m (k .q)) in
-      le-of-mul-le-mul-right {k = k .q} (omega (arith, low, half, left, right)) (a .parted)
+      le-of-mul-le-mul-right {k = k .q} (omega (arith, low, half, left, right)) (a .q-positive)
 
 -- |rounded n| ≤ (|n| + 1) / 2
 pub rounded-half : {k : Ratio} (a : Workable k) (n : ℤ) → natAbs (rounded k n) + natAbs (rounded k n) ≤ natAbs n + 1
@@ -79,7 +79,7 @@ module _ {k : Ratio} (a : Workable k) where
   up-small : (m : ℕ) → (k .p * m + (k .q - 1)) / k .q ≤ m
   up-small m =
       let less : (k .p * m + (k .q - 1)) / k .q < m + 1 =
-      div-lt-iff-lt-mul (a .parted) .1 (omega (arith, a .parted, mul-le-mul-right m (a .half), two-mul (k .p), add-mul (k .p) (k .p) m, add-mul m 1 (k .q), one-mul (k .q), mul-comm m (k .q))) in
+      div-lt-iff-lt-mul (a .q-positive) .1 (omega (arith, a .q-positive, mul-le-mul-right m (a .half), two-mul (k .p), add-mul (k .p) (k .p) m, add-mul m 1 (k .q), one-mul (k .q), mul-comm m (k .q))) in
       omega arith
 
   -- a rounded-up distance is no longer than the distance
@@ -88,5 +88,5 @@ module _ {k : Ratio} (a : Workable k) where
   up-within (negsuc m) =
       rw (abs-neg (pos (k .p * suc m / k .q)))
       (let less : k .p * suc m / k .q < suc m + 1 =
-      div-lt-iff-lt-mul (a .parted) .1 (omega (arith, a .parted, mul-le-mul-right (suc m) (a .half), two-mul (k .p), add-mul (k .p) (k .p) (suc m), add-mul (suc m) 1 (k .q), one-mul (k .q), mul-comm (suc m) (k .q))) in
+      div-lt-iff-lt-mul (a .q-positive) .1 (omega (arith, a .q-positive, mul-le-mul-right (suc m) (a .half), two-mul (k .p), add-mul (k .p) (k .p) (suc m), add-mul (suc m) 1 (k .q), one-mul (k .q), mul-comm (suc m) (k .q))) in
       omega arith)

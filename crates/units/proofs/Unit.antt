@@ -27,7 +27,7 @@ lowest-accepted n d h l e =
     let half = ltb-false (lowest n d .q) (2 * lowest n d .p) (out .1) in (
       positive,
       record {
-        parted = omega (arith, positive, half);
+        q-positive = omega (arith, positive, half);
         small = ltb-false 1073741823 (lowest n d .p) (out .0);
         half = half;
         room = omega (arith, den-small (cut n d h));

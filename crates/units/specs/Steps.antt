@@ -33,7 +33,7 @@ pub record Units (num den mag : ℕ) : Type 0 where
 
 -- K that the code can work with: at most 1/2, 0 too, with room for a product with 32 bits
 pub record Workable (k : Ratio) : Type 0 where
-  pub parted : 0 < k .q
+  pub q-positive : 0 < k .q
   pub small : k .p ≤ 1073741823
   pub half : 2 * k .p ≤ k .q
   pub room : k .q < 2 ^ 60

@@ -272,7 +272,7 @@ loop-again-4 c =
     let next : ℤ → KeptLevel = λ y. keptMovedBy (directionOf register) Stride.Rounded (ruler n) (scale n) y (keptWithRegister register y (before n .now)) in
     to-level n (Turn.ByRegister register z) (v .1) refl (movedByRegister register Stride.Rounded (ruler n) (scale n) z (levelIn (before n .now))) refl
     (next z) (level-by-register register Stride.Rounded (ruler n) (scale n) z (before n .now)) (c .moved-to .result)
-    (c .moved-to .ensures ∙ ap (withLevel (before n)) (c .before .moved-by-register .ensures ∙ ap next (word z (ok .0))))
+    (c .moved-to .ensures ∙ ap (withLevel (before n)) (c .before .moved-by-register .ensures .0 ∙ ap next (word z (ok .0))))
     (bounded-by-register register Stride.Rounded (ruler n) (scale n) z (levelIn (before n .now)) (ruled (read n)) (bounded n) (ok .0) (ok .1))
     (rounds-at (ruler n .k) (directionOf register) _ (keptWithRegister register z (before n .now)) (rounds-register (ruler n .k) register z (before n .now) (rounds n)))
 
@@ -334,7 +334,7 @@ loop-again-6 c =
     let sound = here (read n) .sound in
     let state-is = c .push .ensures .0 ∙ ap pushed (kept n turn-is .0) in
     to-state n Turn.Push turn-is refl (pushed (pageState (before n))) refl (c .push .result) state-is (c .push .ensures .1)
-    (state-sound (ruler n .k) (c .push .result) (pushed (pageState (before n))) state-is (sound .bounded) (sound .bounded, sound .kept)
+    (state-sound (ruler n .k) (c .push .result) (pushed (pageState (before n))) state-is (sound .bounded) (sound .bounded, sound .saved-bounded)
     (subst (RoundsLevel (ruler n .k)) (sym (c .push .ensures .3)) (sound .rounds))
     (subst (λ (depth : ℕ). RoundsBelow (ruler n .k) depth (c .push .result .stack)) (sym (c .push .ensures .1))
     (subst (RoundsBelow (ruler n .k) (before n .depth + 1)) (sym (c .push .ensures .2))
@@ -372,7 +372,7 @@ loop-again-7 c =
     let turn-is = c .before .before .enum-told3 .given .1 in
     let sound = here (read n) .sound in
     let s = pageState (before n) in
-    let back = popped-bounded s (s .saved) (sound .kept) (sound .bounded) (sound .kept) in
+    let back = popped-bounded s (s .saved) (sound .saved-bounded) (sound .bounded) (sound .saved-bounded) in
     let same-font : s .font ≡ popped s .font = sym (popped-font s (s .saved)) in
     to-state n Turn.Pop turn-is refl (popped s) refl (c .pop .result) (c .pop .ensures .0) (c .pop .ensures .1)
     (state-sound (ruler n .k) (c .pop .result) (popped s) (c .pop .ensures .0) (back .0) (back .1)
@@ -433,7 +433,7 @@ loop-again-8 c =
     to-state n (Turn.Select (v .0 .0)) (v .1) refl (record { level = levelIn (before n .now); saved = savedOf (before n .depth) (before n .stack); font = fontOf (setting n) (v .0 .0) }) refl
     (c .select .result) (ap pageState is ∙ ap (λ (f : Font). record { level = levelIn (before n .now); saved = savedOf (before n .depth) (before n .stack); font = f }) chosen) (ap (λ (page : Page). page .depth) is)
     (subst (Sound (ruler n .k)) (sym is)
-    (record { bounded = sound .bounded; kept = sound .kept; rounds = sound .rounds; rounds-below = sound .rounds-below; known = font .1; shallow = sound .shallow; full = sound .full }))
+    (record { bounded = sound .bounded; saved-bounded = sound .saved-bounded; rounds = sound .rounds; rounds-below = sound .rounds-below; known = font .1; shallow = sound .shallow; full = sound .full }))
     (found .result .kept) (subst (λ (f : Font). KeptBy n f (found .result .kept)) chosen (found .ensures .0 .1))
     (set (memory n) place (found .result)) (seen-stored (now (entry (read n) .args .file)) (now (entry (read n) .args .fonts)) (now (entry (read n) .args .widths)) (entry (read n) .args .terms .rows) (memory n) place (found .result) (found .ensures .0) (remembers n))
 

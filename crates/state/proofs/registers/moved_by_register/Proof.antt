@@ -9,8 +9,8 @@ use Rattle.state.specs.declared.moving.Direction.{Direction}
 use Rattle.state.specs.declared.moving.KeptSpot.{KeptSpot}
 use Rattle.state.specs.Moving.{Spot, leaves, moved}
 use Rattle.state.specs.Registers.{directionOf}
-use Rattle.state.specs.Steps.{spotIn, keptSpot, keptSpotOf, atKeptSpot, keptWithRegister}
-use Rattle.state.proofs.Kept.{spot-kept, kept-in, spot-register}
+use Rattle.state.specs.Steps.{spotIn, keptSpot, other, keptSpotOf, atKeptSpot, keptWithRegister, keptMovedBy}
+use Rattle.state.proofs.Kept.{spot-kept, kept-in, others-left, unmoved-by-register}
 use Rattle.state.proofs.Words.{asWord}
 use Rattle.state.proofs.registers.moved_by_register.Statement.{statement}
 use Rattle.state.proofs.registers.moved_by_register.Tie as tie
@@ -46,7 +46,7 @@ module _ (c : tie.After-spot-of) where
 
   -- a register does not move it
   spot-there : c .spot-of .result ≡ keptSpotOf direction (start .args .level)
-  spot-there = spot-is ∙ spot-register (start .args .register) direction (start .args .n) (start .args .level)
+  spot-there = spot-is ∙ unmoved-by-register (start .args .register) direction (start .args .n) (start .args .level)
 
 move-by-requires : tie.Need-move-by-requires
 move-by-requires c κs =
@@ -59,19 +59,31 @@ move-by-requires c κs =
 at-spot-requires : tie.Need-at-spot-requires
 at-spot-requires c κs = search needs
 
-returns : tie.Need-returns
-returns c =
+moves : (c : tie.After-at-spot) → let a = start (c .before .before) .args in
+    c .at-spot .result ≡ keptMovedBy (directionOf (a .register)) (a .stride) (a .ruler) (a .scale) (a .n) (keptWithRegister (a .register) (a .n) (a .level))
+moves c =
     let before = c .before .before in
     let s = start before in
     let a = s .args in
-    let moves = c .before .move-by in
+    let moved-by = c .before .move-by in
     let leads : Direction → ℤ → KeptSpot → KeptSpot = λ way n spot. keptSpot (a .ruler .k) (moved way (a .stride) (a .ruler) (a .scale) n (spotIn spot)) in
     c .at-spot .ensures
-    ∙ ap₂ (λ (way : Direction) (level : KeptLevel). atKeptSpot way (moves .result) level) (direction-is before) (holding-is before)
+    ∙ ap₂ (λ (way : Direction) (level : KeptLevel). atKeptSpot way (moved-by .result) level) (direction-is before) (holding-is before)
     ∙ ap (λ (spot : KeptSpot). atKeptSpot (direction before) spot (holding before))
-    (moves .ensures
+    (moved-by .ensures
     ∙ ap (λ (way : Direction). leads way (asWord (a .n)) (before .spot-of .result)) (direction-is before)
     ∙ ap₂ (leads (direction before)) (toZ-ofZ (s .fits .n)) (spot-is before))
+
+returns : tie.Need-returns
+returns c =
+    let a = start (c .before .before) .args in
+    let way = directionOf (a .register) in
+    let holds = keptWithRegister (a .register) (a .n) (a .level) in (
+      moves c,
+      ap (keptSpotOf (other way)) (moves c)
+          ∙ others-left way (a .stride) (a .ruler) (a .scale) (a .n) holds
+          ∙ unmoved-by-register (a .register) (other way) (a .n) (a .level),
+    )
 
 pub moved-by-register-spec : {M : Type 1} → statement M
 moved-by-register-spec =

@@ -45,14 +45,14 @@ returns-3 : tie.Need-returns-3
 returns-3 c =
     let s = c .before .before .before .before .before .before in
     let k = s .args .terms .ruler .k in
-    let accepted = s .pre .0 in
+    let workable = s .pre .0 in
     let level = s .args .level in
     let bounded = s .pre .1 in
     let height : c .before .before .round-up .result ≡ roundedUp k (s .args .height) = c .before .before .round-up .ensures ∙ ap (roundedUp k) (toZ-ofZ (s .fits .height)) in
     let width : c .before .round-up2 .result ≡ roundedUp k (s .args .width) = c .before .round-up2 .ensures ∙ ap (roundedUp k) (toZ-ofZ (s .fits .width)) in
     let r = ruleRecord (s .args .terms .page) level (roundedUp k (s .args .height)) (roundedUp k (s .args .width)) in
     let words : InWords r =
-    record { hh-in = bounded .hh-in; vv-in = bounded .vv-in; content-in = omega (arith, up-within accepted (s .args .height)); extent-in = omega (arith, up-within accepted (s .args .width)) } in
+    record { hh-in = bounded .hh-in; vv-in = bounded .vv-in; content-in = omega (arith, up-within workable (s .args .height)); extent-in = omega (arith, up-within workable (s .args .width)) } in
     let is = ap₂ (λ (content extent : ℤ). ofBits (ruleRecord (s .args .terms .page) level content extent)) height width ∙ read-record r words in
     (ap placed is ∙ simp (height-shown (c .before .before .before .before .before), width-shown (c .before .before .before .before)), subst InWords (sym is) words)
 
