@@ -9,6 +9,10 @@ use borrow.Author.Tests.{ltb-false}
 use lib.ListN.{length, getD, set}
 use lib.Seq.{getD-set-same, getD-set-other}
 use lib.IntN.{ℤ, natAbs, _+ℤ_}
+use Rattle.units.specs.declared.Ratio.{Ratio}
+use Rattle.units.specs.Steps.{Workable}
+use Rattle.units.specs.Rounding.{rounded}
+use Rattle.units.proofs.Rounding.{rounded-half}
 use Rattle.state.specs.declared.Level.{Level}
 use Rattle.state.specs.declared.KeptLevel.{KeptLevel}
 use Rattle.state.specs.declared.Page.{Page}
@@ -33,6 +37,10 @@ bounded-zero =
 -- a position that does not leave its range
 pub position-in : (position : ℤ) → leaves position ≡ false → natAbs position ≤ 2147483647
 position-in position stays = ltb-false 2147483647 (natAbs position) stays
+
+-- the rounding of such a position
+pub centre-in : {k : Ratio} → Workable k → (position : ℤ) → leaves position ≡ false → natAbs (rounded k position) ≤ 2 ^ 31
+centre-in workable position stays = omega (arith, rounded-half workable position, position-in position stays)
 
 -- the pixel that moved along with such a position
 pub pixel-in : (ruler : Ruler) (scale : ℕ) (position pixel : ℤ) → Ruled ruler scale → leaves position ≡ false → natAbs (settled ruler position pixel .pixel) ≤ 2 ^ 31

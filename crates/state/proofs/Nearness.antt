@@ -70,14 +70,7 @@ settled-small ruler a position pixel =
     let off : natAbs put ≤ natAbs centre + natAbs (put -ℤ centre) = subst (λ (z : ℤ). natAbs z ≤ natAbs centre + natAbs (put -ℤ centre)) (sym (apart put centre)) (abs-sum centre (put -ℤ centre)) in
     omega (arith, off, held (ruler .drift) centre pixel, rounded-half a position)
 
--- a pixel that is held within 0 of its centre is there
-pub held-at : (centre pixel : ℤ) → drifted 0 centre pixel ≡ centre
-held-at centre pixel = same _ _ (omega (arith, diff put centre, abs-is (put -ℤ centre), held 0 centre pixel))
-  where
-    put : ℤ
-    put = drifted 0 centre pixel
-
--- one that stands there stays, however far it may stand
+-- a pixel that stands at its centre stays there, however far it may stand
 pub held-there : (d : ℕ) (centre : ℤ) → drifted d centre centre ≡ centre
 held-there d centre =
     ap (λ (far : Bool). cond far (cond (ltZ centre centre) (centre +ℤ pos d) (centre -ℤ pos d)) centre)

@@ -1,13 +1,13 @@
 -- What the code holds of a page's state, and what its steps ask; no promise cites this. Assumes nothing.
 use Prim.Native.Nat.{ℕ, zero, suc, _≤_, _<_, _^_}
 use mathlib.Core.Path.{_≡_}
-use mathlib.Core.Bool.{cond}
+use mathlib.Core.Bool.{Bool, cond}
 use mathlib.Core.List.{List, [], _∷_}
 use lib.ListN.{getD}
 use lib.IntN.{ℤ, pos, natAbs, _+ℤ_}
 use lib.Signed.{ltZ}
 use Rattle.units.specs.declared.Ratio.{Ratio}
-use Rattle.units.specs.Rounding.{rounded}
+use Rattle.units.specs.Rounding.{rounded, roundedUp}
 use Rattle.units.specs.Steps.{Workable}
 use Rattle.state.specs.declared.Font.{Font}
 use Rattle.state.specs.declared.Level.{Level}
@@ -16,9 +16,9 @@ use Rattle.state.specs.declared.Page.{Page}
 use Rattle.state.specs.declared.moving.Direction.{Direction}
 use Rattle.state.specs.declared.moving.Direction.the-variants.{Sideways, Down}
 use Rattle.state.specs.declared.moving.Stride.{Stride}
+use Rattle.state.specs.declared.moving.Stride.the-variants.{Rounded, RoundedUp}
 use Rattle.state.specs.declared.moving.Ruler.{Ruler}
 use Rattle.state.specs.declared.moving.KeptSpot.{KeptSpot}
-use Rattle.state.specs.declared.moving.Aim.{Aim}
 use Rattle.state.specs.declared.registers.Register.{Register}
 use Rattle.state.specs.declared.registers.Register.the-variants.{W, X, Y, Z}
 use Rattle.state.specs.Moving.{Spot, settled, moved}
@@ -28,6 +28,11 @@ use Rattle.state.specs.Registers.{State}
 abbrev pub tenths : Direction → ℤ → ℕ
 tenths Sideways n = cond (ltZ n (pos 0)) 9 2
 tenths Down n = 8
+
+-- where a move by n takes the pixel, by whether it is near; the centre is the rounded new position
+abbrev pub followedTo : Bool → Stride → Ruler → ℤ → ℤ → ℤ → ℤ
+followedTo near Rounded ruler n pixel centre = cond near (pixel +ℤ rounded (ruler .k) n) centre
+followedTo near RoundedUp ruler n pixel centre = pixel +ℤ roundedUp (ruler .k) n
 
 -- ---- a spot with its rounding
 
@@ -42,10 +47,6 @@ keptSpot k spot = record { position = spot .position; rounded = rounded k (spot 
 -- the number kept is the position rounded by K
 abbrev pub Rounds : Ratio → KeptSpot → Type 0
 Rounds k s = s .rounded ≡ rounded k (s .position)
-
--- a new position, with the pixel that is aimed at
-abbrev pub aimed : Ratio → Aim → ℤ → Spot
-aimed k aim position = settled (record { k = k; drift = aim .drift }) position (aim .pixel)
 
 -- ---- a level with its roundings
 

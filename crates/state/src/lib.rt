@@ -1,5 +1,4 @@
 // The page's state: the eight numbers with rounded h and v beside them, the levels that are saved, the font; a fresh one, and how commands change it.
-use moving::Aim;
 use moving::Direction;
 use moving::KeptSpot;
 use moving::Ruler;
@@ -135,11 +134,7 @@ impl Page {
     {
         let mut level = self.now;
         let from = level.across;
-        let aim = Aim {
-            pixel: from.pixel + escapement,
-            drift: ruler.drift,
-        };
-        let spot = moving::settle(ruler.k, from, width, aim);
+        let spot = moving::move_past(ruler, width, escapement, from);
         level.across = spot;
         self.now = level;
         self

@@ -6,8 +6,8 @@ ghost use Prim.Native.Nat.{_≤_, _^_};
 ghost use lib.IntN.{ℤ, natAbs, _+ℤ_};
 ghost use Rattle.units.specs.Rounding.{rounded};
 ghost use Rattle.units.specs.Steps.{Workable};
-ghost use Rattle.state.specs.Moving.{leaves, near, drifted, moved};
-ghost use Rattle.state.specs.Steps.{tenths, Ruled, aimed, spotIn, keptSpot, Rounds};
+ghost use Rattle.state.specs.Moving.{leaves, near, drifted, settled, moved};
+ghost use Rattle.state.specs.Steps.{tenths, followedTo, Ruled, spotIn, keptSpot, Rounds};
 
 pub enum Direction {
     Sideways,
@@ -33,12 +33,6 @@ pub struct KeptSpot {
     pub position: i64,
     pub rounded: i64,
     pub pixel: i64,
-}
-
-// A pixel that has moved along, and how far it may stand from the rounded new position
-pub struct Aim {
-    pub pixel: i64,
-    pub drift: u64,
 }
 
 // Whether a position would leave −2,147,483,647 to 2,147,483,647.
@@ -96,48 +90,51 @@ fn rounded_after(k: Ratio, from: KeptSpot, n: i64) -> i64
     units::round(k, from.position + n)
 }
 
-// Moved on by n, with the pixel that has moved along: the one place where a new position is rounded, once.
-pub fn settle(k: Ratio, from: KeptSpot, n: i64, aim: Aim) -> KeptSpot
-    requires { ⌜ Workable k × Rounds k from × (natAbs (from .position) ≤ 2 ^ 31) × (natAbs n ≤ 2 ^ 31) × (leaves (from .position +ℤ n) ≡ false) ⌝ }
-    requires { ⌜ (natAbs (aim .pixel) ≤ 2 ^ 32) × (aim .drift ≤ 2) ⌝ }
-    ensures { λ r. ⌜ r ≡ keptSpot k (aimed k aim (from .position +ℤ n)) ⌝ }
+// A new position with its rounding, the centre, and the pixel that has moved along, which is held to it.
+fn settle(drift: u64, position: i64, centre: i64, pixel: i64) -> KeptSpot
+    requires { ⌜ (drift ≤ 2) × (natAbs centre ≤ 2 ^ 31) × (natAbs pixel ≤ 2 ^ 32) ⌝ }
+    ensures { λ r. ⌜ r ≡ record { position = position; rounded = centre; pixel = drifted drift centre pixel } ⌝ }
 {
-    let centre = rounded_after(k, from, n);
     KeptSpot {
-        position: from.position + n,
+        position: position,
         rounded: centre,
-        pixel: held_near(aim.drift, centre, aim.pixel),
+        pixel: held_near(drift, centre, pixel),
     }
 }
 
-// Where a move by n takes the pixel. A far one takes it to the rounded new position, which is to hold it within 0 of that.
-fn follow(direction: Direction, stride: Stride, ruler: Ruler, scale: u64, n: i64, pixel: i64) -> Aim
-    requires { ⌜ Ruled ruler scale × (natAbs n ≤ 2 ^ 31) × (natAbs pixel ≤ 2 ^ 31) ⌝ }
-    ensures { λ r. ⌜ ((position : ℤ) → aimed (ruler .k) r (position +ℤ n) ≡ moved direction stride ruler scale n (record { position = position; pixel = pixel })) ⌝ }
-    ensures { λ r. ⌜ (natAbs (r .pixel) ≤ 2 ^ 32) × (r .drift ≤ 2) ⌝ }
+// Past a character: by its width, and by the table's escapement in pixels.
+pub fn move_past(ruler: Ruler, width: i64, escapement: i64, from: KeptSpot) -> KeptSpot
+    requires { ⌜ Workable (ruler .k) × (ruler .drift ≤ 2) × Rounds (ruler .k) from × (natAbs (from .position) ≤ 2 ^ 31) × (natAbs (from .pixel) ≤ 2 ^ 31) ⌝ }
+    requires { ⌜ (natAbs width ≤ 2 ^ 31) × (natAbs escapement ≤ 2 ^ 31) × (leaves (from .position +ℤ width) ≡ false) ⌝ }
+    ensures { λ r. ⌜ r ≡ keptSpot (ruler .k) (settled ruler (from .position +ℤ width) (from .pixel +ℤ escapement)) ⌝ }
+{
+    let centre = rounded_after(ruler.k, from, width);
+    settle(
+        ruler.drift,
+        from.position + width,
+        centre,
+        from.pixel + escapement,
+    )
+}
+
+// Where a move by n, near or far, takes the pixel. The centre is the rounded new position.
+fn follow(near: bool, stride: Stride, ruler: Ruler, n: i64, pixel: i64, centre: i64) -> i64
+    requires { ⌜ Workable (ruler .k) × (natAbs n ≤ 2 ^ 31) × (natAbs pixel ≤ 2 ^ 31) × (natAbs centre ≤ 2 ^ 31) ⌝ }
+    ensures { λ r. ⌜ (r ≡ followedTo near stride ruler n pixel centre) × (natAbs r ≤ 2 ^ 32) ⌝ }
 {
     match stride {
         Stride::Rounded => {
-            if is_near(direction, n, scale) {
-                Aim {
-                    pixel: pixel + units::round(ruler.k, n),
-                    drift: ruler.drift,
-                }
+            if near {
+                pixel + units::round(ruler.k, n)
             } else {
-                Aim {
-                    pixel: pixel,
-                    drift: 0,
-                }
+                centre
             }
         }
-        Stride::RoundedUp => Aim {
-            pixel: pixel + units::round_up(ruler.k, n),
-            drift: ruler.drift,
-        },
+        Stride::RoundedUp => pixel + units::round_up(ruler.k, n),
     }
 }
 
-// A move by n in a direction and a stride.
+// A move by n in a direction and a stride. The new position is rounded once, whether the move is near or far.
 pub fn move_by(
     direction: Direction,
     stride: Stride,
@@ -150,6 +147,8 @@ pub fn move_by(
     requires { ⌜ (natAbs n ≤ 2 ^ 31) × (leaves (from .position +ℤ n) ≡ false) ⌝ }
     ensures { λ r. ⌜ r ≡ keptSpot (ruler .k) (moved direction stride ruler scale n (spotIn from)) ⌝ }
 {
-    let aim = follow(direction, stride, ruler, scale, n, from.pixel);
-    settle(ruler.k, from, n, aim)
+    let near = is_near(direction, n, scale);
+    let centre = rounded_after(ruler.k, from, n);
+    let pixel = follow(near, stride, ruler, n, from.pixel, centre);
+    settle(ruler.drift, from.position + n, centre, pixel)
 }

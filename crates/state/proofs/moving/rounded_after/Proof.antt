@@ -9,9 +9,9 @@ use mir.Val.{toZ}
 use mir.Facts.{toZ-ofZ}
 use Rattle.numbers.proofs.Signed.{sum, same}
 use Rattle.units.specs.Rounding.{rounded}
-use Rattle.units.proofs.Rounding.{rounded-half, rounded-none}
+use Rattle.units.proofs.Rounding.{rounded-none}
 use Rattle.state.proofs.Nearness.{within}
-use Rattle.state.proofs.Levels.{position-in}
+use Rattle.state.proofs.Levels.{position-in, centre-in}
 use Rattle.state.proofs.Words.{asWord, word-is, word-sum, word-sum-fits}
 use Rattle.state.proofs.moving.rounded_after.Statement.{statement}
 use Rattle.state.proofs.moving.rounded_after.Tie as tie
@@ -60,7 +60,7 @@ returns-3 : tie.Need-returns-3
 returns-3 c =
     let s = c .before .before .before .before .before .before in
     ap asWord (c .round .ensures ∙ ap (rounded (s .args .k)) (after-is s))
-    ∙ word-is (rounded (s .args .k) (position s +ℤ n s)) (omega (arith, rounded-half (s .pre .0) (position s +ℤ n s), after-small s))
+    ∙ word-is (rounded (s .args .k) (position s +ℤ n s)) (omega (arith, centre-in (s .pre .0) (position s +ℤ n s) (s .pre .4)))
 
 pub rounded-after-spec : {M : Type 1} → statement M
 rounded-after-spec = tie.close (tie.spec returns returns-2 add-round round-requires returns-3)
