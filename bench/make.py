@@ -689,7 +689,7 @@ def real_font_jobs(work, fonts):
 def is_quick(line):
     """Whether a work is in the short form: one size or two of each group."""
     _, group, name, *_ = line.split()
-    return group.startswith("published-") or group in ("scale", "scale-halved", "pk-fonts", "empty-page") or name.removeprefix(group) in QUICK
+    return group.startswith("published-") or group in ("scale", "scale-halved", "pk-fonts") or name.removeprefix(group) in QUICK
 
 
 def main():

@@ -1,4 +1,4 @@
--- A pixel stays near its position: within D of the rounded position after every move, whatever the direction. Assumes nothing.
+-- A pixel stays near its position: within D of the rounded position after every move, whatever the direction. Near moves, by tenths of the font's scale. Assumes nothing.
 use Prim.Native.Nat.{ℕ, _+_, _*_, _≤_}
 use mathlib.Core.Path.{_≡_, refl, sym, ap, subst}
 use mathlib.Core.Bool.{Bool, true, false, cond}

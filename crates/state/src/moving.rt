@@ -3,7 +3,7 @@ use units::Ratio;
 ghost use mathlib.Core.Path.{_≡_};
 ghost use mathlib.Core.Bool.{false};
 ghost use Prim.Native.Nat.{_≤_, _^_};
-ghost use lib.IntN.{ℤ, natAbs, _+ℤ_};
+ghost use lib.IntN.{natAbs, _+ℤ_};
 ghost use Rattle.units.specs.Rounding.{rounded};
 ghost use Rattle.units.specs.Steps.{Workable};
 ghost use Rattle.state.specs.Moving.{leaves, near, drifted, settled, moved};
