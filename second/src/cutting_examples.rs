@@ -1,5 +1,6 @@
 //! Files of chosen pages: document 02's Ask 5 held to bytes worked out by hand.
 
+use crate::chance::Chance;
 use crate::check::check;
 use crate::cutting::cut;
 use crate::examples::{changed, checked, m, named_record, parts, placed, width_record, written, Parts};
@@ -318,11 +319,8 @@ fn pages_placed() {
 // as the old ones, and cutting it again changes nothing.
 #[test]
 fn changed_by_chance() {
-    let mut seed: u64 = 1;
-    let mut chance = |below: usize| {
-        seed = seed.wrapping_mul(6_364_136_223_846_793_005).wrapping_add(1_442_695_040_888_963_407);
-        (seed >> 33) as usize % below
-    };
+    let mut chances = Chance(1);
+    let mut chance = |below: usize| chances.below(below);
     let mut cuts = 0;
     for _ in 0..100_000 {
         let mut file = old();

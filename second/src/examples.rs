@@ -1,5 +1,6 @@
 //! The worked examples of document 01, and cases beside them.
 
+use crate::chance::Chance;
 use crate::check::check;
 use crate::fonts::name_of_font;
 use crate::lines::{answer, DESK, LONG};
@@ -1353,11 +1354,8 @@ fn changed_by_chance() {
     ];
     let base = Parts { depth: 1, ..Parts::with_font(font(1, 3, 9, 100, 100, "a", "b"), page) }.build();
     assert_eq!(placed(&base, &character_table(), 300, 1, 60_000).last().unwrap(), "end 5 0 1");
-    let mut seed: u64 = 1;
-    let mut chance = |below: usize| {
-        seed = seed.wrapping_mul(6_364_136_223_846_793_005).wrapping_add(1_442_695_040_888_963_407);
-        (seed >> 33) as usize % below
-    };
+    let mut chances = Chance(1);
+    let mut chance = |below: usize| chances.below(below);
     for _ in 0..100_000 {
         let mut file = base.clone();
         for _ in 0..1 + chance(3) {

@@ -16,6 +16,8 @@ mod widening;
 mod widths;
 
 #[cfg(test)]
+mod chance;
+#[cfg(test)]
 mod cutting_examples;
 #[cfg(test)]
 mod examples;

@@ -1,5 +1,6 @@
 //! Width records with names: document 02's Ask 6 held to cases worked by hand.
 
+use crate::chance::Chance;
 use crate::examples::{changed, font, named_record, placed, tabled, width_record, written, Parts};
 use crate::lines::{answer, DESK, LONG};
 use crate::widening::{narrow, widen};
@@ -626,16 +627,6 @@ fn forms_are_not_mistaken() {
 }
 
 // ---- by chance ----
-
-/// The same numbers in every run.
-struct Chance(u64);
-
-impl Chance {
-    fn below(&mut self, bound: usize) -> usize {
-        self.0 = self.0.wrapping_mul(6_364_136_223_846_793_005).wrapping_add(1_442_695_040_888_963_407);
-        (self.0 >> 33) as usize % bound
-    }
-}
 
 const NAMES: [&[u8]; 8] =
     [b"", b"a", b"b", b"ab", b"aaaaaaaaaaaaaaa", b"aaaaaaaaaaaaaaaa", b"aaaaaaaaaaaaaaab", b"\xff"];

@@ -1,5 +1,6 @@
 //! Width tables from PK fonts: document 02's Ask 3 held to cases worked by hand.
 
+use crate::chance::Chance;
 use crate::examples::{changed, tabled, width_record, written};
 use crate::lines::{answer, DESK, LONG};
 use crate::packed::width_table;
@@ -740,11 +741,8 @@ fn changed_by_chance() {
         .concat(),
     );
     assert!(made(&base).ends_with("\nend 4"));
-    let mut seed: u64 = 1;
-    let mut chance = |below: usize| {
-        seed = seed.wrapping_mul(6_364_136_223_846_793_005).wrapping_add(1_442_695_040_888_963_407);
-        (seed >> 33) as usize % below
-    };
+    let mut chances = Chance(1);
+    let mut chance = |below: usize| chances.below(below);
     for _ in 0..100_000 {
         let mut file = base.clone();
         for _ in 0..1 + chance(3) {
