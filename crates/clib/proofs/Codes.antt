@@ -30,9 +30,9 @@ module _ {A : Type 0} (least : ℕ) (array : List ℕ) (answer : Answer A) (list
   number_is (refused number at) l e = absurd (omega (arith, l.0, e))
   number_is (given a) l e = tt
 
-  number-low : (a : Answer A) → Listed a → number_of a ≤ 24
-  number-low (refused number at) l = l.1
-  number-low (given a) l = omega arith
+  number_low : (a : Answer A) → Listed a → number_of a ≤ 24
+  number_low (refused number at) l = l.1
+  number_low (given a) l = omega arith
 
   zero : code least array answer ≡ 0 → (least ≤ length array) × Given answer
   zero e = by (ltb (length array) least) refl e
@@ -46,7 +46,7 @@ module _ {A : Type 0} (least : ℕ) (array : List ℕ) (answer : Answer A) (list
     where
       by : (t : Bool) → ltb (length array) least ≡ t → cond t 255 (number_of answer) ≡ 255 → length array < least
       by true short e = ltb-true (length array) least short
-      by false long e = absurd (omega (arith, e, number-low answer listed))
+      by false long e = absurd (omega (arith, e, number_low answer listed))
 
   tells : Tells least array answer
   tells = record { at_zero = zero; at_255 = most }

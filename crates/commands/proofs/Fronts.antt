@@ -12,31 +12,31 @@ use borrow.Author.Tests.{lt-ltb, le-ltb, le-leb, lt-leb}
 use Rattle.commands.specs.Lengths.{size_of}
 use Rattle.commands.specs.Commands.{Command, Whole, form, cut, undefined, whole, front_after, front}
 use Rattle.numbers.proofs.Radix.{less_or_not}
-use Rattle.commands.proofs.Lengths.{size-append, size_take, whole-fixed}
+use Rattle.commands.proofs.Lengths.{size_append, size_take, whole_fixed}
 
 -- ---- what stands after an opcode, case by case
 
 module _ (opcode : ℕ) (rest : List ℕ) where
-  pub after-undefined : 250 ≤ opcode → front_after opcode rest ≡ undefined
+  pub after_undefined : 250 ≤ opcode → front_after opcode rest ≡ undefined
   unfolding front_after
-  after-undefined h = rw (le-ltb opcode 250 h)
+  after_undefined h = rw (le-ltb opcode 250 h)
 
-  pub after-cut : opcode < 250 → length rest < size_of opcode rest → front_after opcode rest ≡ cut
+  pub after_cut : opcode < 250 → length rest < size_of opcode rest → front_after opcode rest ≡ cut
   unfolding front_after
-  after-cut h l = rw (lt-ltb opcode 250 h, lt-leb (size_of opcode rest) (length rest) l)
+  after_cut h l = rw (lt-ltb opcode 250 h, lt-leb (size_of opcode rest) (length rest) l)
 
-  pub after-whole : opcode < 250 → size_of opcode rest ≤ length rest
+  pub after_whole : opcode < 250 → size_of opcode rest ≤ length rest
       → front_after opcode rest ≡ whole (record { opcode = opcode; params = take (size_of opcode rest) rest }) (drop (size_of opcode rest) rest)
   unfolding front_after
-  after-whole h l = rw (lt-ltb opcode 250 h, le-leb (size_of opcode rest) (length rest) l)
+  after_whole h l = rw (lt-ltb opcode 250 h, le-leb (size_of opcode rest) (length rest) l)
 
   data After : Type 0 where
     strange : 250 ≤ opcode → After
     short : opcode < 250 → length rest < size_of opcode rest → After
     fits : opcode < 250 → size_of opcode rest ≤ length rest → After
 
-  after-cases : After
-  after-cases = ⊎_elim (λ h. ⊎_elim (short h) (fits h) (less_or_not (length rest) (size_of opcode rest))) strange (less_or_not opcode 250)
+  after_cases : After
+  after_cases = ⊎_elim (λ h. ⊎_elim (short h) (fits h) (less_or_not (length rest) (size_of opcode rest))) strange (less_or_not opcode 250)
 
 -- ---- at a place of a file
 
@@ -52,9 +52,9 @@ front_end file at h = rw (drop_of_length-le file h)
 pub front_written : (c : Command) (rest : List ℕ) → Whole c → front (form c ++ rest) ≡ whole c rest
 front_written c rest w =
     let size : size_of c.opcode (c.params ++ rest) ≡ length c.params =
-    size-append c.opcode c.params rest (whole-fixed c w) ∙ sym w.exact in
+    size_append c.opcode c.params rest (whole_fixed c w) ∙ sym w.exact in
     rw (
-      after-whole c.opcode (c.params ++ rest) w.defined (omega (arith, length-append c.params rest)),
+      after_whole c.opcode (c.params ++ rest) w.defined (omega (arith, length-append c.params rest)),
       size,
       take_at c.params rest _ refl,
       drop_at c.params rest _ refl,
@@ -63,15 +63,15 @@ front_written c rest w =
 -- what is read is whole, and is what stood there
 pub front_sound : (bytes : List ℕ) (c : Command) (rest : List ℕ) → front bytes ≡ whole c rest → Whole c × (bytes ≡ form c ++ rest)
 front_sound [] c rest e = let z : ◌≡◌ {A = ℕ} 0 1 = cc in absurd (omega arith)
-front_sound (opcode ∷ bytes) c rest e = go (after-cases opcode bytes)
+front_sound (opcode ∷ bytes) c rest e = go (after_cases opcode bytes)
   where
     go : After opcode bytes → Whole c × ((opcode ∷ bytes) ≡ form c ++ rest)
-    go (strange h) = let z : ◌≡◌ {A = ℕ} 0 1 = cc (after-undefined opcode bytes h) in absurd (omega arith)
-    go (short h l) = let z : ◌≡◌ {A = ℕ} 0 1 = cc (after-cut opcode bytes h l) in absurd (omega arith)
+    go (strange h) = let z : ◌≡◌ {A = ℕ} 0 1 = cc (after_undefined opcode bytes h) in absurd (omega arith)
+    go (short h l) = let z : ◌≡◌ {A = ℕ} 0 1 = cc (after_cut opcode bytes h l) in absurd (omega arith)
     go (fits h l) =
-        let command-is : record { opcode = opcode; params = take (size_of opcode bytes) bytes } ≡ c = cc (after-whole opcode bytes h l) in
-        let rest-is : drop (size_of opcode bytes) bytes ≡ rest = cc (after-whole opcode bytes h l) in
-        rw (← command-is, ← rest-is) (
+        let command-is : record { opcode = opcode; params = take (size_of opcode bytes) bytes } ≡ c = cc (after_whole opcode bytes h l) in
+        let rest_is : drop (size_of opcode bytes) bytes ≡ rest = cc (after_whole opcode bytes h l) in
+        rw (← command-is, ← rest_is) (
           record { defined = h; exact = length-take-le (size_of opcode bytes) bytes l ∙ sym (size_take opcode bytes l) },
           rw (take-append-drop (size_of opcode bytes) bytes),
         )
@@ -83,9 +83,9 @@ front_length bytes c rest e =
 -- an opcode of no command: there is a first byte, of 250 or more
 pub undefined_first : (bytes : List ℕ) → front bytes ≡ undefined → (0 < length bytes) × (250 ≤ get_or bytes 0 0)
 undefined_first [] e = let z : ◌≡◌ {A = ℕ} 0 1 = cc in absurd (omega arith)
-undefined_first (opcode ∷ bytes) e = (omega arith, go (after-cases opcode bytes))
+undefined_first (opcode ∷ bytes) e = (omega arith, go (after_cases opcode bytes))
   where
     go : After opcode bytes → 250 ≤ opcode
     go (strange h) = h
-    go (short h l) = let z : ◌≡◌ {A = ℕ} 0 1 = cc (after-cut opcode bytes h l) in absurd (omega arith)
-    go (fits h l) = let z : ◌≡◌ {A = ℕ} 0 1 = cc (after-whole opcode bytes h l) in absurd (omega arith)
+    go (short h l) = let z : ◌≡◌ {A = ℕ} 0 1 = cc (after_cut opcode bytes h l) in absurd (omega arith)
+    go (fits h l) = let z : ◌≡◌ {A = ℕ} 0 1 = cc (after_whole opcode bytes h l) in absurd (omega arith)

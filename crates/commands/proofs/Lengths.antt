@@ -21,7 +21,7 @@ use Rattle.commands.specs.Parameters.{definition}
 use Rattle.commands.specs.Lengths.{lengths, fixed_length, inner_length, size_of}
 use Rattle.commands.specs.Commands.{Command, Whole, kind_of_command}
 use Rattle.numbers.proofs.Radix.{less_or_not}
-use Rattle.commands.proofs.Ranges.{constant-on, equal_on, between_on}
+use Rattle.commands.proofs.Ranges.{constant_on, equal_on, between_on}
 use Rattle.commands.proofs.Opcodes.{range_kind, kind_from, from_250}
 
 -- ---- the table's rule
@@ -31,7 +31,7 @@ unfolding fixed_length lengths
 fixed_beyond opcode h = rw (le-ltb opcode 128 (omega arith)) (get_or-eq_default lengths 0 {n = opcode - 128} (omega arith))
 
 pub fixed_of : {k : Kind} (opcode : ℕ) → kind_of opcode ≡ k → fixed_length opcode ≡ fixed_by k opcode
-fixed_of {k} opcode e = ⊎_elim inside beyond (less_or_not opcode 250) ∙ ap (λ (kind-is : Kind). fixed_by kind-is opcode) e
+fixed_of {k} opcode e = ⊎_elim inside beyond (less_or_not opcode 250) ∙ ap (λ (kind_is : Kind). fixed_by kind_is opcode) e
   where
     inside : opcode < 250 → fixed_length opcode ≡ fixed_by (kind_of opcode) opcode
     inside h = equal_on fixed_length (λ x. fixed_by (kind_of x) x) 0 250 (unfold fixed_length lengths kind_of in refl) (omega arith) (omega arith)
@@ -51,31 +51,31 @@ abbrev pub has_inner : Kind → Bool
 has_inner k = leb 239 (first k) && leb (first k) 247
 
 module _ (opcode : ℕ) (params : List ℕ) where
-  inner-undefined : kind_of opcode ≡ Undefined → inner_length opcode params ≡ 0
+  inner_undefined : kind_of opcode ≡ Undefined → inner_length opcode params ≡ 0
   unfolding inner_length
-  inner-undefined e = rw e
+  inner_undefined e = rw e
 
-  pub inner-special : kind_of opcode ≡ Special → inner_length opcode params ≡ unsigned_in (special_length opcode) params
+  pub inner_special : kind_of opcode ≡ Special → inner_length opcode params ≡ unsigned_in (special_length opcode) params
   unfolding inner_length
-  inner-special e = rw e
+  inner_special e = rw e
 
-  pub inner-define : kind_of opcode ≡ Define
+  pub inner_define : kind_of opcode ≡ Define
       → inner_length opcode params ≡ unsigned_in definition_area_length (definition opcode params) + unsigned_in definition_name_length (definition opcode params)
   unfolding inner_length
-  inner-define e = rw e
+  inner_define e = rw e
 
-  pub inner-pre : kind_of opcode ≡ Pre → inner_length opcode params ≡ unsigned_in pre_comment_length params
+  pub inner_pre : kind_of opcode ≡ Pre → inner_length opcode params ≡ unsigned_in pre_comment_length params
   unfolding inner_length
-  inner-pre e = rw e
+  inner_pre e = rw e
 
   pub inner_below : opcode < 239 → inner_length opcode params ≡ 0
-  inner_below l = constant-on (λ x. inner_length x params) 0 0 239 (unfold inner_length kind_of in refl) (omega arith) (omega arith)
+  inner_below l = constant_on (λ x. inner_length x params) 0 0 239 (unfold inner_length kind_of in refl) (omega arith) (omega arith)
 
-  pub inner-above : 248 ≤ opcode → inner_length opcode params ≡ 0
-  inner-above h = ⊎_elim defined (λ beyond. inner-undefined (from_250 opcode beyond)) (less_or_not opcode 250)
+  pub inner_above : 248 ≤ opcode → inner_length opcode params ≡ 0
+  inner_above h = ⊎_elim defined (λ beyond. inner_undefined (from_250 opcode beyond)) (less_or_not opcode 250)
     where
       defined : opcode < 250 → inner_length opcode params ≡ 0
-      defined l = constant-on (λ x. inner_length x params) 0 248 2 (unfold inner_length kind_of in refl) h (omega arith)
+      defined l = constant_on (λ x. inner_length x params) 0 248 2 (unfold inner_length kind_of in refl) h (omega arith)
 
 -- an opcode has no length inside, or is of one of the three kinds
 data Inner (opcode : ℕ) : Type 0 where
@@ -88,7 +88,7 @@ inner_cases : (opcode : ℕ) → Inner opcode
 inner_cases opcode = ⊎_elim (λ l. none (λ params. inner_below opcode params l)) from-special (less_or_not opcode 239)
   where
     from-pre : 247 ≤ opcode → Inner opcode
-    from-pre h = ⊎_elim (λ l. pre (range_kind Pre h (omega arith))) (λ g. none (λ params. inner-above opcode params g)) (less_or_not opcode 248)
+    from-pre h = ⊎_elim (λ l. pre (range_kind Pre h (omega arith))) (λ g. none (λ params. inner_above opcode params g)) (less_or_not opcode 248)
 
     from-define : 243 ≤ opcode → Inner opcode
     from-define h = ⊎_elim (λ l. define (range_kind Define h (omega arith))) from-pre (less_or_not opcode 247)
@@ -111,35 +111,35 @@ inner_none {k} opcode params e plain = go (inner_cases opcode)
 -- ---- only bytes inside the parameters are looked at
 
 module _ (opcode : ℕ) (params more : List ℕ) (long : fixed_length opcode ≤ length params) where
-  field-append : (field : UnsignedField) → field.at + field.size ≤ fixed_length opcode → unsigned_in field (params ++ more) ≡ unsigned_in field params
-  field-append field h = unsigned_front params more field.at field.size (omega arith)
+  field_append : (field : UnsignedField) → field.at + field.size ≤ fixed_length opcode → unsigned_in field (params ++ more) ≡ unsigned_in field params
+  field_append field h = unsigned_front params more field.at field.size (omega arith)
 
-  said-append : (field : UnsignedField) → definition_number_size opcode + (field.at + field.size) ≤ fixed_length opcode
+  said_append : (field : UnsignedField) → definition_number_size opcode + (field.at + field.size) ≤ fixed_length opcode
       → unsigned_in field (definition opcode (params ++ more)) ≡ unsigned_in field (definition opcode params)
-  said-append field h =
+  said_append field h =
       unsigned_drop (params ++ more) (definition_number_size opcode) field.at field.size
       ∙ unsigned_front params more (definition_number_size opcode + field.at) field.size (omega arith)
       ∙ sym (unsigned_drop params (definition_number_size opcode) field.at field.size)
 
-  inner-append : inner_length opcode (params ++ more) ≡ inner_length opcode params
-  inner-append = go (inner_cases opcode)
+  inner_append : inner_length opcode (params ++ more) ≡ inner_length opcode params
+  inner_append = go (inner_cases opcode)
     where
       go : Inner opcode → inner_length opcode (params ++ more) ≡ inner_length opcode params
       go (none zero-at) = zero-at (params ++ more) ∙ sym (zero-at params)
       go (special s) =
-          inner-special opcode (params ++ more) s
-          ∙ field-append (special_length opcode) (omega (arith, fixed_of opcode s))
-          ∙ sym (inner-special opcode params s)
+          inner_special opcode (params ++ more) s
+          ∙ field_append (special_length opcode) (omega (arith, fixed_of opcode s))
+          ∙ sym (inner_special opcode params s)
       go (define d) =
-          inner-define opcode (params ++ more) d
-          ∙ ap₂ ◌+◌ (said-append definition_area_length (omega (arith, fixed_of opcode d, kind_from opcode d))) (said-append definition_name_length (omega (arith, fixed_of opcode d, kind_from opcode d)))
-          ∙ sym (inner-define opcode params d)
+          inner_define opcode (params ++ more) d
+          ∙ ap₂ ◌+◌ (said_append definition_area_length (omega (arith, fixed_of opcode d, kind_from opcode d))) (said_append definition_name_length (omega (arith, fixed_of opcode d, kind_from opcode d)))
+          ∙ sym (inner_define opcode params d)
       go (pre p) =
-          inner-pre opcode (params ++ more) p ∙ field-append pre_comment_length (omega (arith, fixed_of opcode p)) ∙ sym (inner-pre opcode params p)
+          inner_pre opcode (params ++ more) p ∙ field_append pre_comment_length (omega (arith, fixed_of opcode p)) ∙ sym (inner_pre opcode params p)
 
-  pub size-append : size_of opcode (params ++ more) ≡ size_of opcode params
+  pub size_append : size_of opcode (params ++ more) ≡ size_of opcode params
   unfolding size_of
-  size-append = ap (λ (inner : ℕ). fixed_length opcode + inner) inner-append
+  size_append = ap (λ (inner : ℕ). fixed_length opcode + inner) inner_append
 
 pub fixed_within : (opcode : ℕ) (params : List ℕ) → fixed_length opcode ≤ size_of opcode params
 unfolding size_of
@@ -148,33 +148,33 @@ fixed_within opcode params = omega arith
 -- cut where its own size says, a list keeps that size
 pub size_take : (opcode : ℕ) (bytes : List ℕ) → size_of opcode bytes ≤ length bytes → size_of opcode (take (size_of opcode bytes) bytes) ≡ size_of opcode bytes
 size_take opcode bytes fits =
-    let cut-length : length (take (size_of opcode bytes) bytes) ≡ size_of opcode bytes = length-take-le (size_of opcode bytes) bytes fits in
-    sym (size-append opcode (take (size_of opcode bytes) bytes) (drop (size_of opcode bytes) bytes) (omega (arith, fixed_within opcode bytes)))
+    let cut_length : length (take (size_of opcode bytes) bytes) ≡ size_of opcode bytes = length-take-le (size_of opcode bytes) bytes fits in
+    sym (size_append opcode (take (size_of opcode bytes) bytes) (drop (size_of opcode bytes) bytes) (omega (arith, fixed_within opcode bytes)))
     ∙ ap (size_of opcode) (take-append-drop (size_of opcode bytes) bytes)
 
 -- ---- of a whole command
 
 module _ (c : Command) (w : Whole c) where
-  pub whole-size : length c.params ≡ fixed_length c.opcode + inner_length c.opcode c.params
+  pub whole_size : length c.params ≡ fixed_length c.opcode + inner_length c.opcode c.params
   unfolding size_of
-  whole-size = w.exact
+  whole_size = w.exact
 
-  pub whole-fixed : fixed_length c.opcode ≤ length c.params
-  whole-fixed = omega (arith, whole-size)
+  pub whole_fixed : fixed_length c.opcode ≤ length c.params
+  whole_fixed = omega (arith, whole_size)
 
   module _ {k : Kind} (e : kind_of_command c ≡ k) (plain : has_inner k ≡ false) where
-    pub whole-exact : length c.params ≡ fixed_length c.opcode
-    whole-exact = omega (arith, whole-size, inner_none c.opcode c.params e plain)
+    pub whole_exact : length c.params ≡ fixed_length c.opcode
+    whole_exact = omega (arith, whole_size, inner_none c.opcode c.params e plain)
 
     pub whole_plain : length c.params ≡ fixed_by k c.opcode
-    whole_plain = whole-exact ∙ fixed_of c.opcode e
+    whole_plain = whole_exact ∙ fixed_of c.opcode e
 
-    pub whole-at-most : length c.params ≤ fixed_by k (last k)
-    whole-at-most = omega (arith, whole-exact, fixed_between c.opcode w.defined e)
+    pub whole_at_most : length c.params ≤ fixed_by k (last k)
+    whole_at_most = omega (arith, whole_exact, fixed_between c.opcode w.defined e)
 
 -- a character's code has at most four bytes, and a bop 44
 shown : (c : Command) → Whole c → (kind_of_command c ≡ SetCharacter → length c.params ≤ 4) × (kind_of_command c ≡ Bop → length c.params ≡ 44)
-shown c w = (λ e. whole-at-most c w e refl, λ e. whole_plain c w e refl)
+shown c w = (λ e. whole_at_most c w e refl, λ e. whole_plain c w e refl)
 
 -- the fields of bop, of fnt_def1 (of fnt_def4), of pre, of post and of post_post end where the table says
 fields_fill :

@@ -12,7 +12,7 @@ use Rattle.commands.specs.Kinds.{Row, rows, kind_in, kind_of}
 use Rattle.commands.specs.Lengths.{lengths_in}
 use Rattle.commands.specs.ByKind.{first, last}
 use Rattle.numbers.proofs.Radix.{less_or_not}
-use Rattle.commands.proofs.Ranges.{values, constant-on, between_on}
+use Rattle.commands.proofs.Ranges.{values, constant_on, between_on}
 
 -- an opcode lies in the range of its kind
 pub kind_range : {k : Kind} (opcode : ℕ) → opcode < 256 → kind_of opcode ≡ k → (first k ≤ opcode) × (opcode ≤ last k)
@@ -48,7 +48,7 @@ range_values PostPost = refl
 range_values Undefined = refl
 
 pub range_kind : (k : Kind) {opcode : ℕ} → first k ≤ opcode → opcode ≤ last k → kind_of opcode ≡ k
-range_kind k h l = constant-on kind_of k (first k) (count k) (range_values k) h (omega arith)
+range_kind k h l = constant_on kind_of k (first k) (count k) (range_values k) h (omega arith)
 
 -- the undefined opcodes are those past all rows, which are those from 250 on
 past_rows : (these : List Row) (opcode : ℕ) → length (lengths_in these) ≤ opcode → kind_in these opcode ≡ Undefined

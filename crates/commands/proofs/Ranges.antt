@@ -15,10 +15,10 @@ module _ {A : Type 0} where
   values f low (suc count) = f low ∷ values f (suc low) count
 
   -- f is constant on the range
-  pub constant-on : (f : ℕ → A) (value : A) (low count : ℕ) → values f low count ≡ replicate count value
+  pub constant_on : (f : ℕ → A) (value : A) (low count : ℕ) → values f low count ≡ replicate count value
       → {x : ℕ} → low ≤ x → x < low + count → f x ≡ value
-  constant-on f value low zero e h l = absurd (omega arith)
-  constant-on f value low (suc count) e {x} h l = go (eqb x low) refl (λ y. constant-on f value (suc low) count (cc) {x = y})
+  constant_on f value low zero e h l = absurd (omega arith)
+  constant_on f value low (suc count) e {x} h l = go (eqb x low) refl (λ y. constant_on f value (suc low) count (cc) {x = y})
     where
       go : (t : Bool) → eqb x low ≡ t → ((y : ℕ) → suc low ≤ y → y < suc low + count → f y ≡ value) → f x ≡ value
       go true t above = let here : f low ≡ value = cc in ap f (eqb-true x low t) ∙ here
@@ -27,7 +27,7 @@ module _ {A : Type 0} where
 -- f and g agree on the range
 pub equal_on : (f g : ℕ → ℕ) (low count : ℕ) → values (λ x. eqb (f x) (g x)) low count ≡ replicate count true
     → {x : ℕ} → low ≤ x → x < low + count → f x ≡ g x
-equal_on f g low count e {x} h l = eqb-true (f x) (g x) (constant-on (λ y. eqb (f y) (g y)) true low count e h l)
+equal_on f g low count e {x} h l = eqb-true (f x) (g x) (constant_on (λ y. eqb (f y) (g y)) true low count e h l)
 
 -- f lies between low and high on the range
 both_true : (a b : Bool) → (a && b) ≡ true → (a ≡ true) × (b ≡ true)
@@ -37,5 +37,5 @@ both_true false b e = let z : ◌≡◌ {A = ℕ} 0 1 = cc in absurd (omega arit
 pub between_on : (f low high : ℕ → ℕ) (start count : ℕ) → values (λ x. leb (low x) (f x) && leb (f x) (high x)) start count ≡ replicate count true
     → {x : ℕ} → start ≤ x → x < start + count → (low x ≤ f x) × (f x ≤ high x)
 between_on f low high start count e {x} h l =
-    let (a, b) = both_true (leb (low x) (f x)) (leb (f x) (high x)) (constant-on (λ y. leb (low y) (f y) && leb (f y) (high y)) true start count e h l) in
+    let (a, b) = both_true (leb (low x) (f x)) (leb (f x) (high x)) (constant_on (λ y. leb (low y) (f y) && leb (f y) (high y)) true start count e h l) in
     (leb-true (low x) (f x) a, leb-true (f x) (high x) b)

@@ -12,23 +12,23 @@ use Rattle.commands.specs.declared.Reading.{Reading}
 use Rattle.commands.specs.Lengths.{size_of}
 use Rattle.commands.specs.Commands.{Command, Whole, form, Front, cut, undefined, whole, front}
 use Rattle.commands.specs.Reading.{reading, read_at}
-use Rattle.commands.proofs.Fronts.{after-undefined, after-cut, after-whole, front_at, front_end, front_sound, front_length}
+use Rattle.commands.proofs.Fronts.{after_undefined, after_cut, after_whole, front_at, front_end, front_sound, front_length}
 
 -- ---- the answer, case by case
 
 module _ (file : List ℕ) (at : ℕ) where
-  pub read-end : length file ≤ at → refused file_ends at ≡ read_at file at
-  read-end h = rw (front_end file at h)
+  pub read_end : length file ≤ at → refused file_ends at ≡ read_at file at
+  read_end h = rw (front_end file at h)
 
   module _ (starts : at < length file) where
-    pub read-undefined : 250 ≤ get_or file at 0 → refused undefined_opcode at ≡ read_at file at
-    read-undefined h = rw (front_at file at starts, after-undefined (get_or file at 0) (drop (at + 1) file) h)
+    pub read_undefined : 250 ≤ get_or file at 0 → refused undefined_opcode at ≡ read_at file at
+    read_undefined h = rw (front_at file at starts, after_undefined (get_or file at 0) (drop (at + 1) file) h)
 
     module _ (defined : get_or file at 0 < 250) where
-      pub read-cut : length file < at + 1 + size_of (get_or file at 0) (drop (at + 1) file) → refused file_ends at ≡ read_at file at
-      read-cut h =
+      pub read_cut : length file < at + 1 + size_of (get_or file at 0) (drop (at + 1) file) → refused file_ends at ≡ read_at file at
+      read_cut h =
           let short : length (drop (at + 1) file) < size_of (get_or file at 0) (drop (at + 1) file) = simp length-drop (omega arith) in
-          rw (front_at file at starts, after-cut (get_or file at 0) (drop (at + 1) file) defined short)
+          rw (front_at file at starts, after_cut (get_or file at 0) (drop (at + 1) file) defined short)
 
       pub read_whole : {next : ℕ} → next ≡ at + 1 + size_of (get_or file at 0) (drop (at + 1) file) → next ≤ length file
           → given (record { opcode = get_or file at 0; start = at + 1; next = next }) ≡ read_at file at
@@ -36,7 +36,7 @@ module _ (file : List ℕ) (at : ℕ) where
           let fits : size_of (get_or file at 0) (drop (at + 1) file) ≤ length (drop (at + 1) file) = simp length-drop (omega arith) in
           rw (
             front_at file at starts,
-            after-whole (get_or file at 0) (drop (at + 1) file) defined fits,
+            after_whole (get_or file at 0) (drop (at + 1) file) defined fits,
             length-take-le (size_of (get_or file at 0) (drop (at + 1) file)) (drop (at + 1) file) fits,
             e,
           )
@@ -57,30 +57,30 @@ pub record Reads (file : List ℕ) (at : ℕ) (r : Reading) : Type 0 where
   pub ahead : front (drop at file) ≡ whole (command_at file r) (drop r.next file)
 
 module _ (file : List ℕ) (at : ℕ) where
-  whole-reads : (c : Command) (rest : List ℕ) → front (drop at file) ≡ whole c rest
+  whole_reads : (c : Command) (rest : List ℕ) → front (drop at file) ≡ whole c rest
       → Reads file at (record { opcode = c.opcode; start = at + 1; next = at + 1 + length c.params })
-  whole-reads c rest e =
+  whole_reads c rest e =
       let (good, stands) = front_sound (drop at file) c rest e in
       let after : drop (at + 1) file ≡ c.params ++ rest = sym (drop-drop 1 at file) ∙ ap (drop 1) stands in
       let count : at + 1 + length c.params - (at + 1) ≡ length c.params = omega arith in
       let params_are : take (at + 1 + length c.params - (at + 1)) (drop (at + 1) file) ≡ c.params = rw (after, count) (take_at c.params rest _ refl) in
-      let rest-is : drop (at + 1 + length c.params) file ≡ rest =
+      let rest_is : drop (at + 1 + length c.params) file ≡ rest =
       sym (drop-drop (length c.params) (at + 1) file) ∙ ap (drop (length c.params)) after ∙ drop_at c.params rest _ refl in
       record {
         starts = refl;
         nexts = rw params_are;
         inside = omega (arith, front_length (drop at file) c rest e, length-drop at file);
         good = rw params_are good;
-        stands = rw (params_are, rest-is) stands;
-        ahead = rw (params_are, rest-is) e;
+        stands = rw (params_are, rest_is) stands;
+        ahead = rw (params_are, rest_is) e;
       }
 
-  pub given-reads : (r : Reading) → read_at file at ≡ given r → Reads file at r
-  given-reads r e = go (front (drop at file)) refl e
+  pub given_reads : (r : Reading) → read_at file at ≡ given r → Reads file at r
+  given_reads r e = go (front (drop at file)) refl e
     where
       go : (x : Front) → front (drop at file) ≡ x → reading at x ≡ given r → Reads file at r
       go cut f e = let z : ◌≡◌ {A = ℕ} 0 1 = cc in absurd (omega arith)
       go undefined f e = let z : ◌≡◌ {A = ℕ} 0 1 = cc in absurd (omega arith)
       go (whole c rest) f e =
           let reading-is : record { opcode = c.opcode; start = at + 1; next = at + 1 + length c.params } ≡ r = cc in
-          rw (← reading-is) (whole-reads c rest f)
+          rw (← reading-is) (whole_reads c rest f)

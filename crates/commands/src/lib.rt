@@ -1,6 +1,4 @@
 // One command: its kind, the length of its parameters, and the reading of what stands at a place.
-#![tactic(auto)]
-
 use refusals::Refusal;
 
 pub mod fields;
@@ -16,7 +14,7 @@ ghost use Rattle.commands.specs.Steps.{read_answer};
 pub const LONGEST_FILE: usize = 16777216;
 
 // What a command is, by its range of opcodes
-#[derive(Clone, Copy)]
+#[derive(Drop)]
 pub enum Kind {
     SetCharacter,
     SetRule,
@@ -43,7 +41,7 @@ pub enum Kind {
 }
 
 // A command that stands in a file: its opcode, where its parameters start, and the place after them
-#[derive(Clone, Copy)]
+#[derive(Drop)]
 pub struct Reading {
     pub opcode: u8,
     pub start: usize,
@@ -51,7 +49,7 @@ pub struct Reading {
 }
 
 // What stands at a place, or refusal 2 or 3
-#[derive(Clone, Copy)]
+#[derive(Drop)]
 pub enum Read {
     Command(Reading),
     Refused(Refusal),

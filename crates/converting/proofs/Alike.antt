@@ -14,7 +14,7 @@ use Rattle.numbers.specs.Bytes.{unsigned_at}
 use Rattle.numbers.specs.Signs.{from_twos}
 use Rattle.numbers.specs.Sizes.{lawful_size}
 use Rattle.numbers.proofs.Bytes.{unsigned_more, unsigned_join, power_le}
-use Rattle.numbers.proofs.Radix.{first-decides, second-decides}
+use Rattle.numbers.proofs.Radix.{first_decides, second_decides}
 use Rattle.names.specs.Names.{all_zeros, name_then_zeros}
 use Rattle.scaling.specs.declared.FixWord.{FixWord}
 use Rattle.scaling.specs.Scaling.{lawful_first}
@@ -66,10 +66,10 @@ same_order head head' code code' base base' low low' wide wide' = by (eqb head h
     by : (same : Bool) → eqb head head' ≡ same → ltb (head * base + code) (head' * base + code') ≡ ltb (head * base' + code) (head' * base' + code')
     by true e =
         let heads : head ≡ head' = eqb-true head head' e in
-        sym (second-decides head head' base code code' (omega arith) heads) ∙ second-decides head head' base' code code' (omega arith) heads
+        sym (second_decides head head' base code code' (omega arith) heads) ∙ second_decides head head' base' code code' (omega arith) heads
     by false e =
-        sym (first-decides head head' base code code' (omega arith) (omega arith) (eqb-false head head' e))
-        ∙ first-decides head head' base' code code' (omega arith) (omega arith) (eqb-false head head' e)
+        sym (first_decides head head' base code code' (omega arith) (omega arith) (eqb-false head head' e))
+        ∙ first_decides head head' base' code code' (omega arith) (omega arith) (eqb-false head head' e)
 
 -- ---- a record without a name
 
@@ -81,27 +81,27 @@ module _ (named : ℕ) (table : List ℕ) (index : ℕ) where
   abbrev at : ℕ
   at = index * size_with named
 
-  byte-place : (i : ℕ) → get_or table (at + 8 + i) 0 ≡ get_or table (at + (8 + i)) 0
-  byte-place i = let same : at + 8 + i ≡ at + (8 + i) = omega arith in ap (λ (n : ℕ). get_or table n 0) same
+  byte_place : (i : ℕ) → get_or table (at + 8 + i) 0 ≡ get_or table (at + (8 + i)) 0
+  byte_place i = let same : at + 8 + i ≡ at + (8 + i) = omega arith in ap (λ (n : ℕ). get_or table n 0) same
 
   -- a name of 0 is none
-  pub none-by-number : (record_in named table index).name ≡ 0 → NoName named table index
+  pub none_by_number : (record_in named table index).name ≡ 0 → NoName named table index
   unfolding record_in
-  none-by-number e i h = sym (byte-place i) ∙ zero_bytes table (at + 8) named e i h
+  none_by_number e i h = sym (byte_place i) ∙ zero_bytes table (at + 8) named e i h
 
   module _ (none : NoName named table index) where
     pub no_number : (record_in named table index).name ≡ 0
     unfolding record_in
-    no_number = unsigned_zeros table (at + 8) named (λ i h. byte-place i ∙ none i h)
+    no_number = unsigned_zeros table (at + 8) named (λ i h. byte_place i ∙ none i h)
 
-    no-name-lawful : name_then_zeros (record_in named table index).name_bytes ≡ true
+    no_name_lawful : name_then_zeros (record_in named table index).name_bytes ≡ true
     unfolding record_in
-    no-name-lawful = zeros_name named (drop (at + 8) table) (λ i h. get_or-drop (at + 8) table i 0 ∙ byte-place i ∙ none i h)
+    no_name_lawful = zeros_name named (drop (at + 8) table) (λ i h. get_or-drop (at + 8) table i 0 ∙ byte_place i ∙ none i h)
 
     -- its key is check sum, scale and code
-    key-parts : (record_in named table index).key ≡ unsigned_at table at 8 * 256 ^ (named + 1) + (record_in named table index).code
+    key_parts : (record_in named table index).key ≡ unsigned_at table at 8 * 256 ^ (named + 1) + (record_in named table index).code
     unfolding record_in
-    key-parts =
+    key_parts =
         let count : named + 9 ≡ 8 + (named + 1) = omega arith in
         let place : at + 8 + named ≡ at + (named + 8) = omega arith in
         let last : unsigned_at table (at + 8) (named + 1) ≡ get_or table (at + (named + 8)) 0 =
@@ -128,8 +128,8 @@ module _ (from to : ℕ) (table new : List ℕ) where
     head_same : unsigned_at new behind 8 ≡ unsigned_at table before 8
     head_same = unsigned_same new table behind before 8 alike.front
 
-    checksum-same : unsigned_at new behind 4 ≡ unsigned_at table before 4
-    checksum-same = unsigned_same new table behind before 4 (λ i h. alike.front i (omega arith))
+    checksum_same : unsigned_at new behind 4 ≡ unsigned_at table before 4
+    checksum_same = unsigned_same new table behind before 4 (λ i h. alike.front i (omega arith))
 
     scale_same : unsigned_at new (behind + 4) 4 ≡ unsigned_at table (before + 4) 4
     scale_same =
@@ -138,15 +138,15 @@ module _ (from to : ℕ) (table new : List ℕ) where
         let place : before + (4 + i) ≡ before + 4 + i = omega arith in
         ap (λ (n : ℕ). get_or new n 0) new_place_is ∙ alike.front (4 + i) (omega arith) ∙ ap (λ (n : ℕ). get_or table n 0) place)
 
-    escapement-same : unsigned_at new (behind + (to + 10)) 2 ≡ unsigned_at table (before + (from + 10)) 2
-    escapement-same =
+    escapement_same : unsigned_at new (behind + (to + 10)) 2 ≡ unsigned_at table (before + (from + 10)) 2
+    escapement_same =
         unsigned_same new table (behind + (to + 10)) (before + (from + 10)) 2 (λ i h.
         let new_place_is : behind + (to + 10) + i ≡ behind + (to + (8 + (2 + i))) = omega arith in
         let place : before + (from + (8 + (2 + i))) ≡ before + (from + 10) + i = omega arith in
         ap (λ (n : ℕ). get_or new n 0) new_place_is ∙ alike.back (2 + i) (omega arith) ∙ ap (λ (n : ℕ). get_or table n 0) place)
 
-    name-same : (record_in to new index).name ≡ (record_in from table index).name
-    name-same = no_number to new index alike.none ∙ sym (no_number from table index alike.none_before)
+    name_same : (record_in to new index).name ≡ (record_in from table index).name
+    name_same = no_number to new index alike.none ∙ sym (no_number from table index alike.none_before)
 
     width_same : (record_in to new index).width ≡ (record_in from table index).width
     unfolding record_in
@@ -156,39 +156,39 @@ module _ (from to : ℕ) (table new : List ℕ) where
         (alike.back 7 (omega arith))
 
     -- what is found of the character
-    pub metric-same : metric_of (record_in to new index) ≡ metric_of (record_in from table index)
+    pub metric_same : metric_of (record_in to new index) ≡ metric_of (record_in from table index)
     unfolding record_in
-    metric-same = ap₂ (λ (n : ℕ) (w : FixWord). record { escapement = from_twos (256 ^ 2) n; width = w }) escapement-same width_same
+    metric_same = ap₂ (λ (n : ℕ) (w : FixWord). record { escapement = from_twos (256 ^ 2) n; width = w }) escapement_same width_same
 
     -- whose it is
-    pub for-same : (checksum scale name byte : ℕ) → is_for (record_in to new index) checksum scale name byte ≡ is_for (record_in from table index) checksum scale name byte
+    pub for_same : (checksum scale name byte : ℕ) → is_for (record_in to new index) checksum scale name byte ≡ is_for (record_in from table index) checksum scale name byte
     unfolding record_in
-    for-same checksum scale name byte =
-        ap₂ (λ (a b : Bool). a && b) (ap (λ (n : ℕ). eqb n checksum) checksum-same)
+    for_same checksum scale name byte =
+        ap₂ (λ (a b : Bool). a && b) (ap (λ (n : ℕ). eqb n checksum) checksum_same)
         (ap₂ (λ (a b : Bool). a && b) (ap (λ (n : ℕ). eqb n scale) scale_same)
-        (ap₂ (λ (a b : Bool). a && b) (ap (λ (n : ℕ). eqb n name) name-same) (ap (λ (n : ℕ). eqb n byte) (alike.back 0 (omega arith)))))
+        (ap₂ (λ (a b : Bool). a && b) (ap (λ (n : ℕ). eqb n name) name_same) (ap (λ (n : ℕ). eqb n byte) (alike.back 0 (omega arith)))))
 
     -- and whether its fields are right
-    pub fields-same : lawful_fields (record_in to new index) ≡ lawful_fields (record_in from table index)
+    pub fields_same : lawful_fields (record_in to new index) ≡ lawful_fields (record_in from table index)
     unfolding record_in
-    fields-same =
+    fields_same =
         ap₂ (λ (a b : Bool). a && b) (ap lawful_size scale_same)
-        (ap₂ (λ (a b : Bool). a && b) (no-name-lawful to new index alike.none ∙ sym (no-name-lawful from table index alike.none_before))
+        (ap₂ (λ (a b : Bool). a && b) (no_name_lawful to new index alike.none ∙ sym (no_name_lawful from table index alike.none_before))
         (ap₂ (λ (zero_byte first : ℕ). eqb zero_byte 0 && lawful_first first) (alike.back 1 (omega arith)) (alike.back 4 (omega arith))))
 
     abbrev code : ℕ
     code = (record_in from table index).code
 
-    key-same : (record_in to new index).key ≡ unsigned_at table before 8 * 256 ^ (to + 1) + code
+    key_same : (record_in to new index).key ≡ unsigned_at table before 8 * 256 ^ (to + 1) + code
     unfolding record_in
-    key-same = key-parts to new index alike.none ∙ ap₂ (λ (head byte : ℕ). head * 256 ^ (to + 1) + byte) head_same (alike.back 0 (omega arith))
+    key_same = key_parts to new index alike.none ∙ ap₂ (λ (head byte : ℕ). head * 256 ^ (to + 1) + byte) head_same (alike.back 0 (omega arith))
 
   -- of two records the same one is the first
-  pub keys-same : (index other : ℕ) → Alike from to table new index → Alike from to table new other → (record_in from table index).code < 256 → (record_in from table other).code < 256
+  pub keys_same : (index other : ℕ) → Alike from to table new index → Alike from to table new other → (record_in from table index).code < 256 → (record_in from table other).code < 256
       → ltb (record_in to new index).key (record_in to new other).key ≡ ltb (record_in from table index).key (record_in from table other).key
-  keys-same index other here there low low' =
+  keys_same index other here there low low' =
       let head = unsigned_at table (index * size_with from) 8 in
       let head' = unsigned_at table (other * size_with from) 8 in
-      ap₂ ltb (key-same index here) (key-same other there)
+      ap₂ ltb (key_same index here) (key_same other there)
       ∙ same_order head head' (code index here) (code other there) (256 ^ (to + 1)) (256 ^ (from + 1)) low low' (power_le 1 (to + 1) (omega arith)) (power_le 1 (from + 1) (omega arith))
-      ∙ ap₂ ltb (sym (key-parts from table index here.none_before)) (sym (key-parts from table other there.none_before))
+      ∙ ap₂ ltb (sym (key_parts from table index here.none_before)) (sym (key_parts from table other there.none_before))

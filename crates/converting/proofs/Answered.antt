@@ -9,7 +9,7 @@ use borrow.Author.Tests.{lt-ltb, le-ltb, ltb-false}
 use lib.Dec.{ltb}
 use Rattle.refusals.specs.Numbers.{area_too_short}
 use Rattle.refusals.specs.Answer.{Answer, refused, given, refuse_if, and_then}
-use Rattle.refusals.proofs.Answer.{given-next, given-same, then-given}
+use Rattle.refusals.proofs.Answer.{given_next, given_same, then_given}
 use Rattle.converting.specs.Converting.{with_room}
 
 -- an answer that is known is what the code says, and so is the area behind it
@@ -20,27 +20,27 @@ module _ (judged : Answer ℕ) (room size : ℕ) where
   abbrev pub answered : Answer ℕ
   answered = and_then judged (with_room room size)
 
-  pub answered-refused : {number place : ℕ} → judged ≡ refused number place → answered ≡ refused number place
-  answered-refused e = ap (λ (a : Answer ℕ). and_then a (with_room room size)) e
+  pub answered_refused : {number place : ℕ} → judged ≡ refused number place → answered ≡ refused number place
+  answered_refused e = ap (λ (a : Answer ℕ). and_then a (with_room room size)) e
 
   module _ {records : ℕ} (e : judged ≡ given records) where
-    pub answered-short : room < records * size → answered ≡ refused area_too_short 0
-    answered-short h =
+    pub answered_short : room < records * size → answered ≡ refused area_too_short 0
+    answered_short h =
         ap (λ (a : Answer ℕ). and_then a (with_room room size)) e ∙ ap (λ (t : Bool). refuse_if t area_too_short 0 (given records)) (lt-ltb room (records * size) h)
 
-    pub answered-given : records * size ≤ room → answered ≡ given records
-    answered-given h =
+    pub answered_given : records * size ≤ room → answered ≡ given records
+    answered_given h =
         ap (λ (a : Answer ℕ). and_then a (with_room room size)) e ∙ ap (λ (t : Bool). refuse_if t area_too_short 0 (given records)) (le-ltb room (records * size) h)
 
   -- a result is what was judged, and there is room for it
-  pub answered-as : (records : ℕ) → (answered ≡ given records) ↔ ((judged ≡ given records) × (records * size ≤ room))
-  answered-as records = (
+  pub answered_as : (records : ℕ) → (answered ≡ given records) ↔ ((judged ≡ given records) × (records * size ≤ room))
+  answered_as records = (
     λ e.
-        let (n, is, last) = then-given judged (with_room room size) records e in
-        let (fits, same) = given-next (ltb room (n * size)) area_too_short 0 (given n) records last in
-        let records_are : n ≡ records = given-same n records same in
+        let (n, is, last) = then_given judged (with_room room size) records e in
+        let (fits, same) = given_next (ltb room (n * size)) area_too_short 0 (given n) records last in
+        let records_are : n ≡ records = given_same n records same in
         (is ∙ ap given records_are, subst (λ (k : ℕ). k * size ≤ room) records_are (ltb-false room (n * size) fits)),
-    λ both. answered-given both.0 both.1,
+    λ both. answered_given both.0 both.1,
   )
 
 -- the room counted in records

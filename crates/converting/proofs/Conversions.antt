@@ -15,10 +15,10 @@ use Rattle.widths.specs.AsBytes.{Bytes}
 use Rattle.widths.specs.Table.{size_with, record_in, rises_in, right_in, checked_in}
 use Rattle.widths.specs.LookUp.{LookUp, found, absent, metric_of, is_for, walk_from, or_else}
 use Rattle.widths.proofs.Search.{or_same}
-use Rattle.widths.proofs.TableLaws.{table-size, record-inside, fields-right, keys-rise, judged-right}
+use Rattle.widths.proofs.TableLaws.{table_size, record_inside, fields_right, keys_rise, judged_right}
 use Rattle.converting.specs.Converting.{in_form}
-use Rattle.converting.proofs.Forms.{record_fits, form-length, front_length, back-length, name-length, front-byte, name-byte, back-byte}
-use Rattle.converting.proofs.Alike.{NoName, Alike, no_number, metric-same, for-same, fields-same, keys-same}
+use Rattle.converting.proofs.Forms.{record_fits, form_length, front_length, back_length, name_length, front_byte, name_byte, back_byte}
+use Rattle.converting.proofs.Alike.{NoName, Alike, no_number, metric_same, for_same, fields_same, keys_same}
 
 -- no record has a name
 abbrev pub NoNames : ℕ → List ℕ → ℕ → Type 0
@@ -42,10 +42,10 @@ module _ (named : ℕ) (table : List ℕ) (checksum scale byte : ℕ) where
   other_name name some (suc left) index none =
       let r = record_in named table index in
       let number : r.name ≡ 0 = no_number named table index (none index (omega arith)) in
-      let not-for : is_for r checksum scale name byte ≡ false =
+      let not_for : is_for r checksum scale name byte ≡ false =
       ap (λ (t : Bool). eqb r.checksum checksum && (eqb r.scale scale && (t && eqb r.code byte))) (ne_eqb r.name name (λ e. some (sym e ∙ number)))
       ∙ and_false (eqb r.checksum checksum) (eqb r.scale scale) in
-      ap (λ (t : Bool). cond t (found (metric_of r)) (walked left (suc index) name)) not-for
+      ap (λ (t : Bool). cond t (found (metric_of r)) (walked left (suc index) name)) not_for
       ∙ other_name name some left (suc index) (λ i h. none i (omega arith))
 
   -- the name that is sought does not matter
@@ -68,15 +68,15 @@ module _ (from to records : ℕ) (table : List ℕ) (none : NoNames from table r
         let left = records - suc index in
         let count : index + suc left ≡ records = omega arith in
         record {
-          front = front-byte from to records table fits index left count;
-          back = back-byte from to records table fits index left count;
+          front = front_byte from to records table fits index left count;
+          back = back_byte from to records table fits index left count;
           none_before = none index inside;
-          none = name-byte from to records table fits index left count;
+          none = name_byte from to records table fits index left count;
         }
 
     -- nor has one in the other form
-    pub form-unnamed : NoNames to new records
-    form-unnamed index inside = (alike index inside).none
+    pub form_unnamed : NoNames to new records
+    form_unnamed index inside = (alike index inside).none
 
     -- the same characters
     walk_same : (left index checksum scale name byte : ℕ) → index + left ≡ records
@@ -85,35 +85,35 @@ module _ (from to records : ℕ) (table : List ℕ) (none : NoNames from table r
     walk_same zero index checksum scale name byte count = refl
     walk_same (suc left) index checksum scale name byte count =
         let here = alike index (omega arith) in
-        ap₂ (λ (is : Bool) (m : Metric). cond is (found m) (walk_from to left new (suc index) checksum scale name byte)) (for-same from to table new index here checksum scale name byte) (metric-same from to table new index here)
+        ap₂ (λ (is : Bool) (m : Metric). cond is (found m) (walk_from to left new (suc index) checksum scale name byte)) (for_same from to table new index here checksum scale name byte) (metric_same from to table new index here)
         ∙ ap (λ (l : LookUp). cond (is_for (record_in from table index) checksum scale name byte) (found (metric_of (record_in from table index))) l) (walk_same left (suc index) checksum scale name byte (omega arith))
 
-    pub form-walk : (checksum scale name byte : ℕ) → walk_from to records new 0 checksum scale name byte ≡ walk_from from records table 0 checksum scale name byte
-    form-walk checksum scale name byte = walk_same records 0 checksum scale name byte (omega arith)
+    pub form_walk : (checksum scale name byte : ℕ) → walk_from to records new 0 checksum scale name byte ≡ walk_from from records table 0 checksum scale name byte
+    form_walk checksum scale name byte = walk_same records 0 checksum scale name byte (omega arith)
 
   -- a right table
   module _ (bytes : Bytes table) (judged : checked_in from table ≡ given records) where
     whole : records * size_with from ≤ length table
-    whole = omega (arith, table-size from table records judged)
+    whole = omega (arith, table_size from table records judged)
 
     code_below : (index : ℕ) → index < records → (record_in from table index).code < 256
     unfolding record_in
-    code_below index inside = bytes (index * size_with from + (from + 8)) (omega (arith, record-inside from table records judged index inside))
+    code_below index inside = bytes (index * size_with from + (from + 8)) (omega (arith, record_inside from table records judged index inside))
 
     rises : (index : ℕ) → index < records → rises_in to new index ≡ true
     rises zero inside = refl
     rises (suc index) inside =
-        keys-same from to table new index (suc index) (alike whole index (omega arith)) (alike whole (suc index) inside) (code_below index (omega arith)) (code_below (suc index) inside)
-        ∙ lt-ltb (record_in from table index).key (record_in from table (suc index)).key (keys-rise from table records judged index (suc index) (omega arith) inside)
+        keys_same from to table new index (suc index) (alike whole index (omega arith)) (alike whole (suc index) inside) (code_below index (omega arith)) (code_below (suc index) inside)
+        ∙ lt-ltb (record_in from table index).key (record_in from table (suc index)).key (keys_rise from table records judged index (suc index) (omega arith) inside)
 
     right : (index : ℕ) → index < records → right_in to new index ≡ true
     right index inside =
-        let room : index * size_with to + size_with to ≤ length new = record_fits (size_with to) records index (index * size_with to) (length new) (omega (arith, form-length from to records table whole)) inside refl in
+        let room : index * size_with to + size_with to ≤ length new = record_fits (size_with to) records index (index * size_with to) (length new) (omega (arith, form_length from to records table whole)) inside refl in
         ap₂ ◌&&◌ (le-leb (index * size_with to + size_with to) (length new) room)
-        (ap₂ ◌&&◌ (rises index inside) (fields-same from to table new index (alike whole index inside) ∙ fields-right from table records judged index inside))
+        (ap₂ ◌&&◌ (rises index inside) (fields_same from to table new index (alike whole index inside) ∙ fields_right from table records judged index inside))
 
-    pub form-right : checked_in to new ≡ given records
-    form-right = judged-right to new records (sym (form-length from to records table whole)) right
+    pub form_right : checked_in to new ≡ given records
+    form_right = judged_right to new records (sym (form_length from to records table whole)) right
 
 -- ---- and back again
 
@@ -148,27 +148,27 @@ module _ (from to : ℕ) where
       abbrev made : List ℕ
       made = front ++ (replicate to 0 ++ (back ++ more))
 
-      made-front : take 8 made ≡ front
-      made-front = take_at front (replicate to 0 ++ (back ++ more)) 8 (front_length from to table whole)
+      made_front : take 8 made ≡ front
+      made_front = take_at front (replicate to 0 ++ (back ++ more)) 8 (front_length from to table whole)
 
-      made-behind : drop (8 + to) made ≡ back ++ more
-      made-behind =
+      made_behind : drop (8 + to) made ≡ back ++ more
+      made_behind =
           sym (drop-drop to 8 made)
           ∙ ap (drop to) (drop_at front (replicate to 0 ++ (back ++ more)) 8 (front_length from to table whole))
-          ∙ drop_at (replicate to 0) (back ++ more) to (name-length from to)
+          ∙ drop_at (replicate to 0) (back ++ more) to (name_length from to)
 
       made_back : take 8 (drop (8 + to) made) ≡ back
-      made_back = ap (take 8) made-behind ∙ take_at back more 8 (back-length from to table whole)
+      made_back = ap (take 8) made_behind ∙ take_at back more 8 (back_length from to table whole)
 
-      made-rest : drop (size_with to) made ≡ more
-      made-rest =
+      made_rest : drop (size_with to) made ≡ more
+      made_rest =
           let end : size_with to ≡ 8 + to + 8 = omega arith in
-          ap (λ (n : ℕ). drop n made) end ∙ sym (drop-drop 8 (8 + to) made) ∙ ap (drop 8) made-behind ∙ drop_at back more 8 (back-length from to table whole)
+          ap (λ (n : ℕ). drop n made) end ∙ sym (drop-drop 8 (8 + to) made) ∙ ap (drop 8) made_behind ∙ drop_at back more 8 (back_length from to table whole)
 
-  pub form-again : (records : ℕ) (table : List ℕ) → NoNames from table records → records * size_with from ≡ length table → in_form to from records (in_form from to records table) ≡ table
-  form-again zero [] none size = refl
-  form-again zero (b ∷ table) none size = absurd (omega (arith, zero-mul (size_with from)))
-  form-again (suc records) table none size =
+  pub form_again : (records : ℕ) (table : List ℕ) → NoNames from table records → records * size_with from ≡ length table → in_form to from records (in_form from to records table) ≡ table
+  form_again zero [] none size = refl
+  form_again zero (b ∷ table) none size = absurd (omega (arith, zero-mul (size_with from)))
+  form_again (suc records) table none size =
       let next : suc records * size_with from ≡ records * size_with from + size_with from = suc-mul records (size_with from) in
       let whole : size_with from ≤ length table = omega arith in
       let rest = drop (size_with from) table in
@@ -179,7 +179,7 @@ module _ (from to : ℕ) where
       λ index inside i h.
       let place : size_with from + (index * size_with from + (8 + i)) ≡ suc index * size_with from + (8 + i) = omega (arith, suc-mul index (size_with from)) in
       get_or-drop (size_with from) table (index * size_with from + (8 + i)) 0 ∙ ap (λ (n : ℕ). get_or table n 0) place ∙ none (suc index) (omega arith) i h in
-      ap₂ (λ (x y : List ℕ). x ++ (replicate from 0 ++ y)) (made-front table whole more)
+      ap₂ (λ (x y : List ℕ). x ++ (replicate from 0 ++ y)) (made_front table whole more)
       (ap₂ (λ (x y : List ℕ). x ++ y) (made_back table whole more)
-      (ap (in_form to from records) (made-rest table whole more) ∙ form-again records rest later (omega (arith, length-drop (size_with from) table))))
+      (ap (in_form to from records) (made_rest table whole more) ∙ form_again records rest later (omega (arith, length-drop (size_with from) table))))
       ∙ opened table whole here

@@ -46,27 +46,27 @@ module _ (from to : ℕ) where
     pub front_length : length (front table) ≡ 8
     front_length = length-take-le 8 table (omega arith)
 
-    pub back-length : length (back table) ≡ 8
-    back-length = length-take-le 8 (drop (8 + from) table) (omega (arith, length-drop (8 + from) table))
+    pub back_length : length (back table) ≡ 8
+    back_length = length-take-le 8 (drop (8 + from) table) (omega (arith, length-drop (8 + from) table))
 
-  pub name-length : length name ≡ to
-  name-length = length-replicate {A = ℕ} to 0
+  pub name_length : length name ≡ to
+  name_length = length-replicate {A = ℕ} to 0
 
   -- ---- how many bytes
 
-  pub form-length : (records : ℕ) (table : List ℕ) → records * size_with from ≤ length table → length (in_form from to records table) ≡ records * size_with to
-  form-length zero table h = omega arith
-  form-length (suc records) table h =
+  pub form_length : (records : ℕ) (table : List ℕ) → records * size_with from ≤ length table → length (in_form from to records table) ≡ records * size_with to
+  form_length zero table h = omega arith
+  form_length (suc records) table h =
       let next : suc records * size_with from ≡ records * size_with from + size_with from = suc-mul records (size_with from) in
       let more = in_form from to records (drop (size_with from) table) in
-      let rest : length more ≡ records * size_with to = form-length records (drop (size_with from) table) (omega (arith, length-drop (size_with from) table)) in
+      let rest : length more ≡ records * size_with to = form_length records (drop (size_with from) table) (omega (arith, length-drop (size_with from) table)) in
       omega (
         arith,
         suc-mul records (size_with to),
         rest,
         front_length table (omega arith),
-        back-length table (omega arith),
-        name-length,
+        back_length table (omega arith),
+        name_length,
         length-append (back table) more,
         length-append name (back table ++ more),
         length-append (front table) (name ++ (back table ++ more)),
@@ -74,34 +74,34 @@ module _ (from to : ℕ) where
 
   -- ---- one record after the other
 
-  pub form-more : (first records : ℕ) (table : List ℕ) → in_form from to (first + records) table ≡ in_form from to first table ++ in_form from to records (drop (first * size_with from) table)
-  form-more zero records table =
+  pub form_more : (first records : ℕ) (table : List ℕ) → in_form from to (first + records) table ≡ in_form from to first table ++ in_form from to records (drop (first * size_with from) table)
+  form_more zero records table =
       ap (λ (n : ℕ). in_form from to n table) (zero-add records)
       ∙ ap (λ (n : ℕ). in_form from to records (drop n table)) (sym (zero-mul (size_with from)))
-  form-more (suc first) records table =
+  form_more (suc first) records table =
       let rest = drop (size_with from) table in
       let place : size_with from + first * size_with from ≡ suc first * size_with from = omega (arith, suc-mul first (size_with from)) in
       ap (λ (n : ℕ). in_form from to n table) (suc-add first records)
-      ∙ ap (λ (l : List ℕ). front table ++ (name ++ (back table ++ l))) (form-more first records rest)
+      ∙ ap (λ (l : List ℕ). front table ++ (name ++ (back table ++ l))) (form_more first records rest)
       ∙ ap (λ (l : List ℕ). front table ++ (name ++ (back table ++ (in_form from to first rest ++ in_form from to records l)))) (drop-drop (first * size_with from) (size_with from) table ∙ ap (λ (n : ℕ). drop n table) place)
       ∙ sym (behind_four (front table) name (back table) (in_form from to first rest) (in_form from to records (drop (suc first * size_with from) table)))
 
   -- what is behind so many records is the other records in the other form
-  pub form-behind : (first records : ℕ) (table : List ℕ) → first * size_with from ≤ length table
+  pub form_behind : (first records : ℕ) (table : List ℕ) → first * size_with from ≤ length table
       → drop (first * size_with to) (in_form from to (first + records) table) ≡ in_form from to records (drop (first * size_with from) table)
-  form-behind first records table h =
+  form_behind first records table h =
       let rest = in_form from to records (drop (first * size_with from) table) in
-      ap (drop (first * size_with to)) (form-more first records table)
-      ∙ drop_at (in_form from to first table) rest (first * size_with to) (form-length first table h)
+      ap (drop (first * size_with to)) (form_more first records table)
+      ∙ drop_at (in_form from to first table) rest (first * size_with to) (form_length first table h)
 
   -- a record written behind so many
-  pub form-written : (first : ℕ) (table out : List ℕ) (at written : ℕ) → first * size_with from ≤ length table → at ≡ first * size_with from → written ≡ first * size_with to
+  pub form_written : (first : ℕ) (table out : List ℕ) (at written : ℕ) → first * size_with from ≤ length table → at ≡ first * size_with from → written ≡ first * size_with to
       → sets (sets out 0 (in_form from to first table)) written (in_form from to 1 (drop at table)) ≡ sets out 0 (in_form from to (first + 1) table)
-  form-written first table out at written h at_is written_is =
-      let place : written ≡ 0 + length (in_form from to first table) = omega (arith, form-length first table h) in
+  form_written first table out at written h at_is written_is =
+      let place : written ≡ 0 + length (in_form from to first table) = omega (arith, form_length first table h) in
       ap₂ (λ (n : ℕ) (l : List ℕ). sets (sets out 0 (in_form from to first table)) n (in_form from to 1 l)) place (ap (λ (n : ℕ). drop n table) at_is)
       ∙ sets_behind out 0 (in_form from to first table) (in_form from to 1 (drop (first * size_with from) table))
-      ∙ ap (sets out 0) (sym (form-more first 1 table))
+      ∙ ap (sets out 0) (sym (form_more first 1 table))
 
   -- ---- each byte of a record
 
@@ -109,28 +109,28 @@ module _ (from to : ℕ) where
     abbrev more : List ℕ
     more = in_form from to records (drop (size_with from) table)
 
-    first-front : (i : ℕ) → i < 8 → get_or (in_form from to (suc records) table) i 0 ≡ get_or table i 0
-    first-front i h =
+    first_front : (i : ℕ) → i < 8 → get_or (in_form from to (suc records) table) i 0 ≡ get_or table i 0
+    first_front i h =
         get_or-append (front table) (name ++ (back table ++ more)) 0 i (omega (arith, front_length table whole))
         ∙ get_or-take 8 table i 0 h
 
-    behind-front : (i : ℕ) → get_or (in_form from to (suc records) table) (8 + i) 0 ≡ get_or (name ++ (back table ++ more)) i 0
-    behind-front i =
+    behind_front : (i : ℕ) → get_or (in_form from to (suc records) table) (8 + i) 0 ≡ get_or (name ++ (back table ++ more)) i 0
+    behind_front i =
         let place : 8 + i ≡ length (front table) + i = omega (arith, front_length table whole) in
         ap (λ (n : ℕ). get_or (in_form from to (suc records) table) n 0) place
         ∙ get_or-append-add (front table) (name ++ (back table ++ more)) i 0
 
-    first-name : (i : ℕ) → i < to → get_or (in_form from to (suc records) table) (8 + i) 0 ≡ 0
-    first-name i h = behind-front i ∙ get_or-append name (back table ++ more) 0 i (omega (arith, name-length)) ∙ get_or-replicate to i 0 0 h
+    first_name : (i : ℕ) → i < to → get_or (in_form from to (suc records) table) (8 + i) 0 ≡ 0
+    first_name i h = behind_front i ∙ get_or-append name (back table ++ more) 0 i (omega (arith, name_length)) ∙ get_or-replicate to i 0 0 h
 
     first_back : (i : ℕ) → i < 8 → get_or (in_form from to (suc records) table) (to + (8 + i)) 0 ≡ get_or table (from + (8 + i)) 0
     first_back i h =
-        let place : to + (8 + i) ≡ 8 + (length name + i) = omega (arith, name-length) in
+        let place : to + (8 + i) ≡ 8 + (length name + i) = omega (arith, name_length) in
         let source : 8 + from + i ≡ from + (8 + i) = omega arith in
         ap (λ (n : ℕ). get_or (in_form from to (suc records) table) n 0) place
-        ∙ behind-front (length name + i)
+        ∙ behind_front (length name + i)
         ∙ get_or-append-add name (back table ++ more) i 0
-        ∙ get_or-append (back table) more 0 i (omega (arith, back-length table whole))
+        ∙ get_or-append (back table) more 0 i (omega (arith, back_length table whole))
         ∙ get_or-take 8 (drop (8 + from) table) i 0 h
         ∙ get_or-drop (8 + from) table i 0
         ∙ ap (λ (n : ℕ). get_or table n 0) source
@@ -142,21 +142,21 @@ module _ (from to : ℕ) where
     before : first * size_with from + size_with from ≤ length table
     before = record_fits (size_with from) records first (first * size_with from) (length table) fits (omega arith) refl
 
-    whole-rest : size_with from ≤ length rest
-    whole-rest = omega (arith, before, length-drop (first * size_with from) table)
+    whole_rest : size_with from ≤ length rest
+    whole_rest = omega (arith, before, length-drop (first * size_with from) table)
 
     -- a byte of the record behind the first so many
     there : (i : ℕ) → get_or (in_form from to records table) (first * size_with to + i) 0 ≡ get_or (in_form from to (suc left) rest) i 0
     there i =
         ap (λ (n : ℕ). get_or (in_form from to n table) (first * size_with to + i) 0) (sym count)
         ∙ sym (get_or-drop (first * size_with to) (in_form from to (first + suc left) table) i 0)
-        ∙ ap (λ (l : List ℕ). get_or l i 0) (form-behind first (suc left) table (omega (arith, before)))
+        ∙ ap (λ (l : List ℕ). get_or l i 0) (form_behind first (suc left) table (omega (arith, before)))
 
-    pub front-byte : (i : ℕ) → i < 8 → get_or (in_form from to records table) (first * size_with to + i) 0 ≡ get_or table (first * size_with from + i) 0
-    front-byte i h = there i ∙ first-front left rest whole-rest i h ∙ get_or-drop (first * size_with from) table i 0
+    pub front_byte : (i : ℕ) → i < 8 → get_or (in_form from to records table) (first * size_with to + i) 0 ≡ get_or table (first * size_with from + i) 0
+    front_byte i h = there i ∙ first_front left rest whole_rest i h ∙ get_or-drop (first * size_with from) table i 0
 
-    pub name-byte : (i : ℕ) → i < to → get_or (in_form from to records table) (first * size_with to + (8 + i)) 0 ≡ 0
-    name-byte i h = there (8 + i) ∙ first-name left rest whole-rest i h
+    pub name_byte : (i : ℕ) → i < to → get_or (in_form from to records table) (first * size_with to + (8 + i)) 0 ≡ 0
+    name_byte i h = there (8 + i) ∙ first_name left rest whole_rest i h
 
-    pub back-byte : (i : ℕ) → i < 8 → get_or (in_form from to records table) (first * size_with to + (to + (8 + i))) 0 ≡ get_or table (first * size_with from + (from + (8 + i))) 0
-    back-byte i h = there (to + (8 + i)) ∙ first_back left rest whole-rest i h ∙ get_or-drop (first * size_with from) table (from + (8 + i)) 0
+    pub back_byte : (i : ℕ) → i < 8 → get_or (in_form from to records table) (first * size_with to + (to + (8 + i))) 0 ≡ get_or table (first * size_with from + (from + (8 + i))) 0
+    back_byte i h = there (to + (8 + i)) ∙ first_back left rest whole_rest i h ∙ get_or-drop (first * size_with from) table (from + (8 + i)) 0

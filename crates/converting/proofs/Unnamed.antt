@@ -11,7 +11,7 @@ use borrow.Author.Tests.{eqb-true, eqb-false, eq-eqb, ne_eqb, not_true, not-fals
 use lib.Dec.{eqb}
 use Rattle.refusals.specs.Numbers.{named_record}
 use Rattle.refusals.specs.Answer.{refused, given, refuse_if}
-use Rattle.refusals.proofs.Answer.{given-not-refused, given-next, given-same}
+use Rattle.refusals.proofs.Answer.{given_not_refused, given_next, given_same}
 use Rattle.widths.specs.Table.{width_record_size, record_of}
 use Rattle.converting.specs.Converting.{unnamed_from}
 use Rattle.converting.specs.Named.{Unnamed, FirstNamed}
@@ -32,15 +32,15 @@ module _ (table : List ℕ) where
         ap (λ (n : ℕ). unnamed_from n table index) more
         ∙ ap (λ (n : ℕ). refuse_if (named index) named_record (index * width_record_size) (unnamed_from (records - (index + 1)) table n)) (sym (add-one index))
 
-    pub unnamed-stops : index < records → named index ≡ true → unnamed_from (records - index) table index ≡ refused named_record (index * width_record_size)
-    unnamed-stops h e = opened h ∙ ap (λ (t : Bool). refuse_if t named_record (index * width_record_size) (unnamed_from (records - (index + 1)) table (index + 1))) e
+    pub unnamed_stops : index < records → named index ≡ true → unnamed_from (records - index) table index ≡ refused named_record (index * width_record_size)
+    unnamed_stops h e = opened h ∙ ap (λ (t : Bool). refuse_if t named_record (index * width_record_size) (unnamed_from (records - (index + 1)) table (index + 1))) e
 
-    pub unnamed-turns : index < records → named index ≡ false → unnamed_from (records - index) table index ≡ unnamed_from (records - (index + 1)) table (index + 1)
-    unnamed-turns h e = opened h ∙ ap (λ (t : Bool). refuse_if t named_record (index * width_record_size) (unnamed_from (records - (index + 1)) table (index + 1))) e
+    pub unnamed_turns : index < records → named index ≡ false → unnamed_from (records - index) table index ≡ unnamed_from (records - (index + 1)) table (index + 1)
+    unnamed_turns h e = opened h ∙ ap (λ (t : Bool). refuse_if t named_record (index * width_record_size) (unnamed_from (records - (index + 1)) table (index + 1))) e
 
-    pub unnamed-ends : records ≤ index → unnamed_from (records - index) table index ≡ given index
+    pub unnamed_ends : records ≤ index → unnamed_from (records - index) table index ≡ given index
     unfolding unnamed_from
-    unnamed-ends h = let none : records - index ≡ 0 = omega arith in ap (λ (n : ℕ). unnamed_from n table index) none
+    unnamed_ends h = let none : records - index ≡ 0 = omega arith in ap (λ (n : ℕ). unnamed_from n table index) none
 
   -- ---- what it answers
 
@@ -54,29 +54,29 @@ module _ (table : List ℕ) where
   no_name index e = eqb-true (record_of table index).name 0 (not-false (eqb (record_of table index).name 0) e)
 
   -- all records, and that none of them has a name
-  pub unnamed-all : (left index records : ℕ) → Unnamed table index → unnamed_from left table index ≡ given records → (index + left ≡ records) × Unnamed table records
+  pub unnamed_all : (left index records : ℕ) → Unnamed table index → unnamed_from left table index ≡ given records → (index + left ≡ records) × Unnamed table records
   unfolding unnamed_from
-  unnamed-all zero index records before e = let last : index ≡ records = given-same index records e in (omega arith, subst (Unnamed table) last before)
-  unnamed-all (suc left) index records before e =
-      let (here, rest) = given-next (named index) named_record (index * width_record_size) (unnamed_from left table (suc index)) records e in
-      let (count, none) = unnamed-all left (suc index) records (one_more index before (no_name index here)) rest in
+  unnamed_all zero index records before e = let last : index ≡ records = given_same index records e in (omega arith, subst (Unnamed table) last before)
+  unnamed_all (suc left) index records before e =
+      let (here, rest) = given_next (named index) named_record (index * width_record_size) (unnamed_from left table (suc index)) records e in
+      let (count, none) = unnamed_all left (suc index) records (one_more index before (no_name index here)) rest in
       (omega arith, none)
 
   -- and where none has one
-  pub unnamed-given : (left index records : ℕ) → index + left ≡ records → Unnamed table records → unnamed_from left table index ≡ given records
+  pub unnamed_given : (left index records : ℕ) → index + left ≡ records → Unnamed table records → unnamed_from left table index ≡ given records
   unfolding unnamed_from
-  unnamed-given zero index records count none = let last : index ≡ records = omega arith in ap given last
-  unnamed-given (suc left) index records count none =
+  unnamed_given zero index records count none = let last : index ≡ records = omega arith in ap given last
+  unnamed_given (suc left) index records count none =
       ap (λ (t : Bool). refuse_if (not t) named_record (index * width_record_size) (unnamed_from left table (suc index))) (eq-eqb (record_of table index).name 0 (none index (omega arith)))
-      ∙ unnamed-given left (suc index) records (omega arith) none
+      ∙ unnamed_given left (suc index) records (omega arith) none
 
   -- the first record that has a name
-  pub unnamed-refused : (left index records number place : ℕ) → index + left ≡ records → Unnamed table index → unnamed_from left table index ≡ refused number place
+  pub unnamed_refused : (left index records number place : ℕ) → index + left ≡ records → Unnamed table index → unnamed_from left table index ≡ refused number place
       → (number ≡ named_record) × FirstNamed table records place
   unfolding unnamed_from
-  unnamed-refused zero index records number place count before e = absurd (given-not-refused index number place e)
-  unnamed-refused (suc left) index records number place count before e =
-      by (named index) refl e (λ here rest. unnamed-refused left (suc index) records number place (omega arith) (one_more index before (no_name index here)) rest)
+  unnamed_refused zero index records number place count before e = absurd (given_not_refused index number place e)
+  unnamed_refused (suc left) index records number place count before e =
+      by (named index) refl e (λ here rest. unnamed_refused left (suc index) records number place (omega arith) (one_more index before (no_name index here)) rest)
     where
       by : (t : Bool) → named index ≡ t → refuse_if t named_record (index * width_record_size) (unnamed_from left table (suc index)) ≡ refused number place
           → (named index ≡ false → unnamed_from left table (suc index) ≡ refused number place → (number ≡ named_record) × FirstNamed table records place)
@@ -96,14 +96,14 @@ module _ (table : List ℕ) where
       by false here e onward = onward here e
 
   -- and where there is one
-  pub unnamed-found : (left index records place : ℕ) → index + left ≡ records → (f : FirstNamed table records place) → index ≤ f.index → unnamed_from left table index ≡ refused named_record place
+  pub unnamed_found : (left index records place : ℕ) → index + left ≡ records → (f : FirstNamed table records place) → index ≤ f.index → unnamed_from left table index ≡ refused named_record place
   unfolding unnamed_from
-  unnamed-found zero index records place count f low = absurd (omega (arith, f.among))
-  unnamed-found (suc left) index records place count f low =
+  unnamed_found zero index records place count f low = absurd (omega (arith, f.among))
+  unnamed_found (suc left) index records place count f low =
       ⊎_elim (λ (same : index ≡ f.index).
       ap (λ (t : Bool). refuse_if (not t) named_record (index * width_record_size) (unnamed_from left table (suc index))) (ne_eqb (record_of table index).name 0 (λ e. f.has_name (subst (λ (n : ℕ). (record_of table n).name ≡ 0) same e)))
       ∙ ap (refused named_record) (ap (λ (n : ℕ). n * width_record_size) same ∙ sym f.place_is))
       (λ (under : index < f.index).
       ap (λ (t : Bool). refuse_if (not t) named_record (index * width_record_size) (unnamed_from left table (suc index))) (eq-eqb (record_of table index).name 0 (f.none_before index under))
-      ∙ unnamed-found left (suc index) records place (omega arith) f under)
+      ∙ unnamed_found left (suc index) records place (omega arith) f under)
       (eq-or-lt_of_le low)

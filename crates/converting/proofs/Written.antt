@@ -8,15 +8,15 @@ use lib.Seq.{sets, sets-eq, length-sets, length-take-le, drop-drop}
 use Rattle.areas.proofs.Pasting.{sets_behind}
 use Rattle.widths.specs.Table.{size_with}
 use Rattle.converting.specs.Converting.{in_form}
-use Rattle.converting.proofs.Forms.{form-length}
+use Rattle.converting.proofs.Forms.{form_length}
 
 -- ---- one record
 
 -- three parts that are pasted one behind the other
 module _ (out : List ℕ) (first second third : ℕ) (x y z : List ℕ) (second_is : second ≡ first + length x) (third-is : third ≡ second + length y) (fits : third + length z ≤ length out) where
-  pub three-pasted : (one two three : List ℕ) → one ≡ take first out ++ x ++ drop (first + length x) out → two ≡ take second one ++ y ++ drop (second + length y) one
+  pub three_pasted : (one two three : List ℕ) → one ≡ take first out ++ x ++ drop (first + length x) out → two ≡ take second one ++ y ++ drop (second + length y) one
       → three ≡ take third two ++ z ++ drop (third + length z) two → three ≡ sets out first (x ++ (y ++ z))
-  three-pasted one two three e₁ e₂ e₃ =
+  three_pasted one two three e₁ e₂ e₃ =
       let one-is : one ≡ sets out first x = e₁ ∙ sym (sets-eq x out first (omega arith)) in
       let one-long : length one ≡ length out = ap length one-is ∙ length-sets out first x in
       let two_is : two ≡ sets out first (x ++ y) =
@@ -39,7 +39,7 @@ zeros_taken (suc count) (suc more) h = ap (λ (l : List ℕ). 0 ∷ l) (zeros_ta
 -- the three parts of a record in the other form, as the code takes them from the table and from sixteen zeros
 pub record_parts : (from to : ℕ) (table : List ℕ) (at behind : ℕ) → to ≤ 16 → behind ≡ at + 8 + from
     → take (at + 8 - at) (drop at table) ++ (take to (replicate {A = ℕ} 16 0) ++ take (behind + 8 - behind) (drop behind table)) ≡ in_form from to 1 (drop at table)
-record_parts from to table at behind small behind-is =
+record_parts from to table at behind small behind_is =
     let eight : at + 8 - at ≡ 8 = omega arith in
     let eight-more : behind + 8 - behind ≡ 8 = omega arith in
     let place : behind ≡ at + (8 + from) = omega arith in
@@ -54,6 +54,6 @@ record_parts from to table at behind small behind-is =
 pub all_written : (from to records : ℕ) (table out : List ℕ) → records * size_with from ≤ length table → records * size_with to ≤ length out
     → sets out 0 (in_form from to records table) ≡ in_form from to records table ++ drop (records * size_with to) out
 all_written from to records table out whole room =
-    let long : length (in_form from to records table) ≡ records * size_with to = form-length from to records table whole in
+    let long : length (in_form from to records table) ≡ records * size_with to = form_length from to records table whole in
     let end : 0 + length (in_form from to records table) ≡ records * size_with to = omega arith in
     sets-eq (in_form from to records table) out 0 (omega arith) ∙ ap (λ (n : ℕ). in_form from to records table ++ drop n out) end

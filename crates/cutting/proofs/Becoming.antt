@@ -17,8 +17,8 @@ use Rattle.cutting.specs.declared.Fate.TheVariants as Fate
 use Rattle.cutting.specs.Chosen.{is_in}
 use Rattle.cutting.specs.CutList.{opening, stays, mended, cut_after}
 use Rattle.cutting.specs.Steps.{spot_after, fate_of}
-use Rattle.cutting.proofs.Turning.{Turn, starts, idles, defines_early, begins, within, finishes, posts, idles_late, defines_again, ends, turn_of_lem}
-use Rattle.cutting.proofs.Standing.{Stands, next-chosen}
+use Rattle.cutting.proofs.Turning.{Turn, starts, idles, defines_early, begins, within, finishes, posts, idles_late, defines_again, ends, turn_of}
+use Rattle.cutting.proofs.Standing.{Stands, next_chosen_lem}
 
 -- the kinds that are mended
 abbrev pub IsMended : Kind → Type 0
@@ -46,12 +46,12 @@ module _ (first : List Command) (list : List ℕ) where
     goes : (is_a Pre c || defines false (stage past) (kind_of_command c)) ≡ false → stays (is_in list) past c ≡ false → Becomes past c Fate.Dropped
     goes o t = (ap (λ (b : Bool). cond b (c ∷ opening past) (opening past)) o, ap (λ (b : Bool). cond b (mended new c ∷ new) new) t)
 
-    is-mended : (is_a Pre c || defines false (stage past) (kind_of_command c)) ≡ false → stays (is_in list) past c ≡ true → IsMended (kind_of_command c) → Becomes past c Fate.Mended
-    is-mended o t kind = (ap (λ (b : Bool). cond b (c ∷ opening past) (opening past)) o, ap (λ (b : Bool). cond b (mended new c ∷ new) new) t, kind)
+    is_mended : (is_a Pre c || defines false (stage past) (kind_of_command c)) ≡ false → stays (is_in list) past c ≡ true → IsMended (kind_of_command c) → Becomes past c Fate.Mended
+    is_mended o t kind = (ap (λ (b : Bool). cond b (c ∷ opening past) (opening past)) o, ap (λ (b : Bool). cond b (mended new c ∷ new) new) t, kind)
 
-    is-copied : (is_a Pre c || defines false (stage past) (kind_of_command c)) ≡ false → stays (is_in list) past c ≡ true
+    is_copied : (is_a Pre c || defines false (stage past) (kind_of_command c)) ≡ false → stays (is_in list) past c ≡ true
         → is_a Bop c ≡ false → is_a Post c ≡ false → is_a PostPost c ≡ false → Becomes past c Fate.Copied
-    is-copied o t bop post end =
+    is_copied o t bop post end =
         let same : mended new c ≡ c = rw (bop, post, end) refl in (
           ap (λ (b : Bool). cond b (c ∷ opening past) (opening past)) o,
           ap (λ (b : Bool). cond b (mended new c ∷ new) new) t ∙ ap (λ (d : Command). d ∷ new) same,
@@ -81,57 +81,57 @@ module _ (first : List Command) (list : List ℕ) where
         here : (spot_after list (kind_of_command c) p).here ≡ is_in list (pages past)
         here = rw (bop, post) (still (is (kind_of_command c) Eop) ∙ s.here_is)
 
-        at-fate : (define chosen : Bool) → is (kind_of_command c) Define ≡ define → is_in list (pages past) ≡ chosen
+        at_fate : (define chosen : Bool) → is (kind_of_command c) Define ≡ define → is_in list (pages past) ≡ chosen
             → fate ≡ cond define Fate.Opening (cond chosen Fate.Copied Fate.Dropped)
-        at-fate define chosen d h = rw (here, h, bop, post, end, pre, d, late, on) refl
+        at_fate define chosen d h = rw (here, h, bop, post, end, pre, d, late, on) refl
 
         by : (define : Bool) → is (kind_of_command c) Define ≡ define → (chosen : Bool) → is_in list (pages past) ≡ chosen → Becomes past c fate
-        by true d true h = subst (Becomes past c) (sym (at-fate true true d h)) (joins past c (rw (pre, d, at) refl) (rw (bop, at, d, h) refl))
-        by true d false h = subst (Becomes past c) (sym (at-fate true false d h)) (joins past c (rw (pre, d, at) refl) (rw (bop, at, d, h) refl))
-        by false d true h = subst (Becomes past c) (sym (at-fate false true d h)) (is-copied past c (rw (pre, d) refl) (rw (bop, at, d, h) refl) bop post end)
-        by false d false h = subst (Becomes past c) (sym (at-fate false false d h)) (goes past c (rw (pre, d) refl) (rw (bop, at, d, h) refl))
+        by true d true h = subst (Becomes past c) (sym (at_fate true true d h)) (joins past c (rw (pre, d, at) refl) (rw (bop, at, d, h) refl))
+        by true d false h = subst (Becomes past c) (sym (at_fate true false d h)) (joins past c (rw (pre, d, at) refl) (rw (bop, at, d, h) refl))
+        by false d true h = subst (Becomes past c) (sym (at_fate false true d h)) (is_copied past c (rw (pre, d) refl) (rw (bop, at, d, h) refl) bop post end)
+        by false d false h = subst (Becomes past c) (sym (at_fate false false d h)) (goes past c (rw (pre, d) refl) (rw (bop, at, d, h) refl))
 
     -- a page begins
     begun : kind_of_command c ≡ Bop → Becomes past c fate
     begun k = by (is_in list (pages past + 1)) refl
       where
-        at-fate : (chosen : Bool) → is_in list (pages past + 1) ≡ chosen → fate ≡ cond chosen Fate.Mended Fate.Dropped
-        at-fate chosen h = rw (k, next-chosen allowed s, h) refl
+        at_fate : (chosen : Bool) → is_in list (pages past + 1) ≡ chosen → fate ≡ cond chosen Fate.Mended Fate.Dropped
+        at_fate chosen h = rw (k, next_chosen_lem allowed s, h) refl
 
         by : (chosen : Bool) → is_in list (pages past + 1) ≡ chosen → Becomes past c fate
-        by true h = subst (Becomes past c) (sym (at-fate true h)) (is-mended past c (rw k refl) (rw (k, h) refl) (inl k))
-        by false h = subst (Becomes past c) (sym (at-fate false h)) (goes past c (rw k refl) (rw (k, h) refl))
+        by true h = subst (Becomes past c) (sym (at_fate true h)) (is_mended past c (rw k refl) (rw (k, h) refl) (inl k))
+        by false h = subst (Becomes past c) (sym (at_fate false h)) (goes past c (rw k refl) (rw (k, h) refl))
 
     -- the fate of a command is what becomes of it
     pub becomes : Becomes past c fate
-    becomes = by (turn_of_lem allowed)
+    becomes = by (turn_of allowed)
       where
         by : Turn (stage past) (kind_of_command c) → Becomes past c fate
         by (starts at k) =
-            let is-fate : fate ≡ Fate.Opening = rw k refl in
-            subst (Becomes past c) (sym is-fate) (joins past c (rw k refl) (rw (k, at) refl))
+            let is_fate : fate ≡ Fate.Opening = rw k refl in
+            subst (Becomes past c) (sym is_fate) (joins past c (rw k refl) (rw (k, at) refl))
         by (idles out k) =
             let off : p.on ≡ false = s.on_is ∙ out.closed in
-            let is-fate : fate ≡ Fate.Dropped = rw (k, off) refl in
-            subst (Becomes past c) (sym is-fate) (goes past c (rw k refl) (rw (k, out.closed, out.early) refl))
+            let is_fate : fate ≡ Fate.Dropped = rw (k, off) refl in
+            subst (Becomes past c) (sym is_fate) (goes past c (rw k refl) (rw (k, out.closed, out.early) refl))
         by (defines_early out k) =
             let early : p.late ≡ false = s.late_is ∙ out.early in
-            let is-fate : fate ≡ Fate.Opening = rw (k, early) refl in
-            subst (Becomes past c) (sym is-fate) (joins past c (rw (k, out.early) refl) (rw (k, out.closed, out.early) refl))
+            let is_fate : fate ≡ Fate.Opening = rw (k, early) refl in
+            subst (Becomes past c) (sym is_fate) (joins past c (rw (k, out.early) refl) (rw (k, out.closed, out.early) refl))
         by (begins out k) = begun k
         by (within at inner) = on_page at inner.no_bop inner.no_pre inner.no_post inner.no_end
         by (finishes at k) = on_page at (rw k refl) (rw k refl) (rw k refl) (rw k refl)
         by (posts at k) =
-            let is-fate : fate ≡ Fate.Mended = rw k refl in
-            subst (Becomes past c) (sym is-fate) (is-mended past c (rw k refl) (rw (k, at) refl) (inr (inl k)))
+            let is_fate : fate ≡ Fate.Mended = rw k refl in
+            subst (Becomes past c) (sym is_fate) (is_mended past c (rw k refl) (rw (k, at) refl) (inr (inl k)))
         by (idles_late at k) =
             let off : p.on ≡ false = s.on_is ∙ rw at refl in
-            let is-fate : fate ≡ Fate.Dropped = rw (k, off) refl in
-            subst (Becomes past c) (sym is-fate) (goes past c (rw k refl) (rw (k, at) refl))
+            let is_fate : fate ≡ Fate.Dropped = rw (k, off) refl in
+            subst (Becomes past c) (sym is_fate) (goes past c (rw k refl) (rw (k, at) refl))
         by (defines_again at k) =
             let late : p.late ≡ true = s.late_is ∙ rw at refl in
-            let is-fate : fate ≡ Fate.Copied = rw (k, late) refl in
-            subst (Becomes past c) (sym is-fate) (is-copied past c (rw (k, at) refl) (rw (k, at) refl) (rw k refl) (rw k refl) (rw k refl))
+            let is_fate : fate ≡ Fate.Copied = rw (k, late) refl in
+            subst (Becomes past c) (sym is_fate) (is_copied past c (rw (k, at) refl) (rw (k, at) refl) (rw k refl) (rw k refl) (rw k refl))
         by (ends at k) =
-            let is-fate : fate ≡ Fate.Mended = rw k refl in
-            subst (Becomes past c) (sym is-fate) (is-mended past c (rw k refl) (rw (k, at) refl) (inr (inr k)))
+            let is_fate : fate ≡ Fate.Mended = rw k refl in
+            subst (Becomes past c) (sym is_fate) (is_mended past c (rw k refl) (rw (k, at) refl) (inr (inr k)))

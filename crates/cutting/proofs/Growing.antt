@@ -16,7 +16,7 @@ use Rattle.list.proofs.Arms.{is_kind}
 use Rattle.volume.specs.OfList.{up_to_last}
 use Rattle.volume.proofs.Bounds.{depth_reached}
 use Rattle.cutting.specs.CutList.{opening, stays, mended, cut_after}
-use Rattle.cutting.proofs.Turning.{Turn, starts, idles, defines_early, begins, within, finishes, posts, idles_late, defines_again, turn_of_lem}
+use Rattle.cutting.proofs.Turning.{Turn, starts, idles, defines_early, begins, within, finishes, posts, idles_late, defines_again, turn_of}
 use Rattle.cutting.proofs.Turning as turning
 
 -- ---- growing
@@ -33,16 +33,16 @@ opening_grows (ends {past = past} {c = c} n w allowed last enough) = rw last (op
 opening_grows (goes {past = past} {c = c} w allowed not_last follows) = rw not_last (omega (arith, opening_more past c, opening_grows follows))
 
 module _ (first : List Command) (chosen : ℕ → Bool) where
-  cut-more : (past : List Command) (c : Command) → place (cut_after first chosen past) ≤ place (cut_after first chosen (c ∷ past))
-  cut-more past c = by (stays chosen past c)
+  cut_more : (past : List Command) (c : Command) → place (cut_after first chosen past) ≤ place (cut_after first chosen (c ∷ past))
+  cut_more past c = by (stays chosen past c)
     where
       by : (t : Bool) → place (cut_after first chosen past) ≤ place (cond t (mended (cut_after first chosen past) c ∷ cut_after first chosen past) (cut_after first chosen past))
       by true = omega arith
       by false = omega arith
 
-  pub cut-grows : {past cs : List Command} → Follows past cs → place (cut_after first chosen past) ≤ place (cut_after first chosen (up_to_last past cs))
-  cut-grows (ends {past = past} {c = c} n w allowed last enough) = rw last (cut-more past c)
-  cut-grows (goes {past = past} {c = c} w allowed not_last follows) = rw not_last (omega (arith, cut-more past c, cut-grows follows))
+  pub cut_grows : {past cs : List Command} → Follows past cs → place (cut_after first chosen past) ≤ place (cut_after first chosen (up_to_last past cs))
+  cut_grows (ends {past = past} {c = c} n w allowed last enough) = rw last (cut_more past c)
+  cut_grows (goes {past = past} {c = c} w allowed not_last follows) = rw not_last (omega (arith, cut_more past c, cut_grows follows))
 
   -- ---- from post on no deeper
 
@@ -62,9 +62,9 @@ module _ (first : List Command) (chosen : ℕ → Bool) where
       by false = refl
 
   -- a command behind post
-  late-one : (past : List Command) (c : Command) → Allowed past c → is_after_post (stage past) ≡ true
+  late_one : (past : List Command) (c : Command) → Allowed past c → is_after_post (stage past) ≡ true
       → (greatest (cut_after first chosen (c ∷ past)) ≡ greatest (cut_after first chosen past)) × (is_after_post (stage (c ∷ past)) ≡ true)
-  late-one past c allowed t = by (turn_of_lem allowed)
+  late_one past c allowed t = by (turn_of allowed)
     where
       early : is_after_post (stage past) ≡ false → (greatest (cut_after first chosen (c ∷ past)) ≡ greatest (cut_after first chosen past)) × (is_after_post (stage (c ∷ past)) ≡ true)
       early f = absurd (true≢false (sym t ∙ f))
@@ -83,17 +83,17 @@ module _ (first : List Command) (chosen : ℕ → Bool) where
       by (turning.ends at k) = (no_deeper past c (rw k refl) (rw k refl), rw k refl)
 
   -- from behind post on
-  late-greatest : {past cs : List Command} → Follows past cs → is_after_post (stage past) ≡ true
+  late_greatest : {past cs : List Command} → Follows past cs → is_after_post (stage past) ≡ true
       → greatest (cut_after first chosen (up_to_last past cs)) ≡ greatest (cut_after first chosen past)
-  late-greatest (ends {past = past} {c = c} n w allowed last enough) t = rw last (late-one past c allowed t).0
-  late-greatest (goes {past = past} {c = c} w allowed not_last follows) t =
-      let (same, still) = late-one past c allowed t in
-      rw not_last (late-greatest follows still ∙ same)
+  late_greatest (ends {past = past} {c = c} n w allowed last enough) t = rw last (late_one past c allowed t).0
+  late_greatest (goes {past = past} {c = c} w allowed not_last follows) t =
+      let (same, still) = late_one past c allowed t in
+      rw not_last (late_greatest follows still ∙ same)
 
   -- so the depth that post states is that of the commands before it
-  pub post-greatest : {past cs : List Command} (c : Command) → kind_of_command c ≡ Post → Follows (c ∷ past) cs
+  pub post_greatest : {past cs : List Command} (c : Command) → kind_of_command c ≡ Post → Follows (c ∷ past) cs
       → greatest (cut_after first chosen (up_to_last (c ∷ past) cs)) ≡ greatest (cut_after first chosen past)
-  post-greatest {past} {cs} c k follows = late-greatest follows (rw k refl) ∙ no_deeper past c (rw k refl) (rw k refl)
+  post_greatest {past} {cs} c k follows = late_greatest follows (rw k refl) ∙ no_deeper past c (rw k refl) (rw k refl)
 
 -- ---- the opening
 

@@ -12,7 +12,7 @@ use Rattle.commands.specs.declared.Kind.TheVariants.{SetCharacter, SetRule, PutC
 use Rattle.commands.specs.Kinds.{kind_of, is}
 use Rattle.commands.specs.Lengths.{fixed_length, lengths}
 use Rattle.commands.specs.Commands.{kind_of_command}
-use Rattle.commands.proofs.Ranges.{constant-on}
+use Rattle.commands.proofs.Ranges.{constant_on}
 use Rattle.list.specs.Past.{depth_after}
 use Rattle.list.specs.Steps.{command}
 use Rattle.volume.specs.Steps.{is_plain, Passes, none_more, one_more}
@@ -66,8 +66,8 @@ plain_depth : (n : ℕ) (kind : Kind) → is_plain kind ≡ true → depth_after
 plain_depth n = plain_cases (λ kind. depth_after kind n ≡ n) refl refl refl refl refl refl refl refl refl refl refl
 
 -- any command goes at most one deeper
-pub depth_after : (kind : Kind) (n : ℕ) → depth_after kind n ≤ n + 1
-depth_after kind n = by (is kind Push) (is kind Pop)
+pub depth_after_lem : (kind : Kind) (n : ℕ) → depth_after kind n ≤ n + 1
+depth_after_lem kind n = by (is kind Push) (is kind Pop)
   where
     by : (push pop : Bool) → cond push (n + 1) (cond pop (n - 1) n) ≤ n + 1
     by true pop = omega arith
@@ -85,16 +85,16 @@ short_bare opcode t = by (leb 141 opcode && ltb opcode 143) refl t
         let low = leb-true 141 opcode from in
         let high = ltb-true opcode 143 below in (
           omega arith,
-          constant-on fixed_length 0 141 2 (unfold fixed_length lengths in refl) low (omega arith),
-          constant-on (λ x. is_idle (kind_of x)) true 141 2 (unfold kind_of in refl) low (omega arith),
+          constant_on fixed_length 0 141 2 (unfold fixed_length lengths in refl) low (omega arith),
+          constant_on (λ x. is_idle (kind_of x)) true 141 2 (unfold kind_of in refl) low (omega arith),
         )
     by false _ ranged =
         let (from, below) = (and-eq-true_iff (leb 171 opcode) (ltb opcode 235)).0 ranged in
         let low = leb-true 171 opcode from in
         let high = ltb-true opcode 235 below in (
           omega arith,
-          constant-on fixed_length 0 171 64 (unfold fixed_length lengths in refl) low (omega arith),
-          constant-on (λ x. is_idle (kind_of x)) true 171 64 (unfold kind_of in refl) low (omega arith),
+          constant_on fixed_length 0 171 64 (unfold fixed_length lengths in refl) low (omega arith),
+          constant_on (λ x. is_idle (kind_of x)) true 171 64 (unfold kind_of in refl) low (omega arith),
         )
 
 -- ---- runs
@@ -107,7 +107,7 @@ runs_ahead (runs_on c rest run f t) = omega (arith, runs_ahead run)
 -- its depth is at most its place
 pub runs_shallow : {file : List ℕ} {from r : Run} → from.depth ≤ from.at → Runs file from r → r.depth ≤ r.at
 runs_shallow h runs_none = h
-runs_shallow h (runs_on {r = r} c rest run f t) = omega (arith, runs_shallow h run, depth_after (kind_of_command c) r.depth)
+runs_shallow h (runs_on {r = r} c rest run f t) = omega (arith, runs_shallow h run, depth_after_lem (kind_of_command c) r.depth)
 
 -- and at most its greatest depth
 pub runs_reached : {file : List ℕ} {from r : Run} → from.depth ≤ from.greatest → Runs file from r → r.depth ≤ r.greatest
@@ -116,21 +116,21 @@ runs_reached h (runs_on c rest run f t) = omega arith
 
 module _ {file : List ℕ} {from : Run} {depth greatest : ℕ} where
   -- over plain commands
-  pub runs-plain : {at next : ℕ} → Runs file from (run_at at depth greatest) → depth ≤ greatest → Passes file at next → Runs file from (run_at next depth greatest)
-  runs-plain run deep none_more = run
-  runs-plain run deep (one_more {at = middle} c rest passed f t) =
+  pub runs_plain : {at next : ℕ} → Runs file from (run_at at depth greatest) → depth ≤ greatest → Passes file at next → Runs file from (run_at next depth greatest)
+  runs_plain run deep none_more = run
+  runs_plain run deep (one_more {at = middle} c rest passed f t) =
       let same = plain_depth depth (kind_of_command c) t in
       let reached : max greatest depth ≡ greatest = omega arith in
       subst (Runs file from) (ap₂ (run_at (middle + (1 + length c.params))) same (ap (max greatest) same ∙ reached))
-      (runs_on c rest (runs-plain run deep passed) f (plain_idle (kind_of_command c) t))
+      (runs_on c rest (runs_plain run deep passed) f (plain_idle (kind_of_command c) t))
 
   -- over a push, a pop or a short selection
-  pub runs-short : {at : ℕ} → Runs file from (run_at at depth greatest) → at < length file → is_short (get_or file at 0) ≡ true
+  pub runs_short : {at : ℕ} → Runs file from (run_at at depth greatest) → at < length file → is_short (get_or file at 0) ≡ true
       → {kind : Kind} {after most : ℕ} → kind ≡ kind_of (get_or file at 0) → after ≡ depth_after kind depth → most ≡ max greatest after
       → Runs file from (run_at (at + 1) after most)
-  runs-short {at} run starts short kind-is after_is most-is =
+  runs_short {at} run starts short kind_is after_is most-is =
       let (below, bare, t) = short_bare (get_or file at 0) short in
-      rw (most-is, after_is, kind-is) (runs_on (command (get_or file at 0) []) (drop (at + 1) file) run (bare_ahead file at (get_or file at 0) starts refl below bare) t)
+      rw (most-is, after_is, kind_is) (runs_on (command (get_or file at 0) []) (drop (at + 1) file) run (bare_ahead file at (get_or file at 0) starts refl below bare) t)
 
 -- so too outside pages, where there is none
 pub run_ahead : (file : List ℕ) (on : Bool) (from r : Run) → RunTo file on from r → from.at ≤ r.at

@@ -59,25 +59,25 @@ post_length bytes point deep count =
 
 module _ (before : List Command) (c : Command) (w : Whole c) where
   -- how many bytes a command has that is mended
-  pub mended-size : IsMended (kind_of_command c) → 1 + length c.params ≡ mended_size (kind_of_command c)
-  mended-size (inl k) = rw k (omega (arith, whole_plain c w k refl))
-  mended-size (inr (inl k)) = rw k (omega (arith, whole_plain c w k refl))
-  mended-size (inr (inr k)) = rw k (omega (arith, whole_plain c w k refl))
+  pub mended_size_lem : IsMended (kind_of_command c) → 1 + length c.params ≡ mended_size (kind_of_command c)
+  mended_size_lem (inl k) = rw k (omega (arith, whole_plain c w k refl))
+  mended_size_lem (inr (inl k)) = rw k (omega (arith, whole_plain c w k refl))
+  mended_size_lem (inr (inr k)) = rw k (omega (arith, whole_plain c w k refl))
 
   -- its bytes
-  pub mended-form : IsMended (kind_of_command c) → post_place before < 2 ^ 32
+  pub mended_form_lem : IsMended (kind_of_command c) → post_place before < 2 ^ 32
       → form (mended before c) ≡ mended_form (kind_of_command c) (pointer before) (post_place before) (greatest before) (pages before) (form c)
-  mended-form (inl k) small = rw k (with_sets c.opcode 40 4 (pointer before) c.params (omega (arith, whole_plain c w k refl)))
-  mended-form (inr (inl k)) small = rw k (post_form c.opcode c.params (whole_plain c w k refl) (pointer before) (greatest before) (pages before))
-  mended-form (inr (inr k)) small =
+  mended_form_lem (inl k) small = rw k (with_sets c.opcode 40 4 (pointer before) c.params (omega (arith, whole_plain c w k refl)))
+  mended_form_lem (inr (inl k)) small = rw k (post_form c.opcode c.params (whole_plain c w k refl) (pointer before) (greatest before) (pages before))
+  mended_form_lem (inr (inr k)) small =
       let long = whole_plain c w k refl in
       let same : to_twos (256 ^ 4) (pos (post_place before)) ≡ post_place before = mod-eq_of_lt small in
       rw k (with_sets c.opcode 0 4 (to_twos (256 ^ 4) (pos (post_place before))) c.params (omega (arith, long)) ∙ ap (λ (n : ℕ). sets (form c) 1 (bytes_of 4 n)) same)
 
   -- it is as long as it was
-  pub mended-length : IsMended (kind_of_command c) → length (mended before c).params ≡ length c.params
-  mended-length (inl k) = rw k (with_length 40 4 (pointer before) c.params (omega (arith, whole_plain c w k refl)))
-  mended-length (inr (inl k)) =
+  pub mended_length : IsMended (kind_of_command c) → length (mended before c).params ≡ length c.params
+  mended_length (inl k) = rw k (with_length 40 4 (pointer before) c.params (omega (arith, whole_plain c w k refl)))
+  mended_length (inr (inl k)) =
       let long = whole_plain c w k refl in
       rw k (omega (arith, ap length (post_form c.opcode c.params long (pointer before) (greatest before) (pages before)), post_length (form c) (pointer before) (greatest before) (pages before)))
-  mended-length (inr (inr k)) = rw k (with_length 0 4 (to_twos (256 ^ 4) (pos (post_place before))) c.params (omega (arith, whole_plain c w k refl)))
+  mended_length (inr (inr k)) = rw k (with_length 0 4 (to_twos (256 ^ 4) (pos (post_place before))) c.params (omega (arith, whole_plain c w k refl)))

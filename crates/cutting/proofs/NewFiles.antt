@@ -52,29 +52,29 @@ module _ (file list : List ℕ) where
   abbrev tail : List ℕ
   tail = take (fillers_at (place new)) (replicate 7 223)
 
-  tail-length : length tail ≡ fillers_at (place new)
-  tail-length = length-take-le (fillers_at (place new)) (replicate 7 223) (fillers_few (place new))
+  tail_length : length tail ≡ fillers_at (place new)
+  tail_length = length-take-le (fillers_at (place new)) (replicate 7 223) (fillers_few (place new))
 
   file_is : cut_file file list ≡ forms_of new ++ tail
   file_is = written_onto new (fillers (fillers_at (place new))) ∙ ap (λ (l : List ℕ). forms_of new ++ l) (fillers_front (fillers_at (place new)) 7 (fillers_few (place new)))
 
-  pub file-length : length (cut_file file list) ≡ place new + fillers_at (place new)
-  file-length = ap length file_is ∙ length-append (forms_of new) tail ∙ omega (arith, forms_length new, tail-length)
+  pub file_length : length (cut_file file list) ≡ place new + fillers_at (place new)
+  file_length = ap length file_is ∙ length-append (forms_of new) tail ∙ omega (arith, forms_length new, tail_length)
 
   -- where the area has no room
   pub cut_short : (room : ℕ) → room < place new + fillers_at (place new) → cut_accepted file list room ≡ refused area_too_short 0
-  cut_short room h = rw (lt-ltb room (length (cut_file file list)) (omega (arith, file-length))) refl
+  cut_short room h = rw (lt-ltb room (length (cut_file file list)) (omega (arith, file_length))) refl
 
   -- where it has
   pub cut_given : (room : ℕ) → place new + fillers_at (place new) ≤ room → cut_accepted file list room ≡ given (cut_file file list)
-  cut_given room h = rw (le-ltb room (length (cut_file file list)) (omega (arith, file-length))) refl
+  cut_given room h = rw (le-ltb room (length (cut_file file list)) (omega (arith, file_length))) refl
 
   -- the list and its 223s, written one behind the other
-  pub area-filled : (entry : List ℕ) → place new + fillers_at (place new) ≤ length entry
+  pub area_filled : (entry : List ℕ) → place new + fillers_at (place new) ≤ length entry
       → sets (sets entry 0 (forms_of new)) (place new) tail ≡ cut_area entry (given (cut_file file list))
-  area-filled entry fits =
+  area_filled entry fits =
       let start : place new ≡ 0 + length (forms_of new) = omega (arith, forms_length new) in
-      let long : length (forms_of new ++ tail) ≡ place new + fillers_at (place new) = sym (ap length file_is) ∙ file-length in
+      let long : length (forms_of new ++ tail) ≡ place new + fillers_at (place new) = sym (ap length file_is) ∙ file_length in
       let none_before : 0 + length (forms_of new ++ tail) ≡ length (forms_of new ++ tail) = omega arith in
       ap (λ (n : ℕ). sets (sets entry 0 (forms_of new)) n tail) start
       ∙ sets_behind entry 0 (forms_of new) tail
@@ -86,13 +86,13 @@ module _ (file list : List ℕ) where
 
 module _ (file list : List ℕ) (room : ℕ) where
   -- the file is refused
-  pub cut-refused : (number at : ℕ) → judged file ≡ refused number at → cut_pages file list room ≡ refused number at
-  cut-refused number at e = rw e refl
+  pub cut_refused : (number at : ℕ) → judged file ≡ refused number at → cut_pages file list room ≡ refused number at
+  cut_refused number at e = rw e refl
 
   module _ (s : Summary) (accepted : judged file ≡ given s) where
     -- the list is wrong
-    pub cut-wrong : wrong_list s.pages list ≡ true → cut_pages file list room ≡ refused wrong_pages 0
-    cut-wrong wrong = rw (accepted, wrong) refl
+    pub cut_wrong : wrong_list s.pages list ≡ true → cut_pages file list room ≡ refused wrong_pages 0
+    cut_wrong wrong = rw (accepted, wrong) refl
 
     -- neither is
     pub cut_right : wrong_list s.pages list ≡ false → cut_pages file list room ≡ cut_accepted file list room

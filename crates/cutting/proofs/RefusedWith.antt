@@ -8,11 +8,11 @@ use lib.Dec.{ltb}
 use lib.ListN.{length, drop, length-append}
 use Rattle.refusals.specs.Numbers.{area_too_short, wrong_pages}
 use Rattle.refusals.specs.Answer.{Answer, refused, given}
-use Rattle.refusals.proofs.Answer.{given-same}
+use Rattle.refusals.proofs.Answer.{given_same}
 use Rattle.refusals.specs.RefusedOnly.{RefusedOnly, FileRefusal, CutRefusal}
-use Rattle.refusals.proofs.RefusedOnly.{if-only, then-only, only_wider}
+use Rattle.refusals.proofs.RefusedOnly.{if_only, then_only, only_wider}
 use Rattle.volume.specs.Judged.{judged}
-use Rattle.volume.proofs.RefusedWith.{file-refused-with}
+use Rattle.volume.proofs.RefusedWith.{file_refused_with}
 use Rattle.cutting.specs.Chosen.{wrong_list}
 use Rattle.cutting.specs.CutFile.{cut_file, cut_accepted, cut_pages, bytes_cut, cut_area}
 
@@ -20,10 +20,10 @@ use Rattle.cutting.specs.CutFile.{cut_file, cut_accepted, cut_pages, bytes_cut, 
 pub cut_refused_with : (file list : List ℕ) (room : ℕ) → RefusedOnly (CutRefusal file) (bytes_cut (cut_pages file list room))
 cut_refused_with file list room =
     let May = CutRefusal file in
-    then-only May (cut_pages file list room) (λ bytes. given (length bytes))
-    (then-only May (judged file) _ (only_wider (FileRefusal file) May (judged file) (λ number place may. inl may) (file-refused-with file)) (λ found.
-    if-only May (wrong_list found.pages list) wrong_pages 0 (cut_accepted file list room) (inr (inl refl, refl))
-    (if-only May (ltb room (length (cut_file file list))) area_too_short 0 (given (cut_file file list)) (inr (inr refl, refl)) tt)))
+    then_only May (cut_pages file list room) (λ bytes. given (length bytes))
+    (then_only May (judged file) _ (only_wider (FileRefusal file) May (judged file) (λ number place may. inl may) (file_refused_with file)) (λ found.
+    if_only May (wrong_list found.pages list) wrong_pages 0 (cut_accepted file list room) (inr (inl refl, refl))
+    (if_only May (ltb room (length (cut_file file list))) area_too_short 0 (given (cut_file file list)) (inr (inr refl, refl)) tt)))
     (λ bytes. tt)
 
 -- a refused call leaves the area
@@ -36,4 +36,4 @@ pub cut_within : (answer : Answer (List ℕ)) (bytes : ℕ) (entry exit : List �
     → bytes ≤ length entry
 cut_within (refused number place) bytes entry exit said area same = absurd (let z : ◌≡◌ {A = ℕ} 0 1 = cc in omega arith)
 cut_within (given made) bytes entry exit said area same =
-    omega (arith, given-same bytes (length made) said, same, ap length area, length-append made (drop (length made) entry))
+    omega (arith, given_same bytes (length made) said, same, ap length area, length-append made (drop (length made) entry))

@@ -39,8 +39,8 @@ module _ (last : ℕ) (list : List ℕ) where
     ahead = j ∙ ap (rises_from before last) (drop-cons list index 0 there)
 
     -- a number that is not above the one before
-    pub not-rising : get_or list index 0 ≤ before → false ≡ not (wrong_list last list)
-    not-rising h =
+    pub not_rising : get_or list index 0 ≤ before → false ≡ not (wrong_list last list)
+    not_rising h =
         let falls : rises_from 0 last list ≡ false = ahead ∙ rw (le-ltb before (get_or list index 0) h) in
         rw (some_left index there, falls)
 
@@ -51,12 +51,12 @@ module _ (last : ℕ) (list : List ℕ) where
         rw (some_left index there, absent)
 
     -- one that is right
-    pub judged-on : before < get_or list index 0 → get_or list index 0 ≤ last → Judging (get_or list index 0) (suc index)
-    judged-on low high = ahead ∙ rw (lt-ltb before (get_or list index 0) low, le-leb (get_or list index 0) last high)
+    pub judged_on : before < get_or list index 0 → get_or list index 0 ≤ last → Judging (get_or list index 0) (suc index)
+    judged_on low high = ahead ∙ rw (lt-ltb before (get_or list index 0) low, le-leb (get_or list index 0) last high)
 
   -- at the list's end
-  pub judged-all : (before index : ℕ) → Judging before index → length list ≤ index → ltb 0 (length list) ≡ not (wrong_list last list)
-  judged-all before index j over =
+  pub judged_all : (before index : ℕ) → Judging before index → length list ≤ index → ltb 0 (length list) ≡ not (wrong_list last list)
+  judged_all before index j over =
       let rises : rises_from 0 last list ≡ true = j ∙ ap (rises_from before last) (gone list index over) in
       rw rises (by list)
     where
@@ -131,8 +131,8 @@ module _ (list : List ℕ) (page met : ℕ) (a : Ahead list page met) where
     in_left other h = a.later other h ∙ ap (λ (l : List ℕ). is_in l other) left
 
     -- it is the next page
-    is-next : p ≡ page + 1 → Next
-    is-next same =
+    is_next : p ≡ page + 1 → Next
+    is_next same =
         let yes : next_chosen list met page ≡ true = chosen ∙ eq-eqb p (page + 1) same in
         let one : met + 1 ≡ suc met = omega arith in
         record {
@@ -154,19 +154,19 @@ module _ (list : List ℕ) (page met : ℕ) (a : Ahead list page met) where
               no-next ∙ sym (in_left (page + 1) (omega arith) ∙ rw (ne_eqb p (page + 1) (λ e. omega arith)) (not_below p a.last rest above.1 (page + 1) (omega arith)));
           goes_on = rw no-next (record {
             last = a.last;
-            rising = ap (rises_from (page + 1) a.last) left ∙ rw (lt-ltb (page + 1) p far, in-range) above.1;
+            rising = ap (rises_from (page + 1) a.last) left ∙ rw (lt-ltb (page + 1) p far, in_range) above.1;
             later = λ other h. a.later other (omega arith);
             few = omega (arith, a.few);
           });
         }
       where
-        in-range : leb p a.last ≡ true
-        in-range =
+        in_range : leb p a.last ≡ true
+        in_range =
             let whole : rises_from page a.last (p ∷ rest) ≡ true = ap (rises_from page a.last) (sym left) ∙ a.rising in
             ((and-eq-true_iff (leb p a.last) _).0 ((and-eq-true_iff (ltb page p) _).0 whole).1).0
 
   -- the next page
-  pub next-page : Next
-  next-page =
-      ⊎_elim (λ there. ⊎_elim (is_later there) (λ near. is-next there (omega (arith, (above there).0))) (less_or_not (page + 1) (get_or list met 0)))
+  pub next_page : Next
+  next_page =
+      ⊎_elim (λ there. ⊎_elim (is_later there) (λ near. is_next there (omega (arith, (above there).0))) (less_or_not (page + 1) (get_or list met 0)))
       (λ over. at_end over (gone list met over)) (less_or_not met (length list))

@@ -12,8 +12,8 @@ use Rattle.volume.proofs.Bounds.{pages_small}
 use Rattle.cutting.specs.declared.Spot.{Spot}
 use Rattle.cutting.specs.Chosen.{is_in, rises_from}
 use Rattle.cutting.specs.Steps.{next_chosen, at_start, spot_after}
-use Rattle.cutting.proofs.Turning.{Turn, starts, idles, defines_early, begins, within, finishes, posts, idles_late, defines_again, ends, turn_of_lem}
-use Rattle.cutting.proofs.Rising.{Ahead, none_met, not_below, next-page}
+use Rattle.cutting.proofs.Turning.{Turn, starts, idles, defines_early, begins, within, finishes, posts, idles_late, defines_again, ends, turn_of}
+use Rattle.cutting.proofs.Rising.{Ahead, none_met, not_below, next_page}
 
 -- a spot stands for the commands so far
 pub record Stands (list : List ℕ) (past : List Command) (p : Spot) : Type 0 where
@@ -30,8 +30,8 @@ stands_first last list rising =
 
 module _ {list : List ℕ} {past : List Command} {c : Command} {p : Spot} (allowed : Allowed past c) (s : Stands list past p) where
   -- whether the page that a bop begins is chosen
-  pub next-chosen : next_chosen list p.met p.pages ≡ is_in list (pages past + 1)
-  next-chosen = ap (next_chosen list p.met) s.pages_is ∙ (next-page list (pages past) p.met s.ahead).chosen_is
+  pub next_chosen_lem : next_chosen list p.met p.pages ≡ is_in list (pages past + 1)
+  next_chosen_lem = ap (next_chosen list p.met) s.pages_is ∙ (next_page list (pages past) p.met s.ahead).chosen_is
 
   -- a command that changes neither stage nor page
   stays_put : stage (c ∷ past) ≡ stage past → pages (c ∷ past) ≡ pages past → spot_after list (kind_of_command c) p ≡ p
@@ -47,7 +47,7 @@ module _ {list : List ℕ} {past : List Command} {c : Command} {p : Spot} (allow
 
   -- one more command, but for post_post
   pub stands_on : is_a PostPost c ≡ false → Stands list (c ∷ past) (spot_after list (kind_of_command c) p)
-  stands_on not_last = by (turn_of_lem allowed)
+  stands_on not_last = by (turn_of allowed)
     where
       by : Turn (stage past) (kind_of_command c) → Stands list (c ∷ past) (spot_after list (kind_of_command c) p)
       by (starts at k) =
@@ -61,11 +61,11 @@ module _ {list : List ℕ} {past : List Command} {c : Command} {p : Spot} (allow
       by (idles out k) = stays_put (rw k refl) (rw k refl) (rw k refl)
       by (defines_early out k) = stays_put (rw k refl) (rw k refl) (rw k refl)
       by (begins out k) =
-          let next = next-page list (pages past) p.met s.ahead in
+          let next = next_page list (pages past) p.met s.ahead in
           rw k (record {
             pages_is = rw k (ap (λ (n : ℕ). n + 1) s.pages_is);
             on_is = rw k refl;
-            here_is = rw k next-chosen;
+            here_is = rw k next_chosen_lem;
             late_is = rw k (s.late_is ∙ out.early);
             ahead = rw (k, s.pages_is) next.goes_on;
           })

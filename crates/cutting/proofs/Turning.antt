@@ -78,6 +78,6 @@ turn_at AfterPost k first e =
 turn_at AfterEnd k first e = absurd (true≢false (sym e))
 
 -- so it is of a command that keeps the rules
-pub turn_of_lem : {past : List Command} {c : Command} → Allowed past c → Turn (stage past) (kind_of_command c)
-turn_of_lem {past} {c} allowed =
+pub turn_of : {past : List Command} {c : Command} → Allowed past c → Turn (stage past) (kind_of_command c)
+turn_of {past} {c} allowed =
     turn_at (stage past) (kind_of_command c) (λ t. (first_pre past c allowed t).0) (not-false (may_stand (stage past) (kind_of_command c)) allowed.standing)

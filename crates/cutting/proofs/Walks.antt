@@ -47,8 +47,8 @@ module _ {file : List ℕ} {at : ℕ} {past : List Command} (w : Walk file at pa
   ahead c cs good same = ap front (w.left ∙ ap written same) ∙ front_written c (written cs) good
 
   -- so reading there is not refused
-  pub never-refused : (number there : ℕ) → read_at file at ≡ refused number there → ⊥
-  never-refused number there e = by w.follows refl
+  pub never_refused : (number there : ℕ) → read_at file at ≡ refused number there → ⊥
+  never_refused number there e = by w.follows refl
     where
       clash : (c : Command) (cs : List Command) → Whole c → w.rest ≡ c ∷ cs → ⊥
       clash c cs good same = let f = ahead c cs good same in let z : ◌≡◌ {A = ℕ} 0 1 = cc in omega arith

@@ -1,6 +1,4 @@
 // Chosen pages of a file, written as a file of their own.
-#![tactic(auto)]
-
 use refusals::Refusal;
 
 pub mod choosing;
@@ -11,7 +9,7 @@ pub mod writing;
 
 // Where a walk over the commands stands: how many pages have begun, how many of them are chosen, whether it is on a page, whether the last page that began is chosen, whether
 // post has passed
-#[derive(Clone, Copy)]
+#[derive(Drop)]
 pub struct Spot {
     pub pages: usize,
     pub met: usize,
@@ -21,7 +19,7 @@ pub struct Spot {
 }
 
 // Where a run over commands stands: its place, and the depth and the greatest depth there
-#[derive(Clone, Copy)]
+#[derive(Drop)]
 pub struct Run {
     pub at: usize,
     pub depth: usize,
@@ -29,7 +27,7 @@ pub struct Run {
 }
 
 // What becomes of a command
-#[derive(Clone, Copy)]
+#[derive(Drop)]
 pub enum Fate {
     // it goes before all pages
     Opening,
@@ -42,7 +40,7 @@ pub enum Fate {
 }
 
 // What the new list has of the commands so far: bytes of its opening, bytes of the others, its depth and its greatest depth
-#[derive(Clone, Copy)]
+#[derive(Drop)]
 pub struct Counted {
     pub opened: usize,
     pub kept: usize,
@@ -51,7 +49,7 @@ pub struct Counted {
 }
 
 // What was written of the commands so far: where the bytes begin that are still to be copied, where the opening goes on, where the others go on; the pointer to the last bop, as four bytes hold it, and the place of post
-#[derive(Clone, Copy)]
+#[derive(Drop)]
 pub struct Made {
     pub from: usize,
     pub opened: usize,
@@ -61,7 +59,7 @@ pub struct Made {
 }
 
 // How many bytes the new file has, or a refusal
-#[derive(Clone, Copy)]
+#[derive(Drop)]
 pub enum Cut {
     Bytes(usize),
     Refused(Refusal),

@@ -4,7 +4,7 @@ use filling::forms_asked::Form;
 use filling::{cuts_asked, fonts_asked, forms_asked, pages_asked};
 use telling::{files_asked, numbers_asked, tables_asked};
 
-#[derive(Clone, Copy)]
+#[derive(Drop)]
 enum Question {
     Read,
     Check,

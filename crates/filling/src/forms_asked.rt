@@ -7,7 +7,7 @@ use converting::old;
 use reader::TableMade;
 use widths::table;
 
-#[derive(Clone, Copy)]
+#[derive(Drop)]
 pub enum Form {
     New,
     Old,

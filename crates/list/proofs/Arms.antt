@@ -48,14 +48,14 @@ module _ {E : Type 0} (tag : E → ℕ) where
       at_other ys true h later o = later o
       at_other ys false h later o = at_first ys h later o
 
-    on-these : (ys : List E) → map f ys ≡ map g ys → OneOf (map tag ys) (tag x) → f x ≡ g x
-    on-these [] e o = absurd o
-    on-these (y ∷ ys) e o = at_first y ys (cc) (on-these ys (cc)) o
+    on_these : (ys : List E) → map f ys ≡ map g ys → OneOf (map tag ys) (tag x) → f x ≡ g x
+    on_these [] e o = absurd o
+    on_these (y ∷ ys) e o = at_first y ys (cc) (on_these ys (cc)) o
 
     -- f and g agree on a list without these if g agrees with what is g at these and f at the others
-    on-others : (ys xs : List E) → map (λ z. cond (among ys z) (g z) (f z)) xs ≡ map g xs → OneOf (map tag (without ys xs)) (tag x) → f x ≡ g x
-    on-others ys [] e o = absurd o
-    on-others ys (y ∷ xs) e o = at_other y (without ys xs) (among ys y) (cc) (on-others ys xs (cc)) o
+    on_others : (ys xs : List E) → map (λ z. cond (among ys z) (g z) (f z)) xs ≡ map g xs → OneOf (map tag (without ys xs)) (tag x) → f x ≡ g x
+    on_others ys [] e o = absurd o
+    on_others ys (y ∷ xs) e o = at_other y (without ys xs) (among ys y) (cc) (on_others ys xs (cc)) o
 
 -- ---- of a kind
 
@@ -108,12 +108,12 @@ is_kind k other e = sym (kind_first k) ∙ ap kind_of (eqb-true (first_opcode k)
 -- an arm of these kinds
 pub kind_arm : {A : Type 0} (f g : Kind → A) (ks : List Kind) → map f ks ≡ map g ks
     → (k : Kind) → OneOf (map (tag_of kind-type) ks) (tag_of kind-type k) → f k ≡ g k
-kind_arm f g ks e k o = on-these (tag_of kind-type) same_kind f g k ks e o
+kind_arm f g ks e k o = on_these (tag_of kind-type) same_kind f g k ks e o
 
 -- the arm of all kinds but these
 pub kind_others : {A : Type 0} (f g : Kind → A) (ks : List Kind) → map (λ k. cond (among (tag_of kind-type) ks k) (g k) (f k)) kinds ≡ map g kinds
     → (k : Kind) → OneOf (map (tag_of kind-type) (without (tag_of kind-type) ks kinds)) (tag_of kind-type k) → f k ≡ g k
-kind_others f g ks e k o = on-others (tag_of kind-type) same_kind f g k ks kinds e o
+kind_others f g ks e k o = on_others (tag_of kind-type) same_kind f g k ks kinds e o
 
 -- ---- of a stage
 
@@ -134,9 +134,9 @@ same_stage x y e = sym (stage_back x) ∙ ap (λ (t : ℕ). get_or stages t Afte
 -- an arm of these stages
 pub stage_arm : {A : Type 0} (f g : Stage → A) (ss : List Stage) → map f ss ≡ map g ss
     → (s : Stage) → OneOf (map (tag_of stage-type) ss) (tag_of stage-type s) → f s ≡ g s
-stage_arm f g ss e s o = on-these (tag_of stage-type) same_stage f g s ss e o
+stage_arm f g ss e s o = on_these (tag_of stage-type) same_stage f g s ss e o
 
 -- the arm of all stages but these
 pub stage_others : {A : Type 0} (f g : Stage → A) (ss : List Stage) → map (λ s. cond (among (tag_of stage-type) ss s) (g s) (f s)) stages ≡ map g stages
     → (s : Stage) → OneOf (map (tag_of stage-type) (without (tag_of stage-type) ss stages)) (tag_of stage-type s) → f s ≡ g s
-stage_others f g ss e s o = on-others (tag_of stage-type) same_stage f g s ss stages e o
+stage_others f g ss e s o = on_others (tag_of stage-type) same_stage f g s ss stages e o

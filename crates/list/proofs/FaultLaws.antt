@@ -70,45 +70,45 @@ not_broken false number later h e = (refl, e)
 
 module _ (past : List Command) (c : Command) where
   module _ (start : is_at_start (stage past) ≡ true) where
-    fault-first : (t : Bool) → is_a Pre c ≡ t → fault past c ≡ first_fault (kind_of_command c) c.params
-    fault-first true e = rw (only_start (stage past) start, is_kind (kind_of_command c) Pre e) (cond_not (lawful_preamble c.params) wrong_preamble 0)
-    fault-first false e = rw (start, e)
+    fault_first : (t : Bool) → is_a Pre c ≡ t → fault past c ≡ first_fault (kind_of_command c) c.params
+    fault_first true e = rw (only_start (stage past) start, is_kind (kind_of_command c) Pre e) (cond_not (lawful_preamble c.params) wrong_preamble 0)
+    fault_first false e = rw (start, e)
 
-    pub fault-at-start : fault past c ≡ first_fault (kind_of_command c) c.params
-    fault-at-start = fault-first (is_a Pre c) refl
+    pub fault_at_start : fault past c ≡ first_fault (kind_of_command c) c.params
+    fault_at_start = fault_first (is_a Pre c) refl
 
   module _ (begun : is_at_start (stage past) ≡ false) where
-    pub fault-later : (page : ℕ) (k : Kind) → kind_of_command c ≡ k → fault past c ≡ standing_or (stage past) k (later_fault (volume_of page past) past c k)
-    fault-later page SetCharacter e = rw (begun, e)
-    fault-later page SetRule e = rw (begun, e)
-    fault-later page PutCharacter e = rw (begun, e)
-    fault-later page PutRule e = rw (begun, e)
-    fault-later page Nop e = rw (begun, e)
-    fault-later page Bop e = rw (begun, e) (simp or-false)
-    fault-later page Eop e = rw (begun, e)
-    fault-later page Push e = rw (begun, e)
-    fault-later page Pop e = rw (begun, e)
-    fault-later page Right e = rw (begun, e)
-    fault-later page W e = rw (begun, e)
-    fault-later page X e = rw (begun, e)
-    fault-later page Down e = rw (begun, e)
-    fault-later page Y e = rw (begun, e)
-    fault-later page Z e = rw (begun, e)
-    fault-later page Select e = rw (begun, e) (simp or-false)
-    fault-later page Special e = rw (begun, e)
-    fault-later page Define e = rw (begun, e) (simp or-false)
-    fault-later page Pre e = rw (begun, e)
-    fault-later page Post e = rw (begun, e) (simp or-false)
-    fault-later page PostPost e = rw (begun, e)
-    fault-later page Undefined e = rw (begun, e)
+    pub fault_later : (page : ℕ) (k : Kind) → kind_of_command c ≡ k → fault past c ≡ standing_or (stage past) k (later_fault (volume_of page past) past c k)
+    fault_later page SetCharacter e = rw (begun, e)
+    fault_later page SetRule e = rw (begun, e)
+    fault_later page PutCharacter e = rw (begun, e)
+    fault_later page PutRule e = rw (begun, e)
+    fault_later page Nop e = rw (begun, e)
+    fault_later page Bop e = rw (begun, e) (simp or-false)
+    fault_later page Eop e = rw (begun, e)
+    fault_later page Push e = rw (begun, e)
+    fault_later page Pop e = rw (begun, e)
+    fault_later page Right e = rw (begun, e)
+    fault_later page W e = rw (begun, e)
+    fault_later page X e = rw (begun, e)
+    fault_later page Down e = rw (begun, e)
+    fault_later page Y e = rw (begun, e)
+    fault_later page Z e = rw (begun, e)
+    fault_later page Select e = rw (begun, e) (simp or-false)
+    fault_later page Special e = rw (begun, e)
+    fault_later page Define e = rw (begun, e) (simp or-false)
+    fault_later page Pre e = rw (begun, e)
+    fault_later page Post e = rw (begun, e) (simp or-false)
+    fault_later page PostPost e = rw (begun, e)
+    fault_later page Undefined e = rw (begun, e)
 
   -- ---- every rule kept
 
-  pub none-broken : Allowed past c → fault past c ≡ 0
-  none-broken a = rw (a.preamble, a.standing, a.depth_right, a.definition, a.font, a.pointer, a.postamble)
+  pub none_broken : Allowed past c → fault past c ≡ 0
+  none_broken a = rw (a.preamble, a.standing, a.depth_right, a.definition, a.font, a.pointer, a.postamble)
 
-  pub all-kept : fault past c ≡ 0 → Allowed past c
-  all-kept e =
+  pub all_kept : fault past c ≡ 0 → Allowed past c
+  all_kept e =
       let four : _ = not_broken (preamble_wrong past c) wrong_preamble _ (omega arith) e in
       let five : _ = not_broken (misplaced past c) misplaced_command _ (omega arith) four.1 in
       let six : _ = not_broken (depth_wrong past c) wrong_depth _ (omega arith) five.1 in
@@ -128,15 +128,15 @@ module _ (past : List Command) (c : Command) where
 
 -- ---- where the code holds v of the commands so far
 
-module _ (page : ℕ) (past : List Command) {v : Volume} (held : v ≡ volume_of page past) {kind : Kind} (opcode : ℕ) (kind-is : kind ≡ kind_of opcode) (params : List ℕ) where
+module _ (page : ℕ) (past : List Command) {v : Volume} (held : v ≡ volume_of page past) {kind : Kind} (opcode : ℕ) (kind_is : kind ≡ kind_of opcode) (params : List ℕ) where
   module _ {starts : Bool} (starts_is : starts ≡ is_at_start v.stage) where
     start_of : is_at_start (stage past) ≡ starts
     start_of = sym (starts_is ∙ ap (λ (w : Volume). is_at_start w.stage) held)
 
-    pub held-at-start : starts ≡ true → fault past (command opcode params) ≡ first_fault kind params
-    held-at-start start = fault-at-start past (command opcode params) (start_of ∙ start) ∙ ap (λ (k : Kind). first_fault k params) (sym kind-is)
+    pub held_at_start : starts ≡ true → fault past (command opcode params) ≡ first_fault kind params
+    held_at_start start = fault_at_start past (command opcode params) (start_of ∙ start) ∙ ap (λ (k : Kind). first_fault k params) (sym kind_is)
 
-    pub held-later : starts ≡ false → fault past (command opcode params) ≡ standing_or v.stage kind (later_fault v past (command opcode params) kind)
-    held-later begun =
-        fault-later past (command opcode params) (start_of ∙ begun) page kind (sym kind-is)
+    pub held_later : starts ≡ false → fault past (command opcode params) ≡ standing_or v.stage kind (later_fault v past (command opcode params) kind)
+    held_later begun =
+        fault_later past (command opcode params) (start_of ∙ begun) page kind (sym kind_is)
         ∙ ap (λ (w : Volume). standing_or w.stage kind (later_fault w past (command opcode params) kind)) (sym held)

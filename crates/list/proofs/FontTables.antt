@@ -56,36 +56,36 @@ entry_defined none = refl
 entry_defined (stands at c) = rw (ne_eqb (at + 1) 0 (λ e. absurd (omega arith)))
 
 module _ {after : Bool} {table : List ℕ} {past : List Command} (tells : Tells after table past) (number : ℤ) (lawful : lawful_font number ≡ true) where
-  pub told-entry : get_or table (nat_abs number) 0 ≡ entry_of (definition_of after number past)
-  told-entry =
+  pub told_entry : get_or table (nat_abs number) 0 ≡ entry_of (definition_of after number past)
+  told_entry =
       let (sign, small, same) = lawful_in number lawful in
       tells.entry (nat_abs number) small ∙ ap (λ (n : ℤ). entry_of (definition_of after n past)) same
 
-  pub told-defined : not (eqb (get_or table (nat_abs number) 0) 0) ≡ is_defined (definition_of after number past)
-  told-defined = rw told-entry (entry_defined (definition_of after number past))
+  pub told_defined : not (eqb (get_or table (nat_abs number) 0) 0) ≡ is_defined (definition_of after number past)
+  told_defined = rw told_entry (entry_defined (definition_of after number past))
 
   module _ {entry : ℕ} (entry-is : entry ≡ get_or table (nat_abs number) 0) where
-    pub told-yes : (entry ≡ 0 → ⊥) → is_defined (definition_of after number past) ≡ true
-    told-yes some = sym told-defined ∙ (let e : eqb (get_or table (nat_abs number) 0) 0 ≡ false = ne_eqb _ 0 (λ z. some (entry-is ∙ z)) in rw e)
+    pub told_yes : (entry ≡ 0 → ⊥) → is_defined (definition_of after number past) ≡ true
+    told_yes some = sym told_defined ∙ (let e : eqb (get_or table (nat_abs number) 0) 0 ≡ false = ne_eqb _ 0 (λ z. some (entry-is ∙ z)) in rw e)
 
     pub told_none : entry ≡ 0 → definition_of after number past ≡ none
     told_none no_entry = go (definition_of after number past) refl
       where
         go : (d : Definition) → definition_of after number past ≡ d → d ≡ none
         go none e = refl
-        go (stands at c) e = absurd (omega (arith, told-entry ∙ ap entry_of e, entry-is))
+        go (stands at c) e = absurd (omega (arith, told_entry ∙ ap entry_of e, entry-is))
 
     -- what is read where the entry points is the definition that stands there
-    pub told-says : (file : List ℕ) → ((n : ℕ) → StandsIn file (definition_of after (pos n) past)) → (entry ≡ 0 → ⊥)
+    pub told_says : (file : List ℕ) → ((n : ℕ) → StandsIn file (definition_of after (pos n) past)) → (entry ≡ 0 → ⊥)
         → (said : List ℕ) (r : Bool) → SayingIs file (entry - 1) said r → r ≡ says (definition_of after number past) said
-    told-says file standing some said r saying = go (definition_of after number past) refl
+    told_says file standing some said r saying = go (definition_of after number past) refl
       where
         go : (d : Definition) → definition_of after number past ≡ d → r ≡ says d said
-        go none e = absurd (some (entry-is ∙ told-entry ∙ ap entry_of e))
+        go none e = absurd (some (entry-is ∙ told_entry ∙ ap entry_of e))
         go (stands at c) e =
             let (sign, small, same) = lawful_in number lawful in
             let (rest, ahead) = subst (λ (d : Definition). StandsIn file d) (ap (λ (n : ℤ). definition_of after n past) same ∙ e) (standing (nat_abs number)) in
-            let points : entry - 1 ≡ at = omega (arith, entry-is, told-entry ∙ ap entry_of e) in
+            let points : entry - 1 ≡ at = omega (arith, entry-is, told_entry ∙ ap entry_of e) in
             saying c rest (rw points ahead) (definition_kind after number past e)
 
 -- ---- a definition against the rules, test by test
@@ -98,35 +98,35 @@ in_turn past number said =
     (not (is_defined (definition_of false number past)) && ltb (font_count false past) most_fonts)
 
 module _ (past : List Command) (opcode : ℕ) (params : List ℕ) where
-  pub wrong-number : lawful_font (defined_font opcode params) ≡ false → false ≡ lawful_definition past (command opcode params)
-  wrong-number e = rw e
+  pub wrong_number : lawful_font (defined_font opcode params) ≡ false → false ≡ lawful_definition past (command opcode params)
+  wrong_number e = rw e
 
   module _ (number-lawful : lawful_font (defined_font opcode params) ≡ true) where
-    pub wrong-scale : lawful_size (font_scale (definition opcode params)) ≡ false → false ≡ lawful_definition past (command opcode params)
-    wrong-scale e = rw (number-lawful, e)
+    pub wrong_scale_lem : lawful_size (font_scale (definition opcode params)) ≡ false → false ≡ lawful_definition past (command opcode params)
+    wrong_scale_lem e = rw (number-lawful, e)
 
     module _ (scale-lawful : lawful_size (font_scale (definition opcode params)) ≡ true) where
-      pub wrong-design-size : lawful_size (font_design_size (definition opcode params)) ≡ false → false ≡ lawful_definition past (command opcode params)
-      wrong-design-size e = rw (number-lawful, scale-lawful, e)
+      pub wrong_design_size : lawful_size (font_design_size (definition opcode params)) ≡ false → false ≡ lawful_definition past (command opcode params)
+      wrong_design_size e = rw (number-lawful, scale-lawful, e)
 
-      pub turn-decides : lawful_size (font_design_size (definition opcode params)) ≡ true
+      pub turn_decides : lawful_size (font_design_size (definition opcode params)) ≡ true
           → in_turn past (defined_font opcode params) (definition opcode params) ≡ lawful_definition past (command opcode params)
-      turn-decides e = rw (number-lawful, scale-lawful, e)
+      turn_decides e = rw (number-lawful, scale-lawful, e)
 
 module _ (past : List Command) (number : ℤ) (said : List ℕ) where
   module _ (late : is_after_post (stage past) ≡ true) where
-    pub twice-after : is_defined (definition_of true number past) ≡ true → false ≡ in_turn past number said
-    twice-after e = rw (late, e)
+    pub twice_after : is_defined (definition_of true number past) ≡ true → false ≡ in_turn past number said
+    twice_after e = rw (late, e)
 
     pub once_after : definition_of true number past ≡ none → says (definition_of false number past) said ≡ in_turn past number said
     once_after e = rw (late, e)
 
   module _ (early : is_after_post (stage past) ≡ false) where
-    pub twice-before : is_defined (definition_of false number past) ≡ true → false ≡ in_turn past number said
-    twice-before e = rw (early, e)
+    pub twice_before : is_defined (definition_of false number past) ≡ true → false ≡ in_turn past number said
+    twice_before e = rw (early, e)
 
-    pub once-before : definition_of false number past ≡ none → ltb (font_count false past) most_fonts ≡ in_turn past number said
-    once-before e = rw (early, e)
+    pub once_before : definition_of false number past ≡ none → ltb (font_count false past) most_fonts ≡ in_turn past number said
+    once_before e = rw (early, e)
 
 -- the bytes of a definition's parameters from a font's number on
 pub said_all : (params : List ℕ) (from : ℕ) → take (length params - from) (drop from params) ≡ drop from params

@@ -47,8 +47,8 @@ module _ (xs ys : List ℕ) (differ : Bool) (at : ℕ) (long : length xs ≡ len
     one_by_one = rw (add-one, drop-cons xs at 0 h, drop-cons ys at 0 (omega arith)) refl
 
     -- after another byte all is decided
-    pub one-other : (get_or xs at 0 ≡ get_or ys at 0 → ⊥) → Decides xs ys true (at + 1)
-    one-other unequal = sym (and_false (not differ)) ∙ (rw (one_by_one, ne_eqb (get_or xs at 0) (get_or ys at 0) unequal) at so_far)
+    pub one_other : (get_or xs at 0 ≡ get_or ys at 0 → ⊥) → Decides xs ys true (at + 1)
+    one_other unequal = sym (and_false (not differ)) ∙ (rw (one_by_one, ne_eqb (get_or xs at 0) (get_or ys at 0) unequal) at so_far)
 
     pub one_same : get_or xs at 0 ≡ get_or ys at 0 → Decides xs ys differ (at + 1)
     one_same equal = rw (one_by_one, eq-eqb (get_or xs at 0) (get_or ys at 0) equal) at so_far

@@ -13,7 +13,7 @@ use Rattle.commands.specs.declared.fields.UnsignedField.{UnsignedField}
 use Rattle.commands.specs.Fields.{unsigned_in, definition_number_size, definition_area_length, definition_name_length, definition_name}
 use Rattle.commands.specs.Commands.{Command, Whole, kind_of_command, form, whole, front}
 use Rattle.commands.proofs.Opcodes.{kind_range}
-use Rattle.commands.proofs.Lengths.{fixed_of, inner-define, whole-size}
+use Rattle.commands.proofs.Lengths.{fixed_of, inner_define, whole_size}
 use Rattle.commands.proofs.Fronts.{front_sound, front_length}
 use Rattle.list.specs.Past.{body}
 use Rattle.list.specs.Steps.{saying_part}
@@ -30,62 +30,62 @@ module _ (file : List ℕ) (at : ℕ) {c : Command} {rest : List ℕ} (ahead : f
 
   -- ---- the opcode
 
-  opcode-in : (243 ≤ c.opcode) × (c.opcode ≤ 246)
-  opcode-in = kind_range c.opcode (omega (arith, good.defined)) define
+  opcode_in : (243 ≤ c.opcode) × (c.opcode ≤ 246)
+  opcode_in = kind_range c.opcode (omega (arith, good.defined)) define
 
-  opcode-there : get_or file at 0 ≡ c.opcode
-  opcode-there = ap (λ (index : ℕ). get_or file index 0) (sym (add-zero at)) ∙ sym (get_or-drop at file 0 0) ∙ ap (λ (bytes : List ℕ). get_or bytes 0 0) there
+  opcode_there : get_or file at 0 ≡ c.opcode
+  opcode_there = ap (λ (index : ℕ). get_or file index 0) (sym (add-zero at)) ∙ sym (get_or-drop at file 0 0) ∙ ap (λ (bytes : List ℕ). get_or bytes 0 0) there
 
-  pub opcode-between : (243 ≤ get_or file at 0) × (get_or file at 0 ≤ 246)
-  opcode-between = rw opcode-there opcode-in
+  pub opcode_between : (243 ≤ get_or file at 0) × (get_or file at 0 ≤ 246)
+  opcode_between = rw opcode_there opcode_in
 
   -- ---- how many bytes
 
-  length-body : length (body c) ≡ length c.params - definition_number_size c.opcode
-  length-body = length-drop (definition_number_size c.opcode) c.params
+  length_body : length (body c) ≡ length c.params - definition_number_size c.opcode
+  length_body = length-drop (definition_number_size c.opcode) c.params
 
-  params-long : length c.params ≡ definition_number_size c.opcode + definition_name + (unsigned_in definition_area_length (body c) + unsigned_in definition_name_length (body c))
-  params-long = omega (arith, whole-size c good, fixed_of c.opcode define, inner-define c.opcode c.params define, opcode-in)
+  params_long : length c.params ≡ definition_number_size c.opcode + definition_name + (unsigned_in definition_area_length (body c) + unsigned_in definition_name_length (body c))
+  params_long = omega (arith, whole_size c good, fixed_of c.opcode define, inner_define c.opcode c.params define, opcode_in)
 
   -- check sum, s, d, a and l are there
-  pub body-long : definition_name ≤ length (body c)
-  body-long = omega (arith, length-body, params-long)
+  pub body_long : definition_name ≤ length (body c)
+  body_long = omega (arith, length_body, params_long)
 
-  pub body-all : (saying_part at c).end - (saying_part at c).start ≡ length (body c)
-  body-all = omega (arith, length-body)
+  pub body_all : (saying_part at c).end - (saying_part at c).start ≡ length (body c)
+  body_all = omega (arith, length_body)
 
   -- ---- which bytes
 
-  body-there : drop (saying_part at c).start file ≡ body c ++ rest
-  body-there =
+  body_there : drop (saying_part at c).start file ≡ body c ++ rest
+  body_there =
       sym (drop-drop (definition_number_size c.opcode) (at + 1) file)
       ∙ ap (drop (definition_number_size c.opcode)) (sym (drop-drop 1 at file) ∙ ap (drop 1) there)
-      ∙ drop-append-le (definition_number_size c.opcode) c.params rest (omega (arith, params-long))
+      ∙ drop-append-le (definition_number_size c.opcode) c.params rest (omega (arith, params_long))
 
-  pub field-there : (field : UnsignedField) → field.at + field.size ≤ definition_name
+  pub field_there : (field : UnsignedField) → field.at + field.size ≤ definition_name
       → unsigned_at file ((saying_part at c).start + field.at) field.size ≡ unsigned_in field (body c)
-  field-there field h =
+  field_there field h =
       sym (unsigned_drop file (saying_part at c).start field.at field.size)
-      ∙ ap (unsigned_in field) body-there
-      ∙ unsigned_front (body c) rest field.at field.size (omega (arith, body-long))
+      ∙ ap (unsigned_in field) body_there
+      ∙ unsigned_front (body c) rest field.at field.size (omega (arith, body_long))
 
-  byte-there : (field : UnsignedField) → field.at + field.size ≤ definition_name → field.size ≡ 1
+  byte_there : (field : UnsignedField) → field.at + field.size ≤ definition_name → field.size ≡ 1
       → get_or file ((saying_part at c).start + field.at) 0 ≡ unsigned_in field (body c)
-  byte-there field h one =
+  byte_there field h one =
       sym (unsigned_one file ((saying_part at c).start + field.at))
       ∙ ap (unsigned_at file ((saying_part at c).start + field.at)) (sym one)
-      ∙ field-there field h
+      ∙ field_there field h
 
   pub part_says : take ((saying_part at c).end - (saying_part at c).start) (drop (saying_part at c).start file) ≡ body c
-  part_says = ap (take ((saying_part at c).end - (saying_part at c).start)) body-there ∙ take_at (body c) rest _ (sym body-all)
+  part_says = ap (take ((saying_part at c).end - (saying_part at c).start)) body_there ∙ take_at (body c) rest _ (sym body_all)
 
   -- ---- the opcode tells where the part starts, and its own lengths where it ends
 
   pub start_is : at + 1 + definition_number_size (get_or file at 0) ≡ (saying_part at c).start
-  start_is = ap (λ (opcode : ℕ). at + 1 + definition_number_size opcode) opcode-there
+  start_is = ap (λ (opcode : ℕ). at + 1 + definition_number_size opcode) opcode_there
 
   pub end_is :
       let start = at + 1 + definition_number_size (get_or file at 0) in
       start + definition_name + (get_or file (start + definition_area_length.at) 0 + get_or file (start + definition_name_length.at) 0) ≡ (saying_part at c).end
   end_is =
-      rw start_is (omega (arith, byte-there definition_area_length (omega arith) refl, byte-there definition_name_length (omega arith) refl, params-long))
+      rw start_is (omega (arith, byte_there definition_area_length (omega arith) refl, byte_there definition_name_length (omega arith) refl, params_long))

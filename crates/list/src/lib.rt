@@ -1,6 +1,4 @@
 // The list of commands and its rules: what the commands so far amount to, and the fault of the next one.
-#![tactic(auto)]
-
 pub mod comparing;
 pub mod faults;
 pub mod fonts;
@@ -8,7 +6,7 @@ pub mod progress;
 pub mod rules;
 
 // Where the list of commands stands
-#[derive(Clone, Copy)]
+#[derive(Drop)]
 pub enum Stage {
     AtStart,
     BeforePages,
@@ -19,7 +17,7 @@ pub enum Stage {
 }
 
 // What the commands so far amount to
-#[derive(Clone, Copy)]
+#[derive(Drop)]
 pub struct Volume {
     pub stage: Stage,
     pub at: usize,
@@ -41,7 +39,7 @@ pub struct Volume {
 }
 
 // A part of the file, from its first byte to past its last
-#[derive(Clone, Copy)]
+#[derive(Drop)]
 pub struct Part {
     pub start: usize,
     pub end: usize,

@@ -20,23 +20,23 @@ module _ (bytes : List ℕ) (index : ℕ) (inside : index < length bytes) where
   here : drop index bytes ≡ get_or bytes index 0 ∷ rest
   here = drop-cons bytes index 0 inside
 
-  pub zero-here : get_or bytes index 0 ≡ 0 → has_zero (drop index bytes) ≡ true
-  zero-here e = ap has_zero here ∙ ap (λ (t : Bool). t || has_zero rest) (eq-eqb (get_or bytes index 0) 0 e)
+  pub zero_here : get_or bytes index 0 ≡ 0 → has_zero (drop index bytes) ≡ true
+  zero_here e = ap has_zero here ∙ ap (λ (t : Bool). t || has_zero rest) (eq-eqb (get_or bytes index 0) 0 e)
 
-  pub zero-later : (get_or bytes index 0 ≡ 0 → ⊥) → has_zero (drop index bytes) ≡ has_zero rest
-  zero-later e = ap has_zero here ∙ ap (λ (t : Bool). t || has_zero rest) (ne_eqb (get_or bytes index 0) 0 e)
+  pub zero_later : (get_or bytes index 0 ≡ 0 → ⊥) → has_zero (drop index bytes) ≡ has_zero rest
+  zero_later e = ap has_zero here ∙ ap (λ (t : Bool). t || has_zero rest) (ne_eqb (get_or bytes index 0) 0 e)
 
-  pub zeros-broken : (get_or bytes index 0 ≡ 0 → ⊥) → all_zeros (drop index bytes) ≡ false
-  zeros-broken e = ap all_zeros here ∙ ap (λ (t : Bool). t && all_zeros rest) (ne_eqb (get_or bytes index 0) 0 e)
+  pub zeros_broken : (get_or bytes index 0 ≡ 0 → ⊥) → all_zeros (drop index bytes) ≡ false
+  zeros_broken e = ap all_zeros here ∙ ap (λ (t : Bool). t && all_zeros rest) (ne_eqb (get_or bytes index 0) 0 e)
 
-  pub zeros-later : get_or bytes index 0 ≡ 0 → all_zeros (drop index bytes) ≡ all_zeros rest
-  zeros-later e = ap all_zeros here ∙ ap (λ (t : Bool). t && all_zeros rest) (eq-eqb (get_or bytes index 0) 0 e)
+  pub zeros_later : get_or bytes index 0 ≡ 0 → all_zeros (drop index bytes) ≡ all_zeros rest
+  zeros_later e = ap all_zeros here ∙ ap (λ (t : Bool). t && all_zeros rest) (eq-eqb (get_or bytes index 0) 0 e)
 
-  pub name-ends : get_or bytes index 0 ≡ 0 → name_then_zeros (drop index bytes) ≡ all_zeros (drop index bytes)
-  name-ends e = ap name_then_zeros here ∙ ap (λ (t : Bool). cond t (all_zeros rest) (name_then_zeros rest)) (eq-eqb (get_or bytes index 0) 0 e) ∙ sym (zeros-later e)
+  pub name_ends : get_or bytes index 0 ≡ 0 → name_then_zeros (drop index bytes) ≡ all_zeros (drop index bytes)
+  name_ends e = ap name_then_zeros here ∙ ap (λ (t : Bool). cond t (all_zeros rest) (name_then_zeros rest)) (eq-eqb (get_or bytes index 0) 0 e) ∙ sym (zeros_later e)
 
-  pub name-later : (get_or bytes index 0 ≡ 0 → ⊥) → name_then_zeros (drop index bytes) ≡ name_then_zeros rest
-  name-later e = ap name_then_zeros here ∙ ap (λ (t : Bool). cond t (all_zeros rest) (name_then_zeros rest)) (ne_eqb (get_or bytes index 0) 0 e)
+  pub name_later : (get_or bytes index 0 ≡ 0 → ⊥) → name_then_zeros (drop index bytes) ≡ name_then_zeros rest
+  name_later e = ap name_then_zeros here ∙ ap (λ (t : Bool). cond t (all_zeros rest) (name_then_zeros rest)) (ne_eqb (get_or bytes index 0) 0 e)
 
 -- ---- a name as one number
 
@@ -55,9 +55,9 @@ unfolding sought_name
 too_long name h = ap (λ (t : Bool). cond (t && not (has_zero name)) (name_at (name ++ replicate 16 0) 0) any_name) (sym (lt-leb (length name) 16 h))
 
 module _ (name : List ℕ) (short : length name ≤ 16) where
-  pub with-zero : has_zero name ≡ true → any_name ≡ sought_name name
+  pub with_zero : has_zero name ≡ true → any_name ≡ sought_name name
   unfolding sought_name
-  with-zero e = ap₂ (λ (t u : Bool). cond (t && not u) (name_at (name ++ replicate 16 0) 0) any_name) (sym (le-leb (length name) 16 short)) (sym e)
+  with_zero e = ap₂ (λ (t u : Bool). cond (t && not u) (name_at (name ++ replicate 16 0) 0) any_name) (sym (le-leb (length name) 16 short)) (sym e)
 
   -- zeros up to sixteen bytes are enough
   filled : name ++ replicate 16 0 ≡ (name ++ replicate (16 - length name) 0) ++ replicate (length name) 0
@@ -71,15 +71,15 @@ module _ (name : List ℕ) (short : length name ≤ 16) where
   abbrev pub padded : List ℕ
   padded = name ++ replicate (16 - length name) 0
 
-  pub padded-length : length padded ≡ 16
-  padded-length = length-append name (replicate (16 - length name) 0) ∙ ap (λ (n : ℕ). length name + n) (length-replicate (16 - length name) 0) ∙ omega arith
+  pub padded_length : length padded ≡ 16
+  padded_length = length-append name (replicate (16 - length name) 0) ∙ ap (λ (n : ℕ). length name + n) (length-replicate (16 - length name) 0) ∙ omega arith
 
-  pub without-zero : has_zero name ≡ false → name_at padded 0 ≡ sought_name name
+  pub without_zero : has_zero name ≡ false → name_at padded 0 ≡ sought_name name
   unfolding sought_name
-  without-zero e =
+  without_zero e =
       ap₂ (λ (high low : ℕ). record { high = high; low = low })
-      (sym (ap (λ (l : List ℕ). unsigned_at l 0 8) filled ∙ unsigned_front padded (replicate (length name) 0) 0 8 (omega (arith, padded-length))))
-      (sym (ap (λ (l : List ℕ). unsigned_at l 8 8) filled ∙ unsigned_front padded (replicate (length name) 0) 8 8 (omega (arith, padded-length))))
+      (sym (ap (λ (l : List ℕ). unsigned_at l 0 8) filled ∙ unsigned_front padded (replicate (length name) 0) 0 8 (omega (arith, padded_length))))
+      (sym (ap (λ (l : List ℕ). unsigned_at l 8 8) filled ∙ unsigned_front padded (replicate (length name) 0) 8 8 (omega (arith, padded_length))))
       ∙ ap₂ (λ (t u : Bool). cond (t && not u) (name_at (name ++ replicate 16 0) 0) any_name) (sym (le-leb (length name) 16 short)) (sym e)
 
   -- the zeros that a name is put into stay behind it

@@ -26,15 +26,15 @@ module _ (a b c d : ℕ) where
   less_by true e below above = sym (lt-ltb c d (below (ltb-true a b e)))
   less_by false e below above = sym (le-ltb c d (above (ltb-false a b e)))
 
-  pub same-less : (a < b → c < d) → (b ≤ a → d ≤ c) → ltb a b ≡ ltb c d
-  same-less below above = less_by (ltb a b) refl below above
+  pub same_less : (a < b → c < d) → (b ≤ a → d ≤ c) → ltb a b ≡ ltb c d
+  same_less below above = less_by (ltb a b) refl below above
 
   equal_by : (outcome : Bool) → eqb a b ≡ outcome → (a ≡ b → c ≡ d) → (c ≡ d → a ≡ b) → outcome ≡ eqb c d
   equal_by true e forth back = sym (eq-eqb c d (forth (eqb-true a b e)))
   equal_by false e forth back = sym (ne_eqb c d (λ f. eqb-false a b e (back f)))
 
-  pub same-equal : (a ≡ b → c ≡ d) → (c ≡ d → a ≡ b) → eqb a b ≡ eqb c d
-  same-equal forth back = equal_by (eqb a b) refl forth back
+  pub same_equal : (a ≡ b → c ≡ d) → (c ≡ d → a ≡ b) → eqb a b ≡ eqb c d
+  same_equal forth back = equal_by (eqb a b) refl forth back
 
 -- ---- two digits
 
@@ -52,32 +52,32 @@ module _ (x y base low_x low-y : ℕ) (x_in : low_x < base) where
   first_above h y_in = let more : suc y * base ≤ x * base = mul-le-mul_right base h in omega arith
 
   module _ (y_in : low-y ≤ base) where
-    pub first-decides : (x ≡ y → ⊥) → ltb x y ≡ ltb (x * base + low_x) (y * base + low-y)
-    first-decides differ =
-        same-less x y (x * base + low_x) (y * base + low-y) first_below
+    pub first_decides : (x ≡ y → ⊥) → ltb x y ≡ ltb (x * base + low_x) (y * base + low-y)
+    first_decides differ =
+        same_less x y (x * base + low_x) (y * base + low-y) first_below
         (λ h. first_above (lt_of_le_of_ne h (λ e. differ (sym e))) y_in)
 
-  pub second-decides : x ≡ y → ltb low_x low-y ≡ ltb (x * base + low_x) (y * base + low-y)
-  second-decides e =
+  pub second_decides : x ≡ y → ltb low_x low-y ≡ ltb (x * base + low_x) (y * base + low-y)
+  second_decides e =
       let same : x * base ≡ y * base = ap (λ (n : ℕ). n * base) e in
-      same-less low_x low-y (x * base + low_x) (y * base + low-y) (λ h. omega arith) (λ h. omega arith)
+      same_less low_x low-y (x * base + low_x) (y * base + low-y) (λ h. omega arith) (λ h. omega arith)
 
   -- equal numbers have equal digits
   module _ (y_in : low-y < base) (e : x * base + low_x ≡ y * base + low-y) where
-    pub first-same : x ≡ y
-    first-same =
+    pub first_same : x ≡ y
+    first_same =
         ⊎_elim (λ (under : x < y). absurd (omega (arith, first_below under)))
         (λ (over : y ≤ x). ⊎_elim (λ (past : y < x). absurd (let more : suc y * base ≤ x * base = mul-le-mul_right base past in omega arith)) (λ (less : x ≤ y). omega arith) (less_or_not y x))
         (less_or_not x y)
 
-    pub second-same : low_x ≡ low-y
-    second-same = let same : x * base ≡ y * base = ap (λ (n : ℕ). n * base) first-same in omega arith
+    pub second_same : low_x ≡ low-y
+    second_same = let same : x * base ≡ y * base = ap (λ (n : ℕ). n * base) first_same in omega arith
 
-  pub digits-equal : low-y < base → (eqb x y && eqb low_x low-y) ≡ eqb (x * base + low_x) (y * base + low-y)
-  digits-equal y_in = by (eqb x y) refl
+  pub digits_equal : low-y < base → (eqb x y && eqb low_x low-y) ≡ eqb (x * base + low_x) (y * base + low-y)
+  digits_equal y_in = by (eqb x y) refl
     where
       by : (first : Bool) → eqb x y ≡ first → (first && eqb low_x low-y) ≡ eqb (x * base + low_x) (y * base + low-y)
       by true e =
           let same : x * base ≡ y * base = ap (λ (n : ℕ). n * base) (eqb-true x y e) in
-          same-equal low_x low-y (x * base + low_x) (y * base + low-y) (λ h. omega arith) (λ h. omega arith)
-      by false e = sym (ne_eqb (x * base + low_x) (y * base + low-y) (λ h. eqb-false x y e (first-same y_in h)))
+          same_equal low_x low-y (x * base + low_x) (y * base + low-y) (λ h. omega arith) (λ h. omega arith)
+      by false e = sym (ne_eqb (x * base + low_x) (y * base + low-y) (λ h. eqb-false x y e (first_same y_in h)))

@@ -26,19 +26,19 @@ module _ (c : Command) (past : List Command) where
   other code e = rw e refl
 
   -- what is no packet adds nothing
-  no-packet : is_packet c.opcode ≡ false → (left code : ℕ) → packets_from left code (c ∷ past) ≡ packets_from left code past
-  no-packet e zero code = refl
-  no-packet e (suc left) code =
-      ap₂ (λ (a b : List Command). a ++ b) (other code (ap (λ (b : Bool). b && eqb (code_in c.opcode c.params) code) e)) (no-packet e left (suc code))
+  no_packet : is_packet c.opcode ≡ false → (left code : ℕ) → packets_from left code (c ∷ past) ≡ packets_from left code past
+  no_packet e zero code = refl
+  no_packet e (suc left) code =
+      ap₂ (λ (a b : List Command). a ++ b) (other code (ap (λ (b : Bool). b && eqb (code_in c.opcode c.params) code) e)) (no_packet e left (suc code))
 
   module _ (flag : is_packet c.opcode ≡ true) where
-    not-for : (code : ℕ) → (code_in c.opcode c.params ≡ code → ⊥) → packets_for code (c ∷ past) ≡ packets_for code past
-    not-for code differs = other code (rw (flag, ne_eqb (code_in c.opcode c.params) code differs) refl)
+    not_for : (code : ℕ) → (code_in c.opcode c.params ≡ code → ⊥) → packets_for code (c ∷ past) ≡ packets_for code past
+    not_for code differs = other code (rw (flag, ne_eqb (code_in c.opcode c.params) code differs) refl)
 
     -- nor does a packet for codes above its own
     above : (left code : ℕ) → code_in c.opcode c.params < code → packets_from left code (c ∷ past) ≡ packets_from left code past
     above zero code h = refl
-    above (suc left) code h = ap₂ (λ (a b : List Command). a ++ b) (not-for code (λ e. omega (arith, e))) (above left (suc code) (omega arith))
+    above (suc left) code h = ap₂ (λ (a b : List Command). a ++ b) (not_for code (λ e. omega (arith, e))) (above left (suc code) (omega arith))
 
     -- among codes that its own is one of it adds one
     among : (left code : ℕ) → code ≤ code_in c.opcode c.params → code_in c.opcode c.params < code + left
@@ -58,7 +58,7 @@ module _ (c : Command) (past : List Command) where
         go false e later =
             let differs = eqb-false (code_in c.opcode c.params) code e in
             let beyond : suc code ≤ code_in c.opcode c.params = omega (arith, differs) in
-            ap (λ (l : List Command). length (l ++ packets_from left (suc code) (c ∷ past))) (not-for code differs)
+            ap (λ (l : List Command). length (l ++ packets_from left (suc code) (c ∷ past))) (not_for code differs)
             ∙ omega (
               arith,
               length-append (packets_for code past) (packets_from left (suc code) (c ∷ past)),
@@ -79,7 +79,7 @@ packets_counted pk (c ∷ past) (more opcode rest stand here fits right) = go (i
     go true e before =
         let whole = packet_right past (taken opcode rest) right e in
         among (taken opcode rest) past e 256 0 (omega arith) (omega (arith, whole.code_small)) ∙ ap (λ (n : ℕ). n + 1) before
-    go false e before = ap length (no-packet (taken opcode rest) past e 256 0) ∙ before
+    go false e before = ap length (no_packet (taken opcode rest) past e 256 0) ∙ before
 
 pub records_counted : (pk : List ℕ) (scale : ℕ) (past : List Command) → Standing pk past → length (font_table scale past) ≡ packets past
 records_counted pk scale past stand = length_map (entry_of (font_checksum past) scale) (packets_from 256 0 past) ∙ packets_counted pk past stand

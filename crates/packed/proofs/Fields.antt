@@ -12,7 +12,7 @@ use Rattle.numbers.proofs.Bytes.{unsigned_front, unsigned_drop}
 use Rattle.packed.specs.declared.Form.{Form}
 use Rattle.packed.specs.Commands.{form_of, fixed_bytes, counted_bytes}
 use Rattle.packed.specs.Packets.{code_in, width_in, escapement_in, escapement_start, is_long, nearest}
-use Rattle.packed.proofs.Forms.{form_sized, Sort, packet, special, number, preamble, other, sort_of, fixed-packet, fixed-special, fixed-preamble, counted-packet, counted-special, counted-preamble, counted_none}
+use Rattle.packed.proofs.Forms.{form_sized, Sort, packet, special, number, preamble, other, sort_of, fixed_packet, fixed_special, fixed_preamble, counted_packet, counted_special, counted_preamble, counted_none}
 
 -- a number that stands at a place behind another
 pub there : (pk : List ℕ) (from at place count : ℕ) → place ≡ from + at → unsigned_at pk place count ≡ unsigned_at (drop from pk) at count
@@ -25,28 +25,28 @@ counted_front opcode params more h = go (sort_of opcode)
   where
     go : Sort opcode → counted_bytes opcode (params ++ more) ≡ counted_bytes opcode params
     go (packet k) =
-        sym (counted-packet opcode (params ++ more) k)
-        ∙ ap (λ (n : ℕ). (form_of opcode).added + n) (unsigned_front params more 0 (form_of opcode).length (omega (arith, fixed-packet opcode k)))
-        ∙ counted-packet opcode params k
+        sym (counted_packet opcode (params ++ more) k)
+        ∙ ap (λ (n : ℕ). (form_of opcode).added + n) (unsigned_front params more 0 (form_of opcode).length (omega (arith, fixed_packet opcode k)))
+        ∙ counted_packet opcode params k
     go (special k l) =
-        sym (counted-special opcode (params ++ more) k l) ∙ unsigned_front params more 0 (opcode - 239) (omega (arith, fixed-special opcode k l)) ∙ counted-special opcode params k l
+        sym (counted_special opcode (params ++ more) k l) ∙ unsigned_front params more 0 (opcode - 239) (omega (arith, fixed_special opcode k l)) ∙ counted_special opcode params k l
     go (number e) =
         let differs : opcode ≡ 247 → ⊥ = λ f. omega (arith, e, f) in
         sym (counted_none opcode (params ++ more) (omega (arith, e)) differs) ∙ counted_none opcode params (omega (arith, e)) differs
     go (preamble e) =
-        sym (counted-preamble opcode (params ++ more) e) ∙ unsigned_front params more 1 1 (omega (arith, fixed-preamble opcode e)) ∙ counted-preamble opcode params e
+        sym (counted_preamble opcode (params ++ more) e) ∙ unsigned_front params more 1 1 (omega (arith, fixed_preamble opcode e)) ∙ counted_preamble opcode params e
     go (other k n) = sym (counted_none opcode (params ++ more) (omega arith) n) ∙ counted_none opcode params (omega arith) n
 
 -- ---- what a packet says
 
 module _ (flag : ℕ) (params more : List ℕ) (room : (form_of flag).length + (form_of flag).code + (form_of flag).fields ≤ length params) where
-  pub code-front : code_in flag (params ++ more) ≡ code_in flag params
+  pub code_front : code_in flag (params ++ more) ≡ code_in flag params
   unfolding code_in
-  code-front = unsigned_front params more (form_of flag).length (form_of flag).code (omega arith)
+  code_front = unsigned_front params more (form_of flag).length (form_of flag).code (omega arith)
 
-  pub width-front : width_in flag (params ++ more) ≡ width_in flag params
+  pub width_front : width_in flag (params ++ more) ≡ width_in flag params
   unfolding width_in
-  width-front = let s = form_sized flag in unsigned_front params more ((form_of flag).length + (form_of flag).code) (form_of flag).width (omega (arith, s.fields_hold))
+  width_front = let s = form_sized flag in unsigned_front params more ((form_of flag).length + (form_of flag).code) (form_of flag).width (omega (arith, s.fields_hold))
 
   behind : (long : Bool) → is_long flag ≡ long
       → cond long (nearest (from_twos (256 ^ 4) (unsigned_at (params ++ more) (escapement_start flag) 4))) (pos (unsigned_at (params ++ more) (escapement_start flag) (form_of flag).escapement))
@@ -56,9 +56,9 @@ module _ (flag : ℕ) (params more : List ℕ) (room : (form_of flag).length + (
       ap (λ (n : ℕ). nearest (from_twos (256 ^ 4) n)) (unsigned_front params more (escapement_start flag) 4 (omega (arith, s.fields_hold, s.long_four e)))
   behind false e = let s = form_sized flag in ap pos (unsigned_front params more (escapement_start flag) (form_of flag).escapement (omega (arith, s.fields_hold)))
 
-  pub escapement-front : escapement_in flag (params ++ more) ≡ escapement_in flag params
+  pub escapement_front : escapement_in flag (params ++ more) ≡ escapement_in flag params
   unfolding escapement_in
-  escapement-front = behind (is_long flag) refl
+  escapement_front = behind (is_long flag) refl
 
 -- ---- a packet read in a file
 
@@ -73,15 +73,15 @@ module _ (pk : List ℕ) (from flag : ℕ) (f : Form) (same : f ≡ form_of flag
   width_read start e =
       there pk from (f.length + f.code) start f.width e ∙ ap (λ (g : Form). unsigned_at (drop from pk) (g.length + g.code) g.width) same
 
-  pub dm-read : (start : ℕ) → start ≡ from + (f.length + f.code + f.width) → is_long flag ≡ false
+  pub dm_read : (start : ℕ) → start ≡ from + (f.length + f.code + f.width) → is_long flag ≡ false
       → pos (unsigned_at pk start f.escapement) ≡ escapement_in flag (drop from pk)
   unfolding escapement_in
-  dm-read start e short =
+  dm_read start e short =
       ap pos (there pk from (f.length + f.code + f.width) start f.escapement e ∙ ap (λ (g : Form). unsigned_at (drop from pk) (g.length + g.code + g.width) g.escapement) same)
       ∙ sym (ap (λ (b : Bool). cond b (nearest (signed_at (drop from pk) (escapement_start flag) 4)) (pos (unsigned_at (drop from pk) (escapement_start flag) (form_of flag).escapement))) short)
 
-  pub dx-read : (start : ℕ) → start ≡ from + (f.length + f.code + f.width) → is_long flag ≡ true → nearest (signed_at pk start 4) ≡ escapement_in flag (drop from pk)
+  pub dx_read : (start : ℕ) → start ≡ from + (f.length + f.code + f.width) → is_long flag ≡ true → nearest (signed_at pk start 4) ≡ escapement_in flag (drop from pk)
   unfolding escapement_in
-  dx-read start e long =
+  dx_read start e long =
       ap (λ (n : ℕ). nearest (from_twos (256 ^ 4) n)) (there pk from (f.length + f.code + f.width) start 4 e ∙ ap (λ (g : Form). unsigned_at (drop from pk) (g.length + g.code + g.width) 4) same)
       ∙ sym (ap (λ (b : Bool). cond b (nearest (signed_at (drop from pk) (escapement_start flag) 4)) (pos (unsigned_at (drop from pk) (escapement_start flag) (form_of flag).escapement))) long)

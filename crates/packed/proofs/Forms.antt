@@ -24,17 +24,17 @@ abbrev pub long : Form
 long = record { added = 0; length = 4; code = 4; width = 4; escapement = 4; fields = 28 }
 
 module _ (flag : ℕ) where
-  pub form-short : flag % 8 < 4 → short flag ≡ form_of flag
+  pub form_short : flag % 8 < 4 → short flag ≡ form_of flag
   unfolding form_of
-  form-short h = rw (lt-ltb (flag % 8) 4 h) refl
+  form_short h = rw (lt-ltb (flag % 8) 4 h) refl
 
-  pub form-extended : 4 ≤ flag % 8 → flag % 8 < 7 → extended flag ≡ form_of flag
+  pub form_extended : 4 ≤ flag % 8 → flag % 8 < 7 → extended flag ≡ form_of flag
   unfolding form_of
-  form-extended h k = rw (le-ltb (flag % 8) 4 h, lt-ltb (flag % 8) 7 k) refl
+  form_extended h k = rw (le-ltb (flag % 8) 4 h, lt-ltb (flag % 8) 7 k) refl
 
-  pub form-long : 4 ≤ flag % 8 → 7 ≤ flag % 8 → long ≡ form_of flag
+  pub form_long : 4 ≤ flag % 8 → 7 ≤ flag % 8 → long ≡ form_of flag
   unfolding form_of
-  form-long h k = rw (le-ltb (flag % 8) 4 h, le-ltb (flag % 8) 7 k) refl
+  form_long h k = rw (le-ltb (flag % 8) 4 h, le-ltb (flag % 8) 7 k) refl
 
 -- ---- what all forms keep
 
@@ -103,25 +103,25 @@ form_known flag f e =
 -- ---- the lengths of each kind of command
 
 module _ (opcode : ℕ) where
-  pub fixed-packet : opcode < 240 → (form_of opcode).length + (form_of opcode).code ≡ fixed_bytes opcode
+  pub fixed_packet : opcode < 240 → (form_of opcode).length + (form_of opcode).code ≡ fixed_bytes opcode
   unfolding fixed_bytes
-  fixed-packet h = rw (lt-ltb opcode 240 h) refl
+  fixed_packet h = rw (lt-ltb opcode 240 h) refl
 
-  pub fixed-special : 240 ≤ opcode → opcode < 244 → opcode - 239 ≡ fixed_bytes opcode
+  pub fixed_special : 240 ≤ opcode → opcode < 244 → opcode - 239 ≡ fixed_bytes opcode
   unfolding fixed_bytes
-  fixed-special h k = rw (le-ltb opcode 240 h, le-leb 240 opcode h, le-leb opcode 243 (omega arith)) refl
+  fixed_special h k = rw (le-ltb opcode 240 h, le-leb 240 opcode h, le-leb opcode 243 (omega arith)) refl
 
   pub fixed_number : opcode ≡ 244 → 4 ≡ fixed_bytes opcode
   unfolding fixed_bytes
   fixed_number e = rw e refl
 
-  pub fixed-preamble : opcode ≡ 247 → 18 ≡ fixed_bytes opcode
+  pub fixed_preamble : opcode ≡ 247 → 18 ≡ fixed_bytes opcode
   unfolding fixed_bytes
-  fixed-preamble e = rw e refl
+  fixed_preamble e = rw e refl
 
-  pub fixed-none : 244 < opcode → (opcode ≡ 247 → ⊥) → 0 ≡ fixed_bytes opcode
+  pub fixed_none : 244 < opcode → (opcode ≡ 247 → ⊥) → 0 ≡ fixed_bytes opcode
   unfolding fixed_bytes
-  fixed-none h n =
+  fixed_none h n =
       rw (
         le-ltb opcode 240 (omega arith),
         le-leb 240 opcode (omega arith),
@@ -131,17 +131,17 @@ module _ (opcode : ℕ) where
       ) refl
 
   module _ (params : List ℕ) where
-    pub counted-packet : opcode < 240 → (form_of opcode).added + unsigned_at params 0 (form_of opcode).length ≡ counted_bytes opcode params
+    pub counted_packet : opcode < 240 → (form_of opcode).added + unsigned_at params 0 (form_of opcode).length ≡ counted_bytes opcode params
     unfolding counted_bytes
-    counted-packet h = rw (lt-ltb opcode 240 h) refl
+    counted_packet h = rw (lt-ltb opcode 240 h) refl
 
-    pub counted-special : 240 ≤ opcode → opcode < 244 → unsigned_at params 0 (opcode - 239) ≡ counted_bytes opcode params
+    pub counted_special : 240 ≤ opcode → opcode < 244 → unsigned_at params 0 (opcode - 239) ≡ counted_bytes opcode params
     unfolding counted_bytes
-    counted-special h k = rw (le-ltb opcode 240 h, le-leb 240 opcode h, le-leb opcode 243 (omega arith)) refl
+    counted_special h k = rw (le-ltb opcode 240 h, le-leb 240 opcode h, le-leb opcode 243 (omega arith)) refl
 
-    pub counted-preamble : opcode ≡ 247 → unsigned_at params 1 1 ≡ counted_bytes opcode params
+    pub counted_preamble : opcode ≡ 247 → unsigned_at params 1 1 ≡ counted_bytes opcode params
     unfolding counted_bytes
-    counted-preamble e = rw e refl
+    counted_preamble e = rw e refl
 
     pub counted_none : 244 ≤ opcode → (opcode ≡ 247 → ⊥) → 0 ≡ counted_bytes opcode params
     unfolding counted_bytes

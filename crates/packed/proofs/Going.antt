@@ -18,7 +18,7 @@ use Rattle.packed.specs.Packets.{code_in}
 use Rattle.packed.specs.Rules.{ended, font_fault, places, packets}
 use Rattle.packed.specs.Judged.{taken, font_judged_from, font_judged, note_of, noted}
 use Rattle.packed.specs.Steps.{number_at, Says, said}
-use Rattle.packed.proofs.Faults.{packet_right, taken-length, counted-taken, code-taken, number_same}
+use Rattle.packed.proofs.Faults.{packet_right, taken_length, counted_taken, code_taken, number_same}
 use Rattle.packed.proofs.Standing.{Standing, start, more, behind}
 use Rattle.packed.proofs.Noted.{marked}
 
@@ -69,8 +69,8 @@ from_end k past = refl
 
 -- two tests one after the other, by the number that is due
 module _ {A : Type 0} (cut : Bool) (due number at : ℕ) (next : Answer A) where
-  refused-by : (cut ≡ true → number ≡ 18) → (cut ≡ false → number ≡ due) → 0 < number → refuse_if cut 18 at (refuse_if (ltb 0 due) due at next) ≡ refused number at
-  refused-by first second some = go cut refl
+  refused_by : (cut ≡ true → number ≡ 18) → (cut ≡ false → number ≡ due) → 0 < number → refuse_if cut 18 at (refuse_if (ltb 0 due) due at next) ≡ refused number at
+  refused_by first second some = go cut refl
     where
       go : (b : Bool) → cut ≡ b → refuse_if b 18 at (refuse_if (ltb 0 due) due at next) ≡ refused number at
       go true e = ap (λ (n : ℕ). refused n at) (sym (first e))
@@ -90,20 +90,20 @@ module _ (pk : List ℕ) (at : ℕ) (passed : Bool) (seen : List ℕ) (count : �
   abbrev rest : List ℕ
   rest = drop (at + 1) pk
 
-  here-at : drop at pk ≡ opcode ∷ rest
-  here-at = drop-cons pk at 0 inside ∙ ap (λ (n : ℕ). opcode ∷ drop n pk) (sym (add-one at))
+  here_at : drop at pk ≡ opcode ∷ rest
+  here_at = drop-cons pk at 0 inside ∙ ap (λ (n : ℕ). opcode ∷ drop n pk) (sym (add-one at))
 
   here : drop (place g.past) pk ≡ opcode ∷ rest
-  here = ap (λ (n : ℕ). drop n pk) g.at_is ∙ here-at
+  here = ap (λ (n : ℕ). drop n pk) g.at_is ∙ here_at
 
   abbrev cut : Bool
   cut = ltb (length rest) (param_bytes opcode rest)
 
-  cut-number : cut ≡ true → r.number ≡ 18
-  cut-number e = says.lowest ∙ ap (λ (b : Bool). cond b 18 (number_at at passed seen opcode rest)) e
+  cut_number : cut ≡ true → r.number ≡ 18
+  cut_number e = says.lowest ∙ ap (λ (b : Bool). cond b 18 (number_at at passed seen opcode rest)) e
 
-  due-number : cut ≡ false → r.number ≡ font_fault g.past (taken opcode rest)
-  due-number e =
+  due_number : cut ≡ false → r.number ≡ font_fault g.past (taken opcode rest)
+  due_number e =
       let fits = ltb-false (length rest) (param_bytes opcode rest) e in
       says.lowest
       ∙ ap (λ (b : Bool). cond b 18 (number_at at passed seen opcode rest)) e
@@ -118,17 +118,17 @@ module _ (pk : List ℕ) (at : ℕ) (passed : Bool) (seen : List ℕ) (count : �
       ≡ font_judged pk
   opened k e =
       sym (from_cons k g.past opcode rest)
-      ∙ ap₂ (λ (n : ℕ) (l : List ℕ). font_judged_from n g.past l) (sym e) (sym here-at)
+      ∙ ap₂ (λ (n : ℕ) (l : List ℕ). font_judged_from n g.past l) (sym e) (sym here_at)
       ∙ g.same
 
-  pub going-refused : 0 < r.number → font_judged pk ≡ refused r.number at
-  going-refused some = go g.fuel refl
+  pub going_refused : 0 < r.number → font_judged pk ≡ refused r.number at
+  going_refused some = go g.fuel refl
     where
       go : (fuel : ℕ) → g.fuel ≡ fuel → font_judged pk ≡ refused r.number at
       go zero e = absurd (omega (arith, g.enough, e))
       go (suc k) e =
           sym (opened k e)
-          ∙ refused-by cut (font_fault g.past (taken opcode rest)) r.number (place g.past) _ cut-number due-number some
+          ∙ refused_by cut (font_fault g.past (taken opcode rest)) r.number (place g.past) _ cut_number due_number some
           ∙ ap (refused r.number) g.at_is
 
   -- what is noted of the command is what the rules note
@@ -139,7 +139,7 @@ module _ (pk : List ℕ) (at : ℕ) (passed : Bool) (seen : List ℕ) (count : �
     code_is : opcode < 240 → r.code ≡ code_in opcode (take (param_bytes opcode rest) rest)
     code_is flag =
         let whole = packet_right g.past (taken opcode rest) lawful (lt-ltb opcode 240 flag) in
-        (says.packet right flag).0 ∙ sym (code-taken opcode rest fits flag (omega (arith, whole.room, counted-taken opcode rest fits)))
+        (says.packet right flag).0 ∙ sym (code_taken opcode rest fits flag (omega (arith, whole.room, counted_taken opcode rest fits)))
 
     seen_next : (b : Bool) → is_packet opcode ≡ b
         → cond b (set (places g.past) (code_in opcode (take (param_bytes opcode rest) rest)) (place g.past)) (places g.past)
@@ -160,15 +160,15 @@ module _ (pk : List ℕ) (at : ℕ) (passed : Bool) (seen : List ℕ) (count : �
         let other = says.other right (ltb-false opcode 240 e) in
         g.count_is ∙ sym (ap (λ (b : Bool). cond b (count + 1) count) (le-ltb r.code 256 (omega (arith, other))))
 
-    few-next : (b : Bool) → cond b (count + 1) count ≤ at + 1
-    few-next true = omega (arith, g.few)
-    few-next false = omega (arith, g.few)
+    few_next : (b : Bool) → cond b (count + 1) count ≤ at + 1
+    few_next true = omega (arith, g.few)
+    few_next false = omega (arith, g.few)
 
     pub step : (k : ℕ) → g.fuel ≡ suc k → font_judged_from k next (drop (param_bytes opcode rest) rest) ≡ font_judged pk
         → Going pk r.next (is_postamble opcode || passed) (cond (ltb r.code 256) (set seen r.code at) seen) (cond (ltb r.code 256) (count + 1) count)
     step k e onward =
         let ends = says.next right in
-        let place_is : place next ≡ r.next = omega (arith, ends.0, taken-length opcode rest fits, g.at_is) in
+        let place_is : place next ≡ r.next = omega (arith, ends.0, taken_length opcode rest fits, g.at_is) in
         record {
           past = next;
           fuel = k;
@@ -182,7 +182,7 @@ module _ (pk : List ℕ) (at : ℕ) (passed : Bool) (seen : List ℕ) (count : �
           passed_is = ap (λ (b : Bool). is_postamble opcode || b) g.passed_is;
           seen_are = seen_next (is_packet opcode) refl;
           count_is = count_next (is_packet opcode) refl;
-          few = omega (arith, few-next (ltb r.code 256), ends.0);
+          few = omega (arith, few_next (ltb r.code 256), ends.0);
         }
 
   pub going_on : r.number ≡ 0
@@ -193,7 +193,7 @@ module _ (pk : List ℕ) (at : ℕ) (passed : Bool) (seen : List ℕ) (count : �
           → Going pk r.next (is_postamble opcode || passed) (cond (ltb r.code 256) (set seen r.code at) seen) (cond (ltb r.code 256) (count + 1) count)
       go zero e = absurd (omega (arith, g.enough, e))
       go (suc k) e =
-          let found = goes_by cut (font_fault g.past (taken opcode rest)) r.number (place g.past) (font_judged_from k (taken opcode rest ∷ g.past) (drop (param_bytes opcode rest) rest)) cut-number due-number right in
+          let found = goes_by cut (font_fault g.past (taken opcode rest)) r.number (place g.past) (font_judged_from k (taken opcode rest ∷ g.past) (drop (param_bytes opcode rest) rest)) cut_number due_number right in
           step right (ltb-false (length rest) (param_bytes opcode rest) found.0) found.1 k e (sym found.2 ∙ opened k e)
 
 -- ---- the end

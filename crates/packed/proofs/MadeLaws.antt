@@ -8,7 +8,7 @@ use lib.Dec.{eqb}
 use lib.ListN.{length, drop, length-append}
 use borrow.Author.Tests.{lt-ltb, le-ltb, eq-eqb, ne_eqb}
 use Rattle.refusals.specs.Answer.{Answer, refused, given, and_then}
-use Rattle.refusals.proofs.Answer.{given-same}
+use Rattle.refusals.proofs.Answer.{given_same}
 use Rattle.numbers.specs.Sizes.{lawful_size}
 use Rattle.commands.specs.Commands.{Command}
 use Rattle.widths.specs.Table.{width_record_size}
@@ -25,25 +25,25 @@ use Rattle.packed.proofs.Counting.{records_counted}
 -- ---- the scale, the file, the area
 
 module _ (pk : List ℕ) (scale room : ℕ) where
-  pub made-scale : lawful_size scale ≡ false → table_made pk scale room ≡ refused 22 0
-  made-scale e = rw e refl
+  pub made_scale : lawful_size scale ≡ false → table_made pk scale room ≡ refused 22 0
+  made_scale e = rw e refl
 
   module _ (right : lawful_size scale ≡ true) where
-    pub made-refused : (number place : ℕ) → font_judged pk ≡ refused number place → table_made pk scale room ≡ refused number place
-    made-refused number place e = rw (right, e) refl
+    pub made_refused : (number place : ℕ) → font_judged pk ≡ refused number place → table_made pk scale room ≡ refused number place
+    made_refused number place e = rw (right, e) refl
 
     module _ (past : List Command) (judged : font_judged pk ≡ given past) where
-      pub made-short : room < width_record_size * length (font_table scale past) → table_made pk scale room ≡ refused 17 0
-      made-short h = rw (right, judged, lt-ltb room (width_record_size * length (font_table scale past)) h) refl
+      pub made_short : room < width_record_size * length (font_table scale past) → table_made pk scale room ≡ refused 17 0
+      made_short h = rw (right, judged, lt-ltb room (width_record_size * length (font_table scale past)) h) refl
 
-      pub made-given : width_record_size * length (font_table scale past) ≤ room → table_made pk scale room ≡ given (font_table scale past)
-      made-given h = rw (right, judged, le-ltb room (width_record_size * length (font_table scale past)) h) refl
+      pub made_given : width_record_size * length (font_table scale past) ≤ room → table_made pk scale room ≡ given (font_table scale past)
+      made_given h = rw (right, judged, le-ltb room (width_record_size * length (font_table scale past)) h) refl
 
 -- ---- what the scan tells
 
 module _ (pk : List ℕ) (r : Scanned) (says : said r ≡ noted pk) where
-  pub told-refused : 0 < r.number → font_judged pk ≡ refused r.number r.place
-  told-refused some = go (font_judged pk) refl
+  pub told_refused : 0 < r.number → font_judged pk ≡ refused r.number r.place
+  told_refused some = go (font_judged pk) refl
     where
       differs : eqb r.number 0 ≡ false
       differs = ne_eqb r.number 0 (λ e. omega (arith, e, some))
@@ -64,10 +64,10 @@ module _ (pk : List ℕ) (r : Scanned) (says : said r ≡ noted pk) where
     pub past : List Command
     pub judged : font_judged pk ≡ given past
     pub places_are : r.places ≡ places past
-    pub packets-are : r.packets ≡ packets past
+    pub packets_are : r.packets ≡ packets past
 
-  pub told-noted : r.number ≡ 0 → Told
-  told-noted none = go (font_judged pk) refl
+  pub told_noted : r.number ≡ 0 → Told
+  told_noted none = go (font_judged pk) refl
     where
       zero_is : eqb r.number 0 ≡ true
       zero_is = eq-eqb r.number 0 none
@@ -83,8 +83,8 @@ module _ (pk : List ℕ) (r : Scanned) (says : said r ≡ noted pk) where
       go (given past) e =
           let same : ◌≡◌ {A = Answer Note} (given (record { places = r.places; packets = r.packets })) (given (note_of past)) =
           heard ∙ ap (λ (a : Answer (List Command)). and_then a (λ past. given (note_of past))) e in
-          let notes : record { places = r.places; packets = r.packets } ≡ note_of past = given-same _ (note_of past) same in
-          record { past = past; judged = e; places_are = ap (λ (n : Note). n.places) notes; packets-are = ap (λ (n : Note). n.packets) notes }
+          let notes : record { places = r.places; packets = r.packets } ≡ note_of past = given_same _ (note_of past) same in
+          record { past = past; judged = e; places_are = ap (λ (n : Note). n.places) notes; packets_are = ap (λ (n : Note). n.packets) notes }
 
 -- as many records as packets
 pub records_are : (pk : List ℕ) (scale : ℕ) (past : List Command) → font_judged pk ≡ given past → length (font_table scale past) ≡ packets past
@@ -102,7 +102,7 @@ pub made_within : (answer : Answer (List Entry)) (records : ℕ) (entry exit : L
     → width_record_size * records ≤ length entry
 made_within (refused number place) records entry exit said area same = absurd (let z : ◌≡◌ {A = ℕ} 0 1 = cc in omega arith)
 made_within (given entries) records entry exit said area same =
-    let count : records ≡ length entries = given-same records (length entries) said in
+    let count : records ≡ length entries = given_same records (length entries) said in
     omega (
       arith,
       count,

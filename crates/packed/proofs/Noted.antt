@@ -16,9 +16,9 @@ use Rattle.packed.specs.Rules.{is_packet_for, met, font_fault, places}
 use Rattle.packed.specs.Judged.{taken, font_judged}
 use Rattle.packed.specs.Table.{packets_for}
 use Rattle.packed.specs.Noting.{IsPacket, NotedAt, none, one}
-use Rattle.packed.proofs.Forms.{fixed-packet}
+use Rattle.packed.proofs.Forms.{fixed_packet}
 use Rattle.packed.proofs.Says.{clash}
-use Rattle.packed.proofs.Faults.{RightPacket, packet_right, counted-taken, code-taken, width-taken, escapement-taken}
+use Rattle.packed.proofs.Faults.{RightPacket, packet_right, counted_taken, code_taken, width_taken, escapement_taken}
 use Rattle.packed.proofs.Standing.{Standing, start, more, judged_stands}
 
 -- ---- where a packet stands
@@ -55,15 +55,15 @@ blank code = go (ltb code 256) refl
 
 module _ (pk : List ℕ) where
   -- one packet more
-  marked-packet : (past : List Command) (c : Command) → RightPacket past c → is_packet c.opcode ≡ true → (code : ℕ)
+  marked_packet : (past : List Command) (c : Command) → RightPacket past c → is_packet c.opcode ≡ true → (code : ℕ)
       → met code past ≡ ltb 0 (get_or (places past) code 0) → (b : Bool) → eqb (code_in c.opcode c.params) code ≡ b
       → (b || met code past) ≡ ltb 0 (get_or (set (places past) (code_in c.opcode c.params) (place past)) code 0)
-  marked-packet past c right flag code before true e =
+  marked_packet past c right flag code before true e =
       let same : code_in c.opcode c.params ≡ code = eqb-true (code_in c.opcode c.params) code e in
       let value : get_or (set (places past) (code_in c.opcode c.params) (place past)) code 0 ≡ place past =
       ap (λ (n : ℕ). get_or (set (places past) n (place past)) code 0) same ∙ get_or-set_same (places past) code (place past) 0 (omega (arith, places_length past, right.code_small)) in
       sym (lt-ltb 0 (get_or (set (places past) (code_in c.opcode c.params) (place past)) code 0) (omega (arith, value, packet_later past c right flag)))
-  marked-packet past c right flag code before false e =
+  marked_packet past c right flag code before false e =
       let differs = eqb-false (code_in c.opcode c.params) code e in
       before ∙ ap (λ (n : ℕ). ltb 0 n) (sym (get_or-set_other (places past) (code_in c.opcode c.params) code (place past) 0 (λ f. differs (sym f))))
 
@@ -75,7 +75,7 @@ module _ (pk : List ℕ) where
           → ((b && eqb (code_in opcode (take (param_bytes opcode rest) rest)) code) || met code past)
           ≡ ltb 0 (get_or (cond b (set (places past) (code_in opcode (take (param_bytes opcode rest) rest)) (place past)) (places past)) code 0)
       go true e before =
-          marked-packet past (taken opcode rest) (packet_right past (taken opcode rest) right e) e code before (eqb (code_in opcode (take (param_bytes opcode rest) rest)) code) refl
+          marked_packet past (taken opcode rest) (packet_right past (taken opcode rest) right e) e code before (eqb (code_in opcode (take (param_bytes opcode rest) rest)) code) refl
       go false e before = before
 
 -- ---- what the note says of a code
@@ -91,8 +91,8 @@ unmet code (c ∷ past) e = go (is_packet_for code c) refl e (unmet code past)
     go false f h before = before h
 
 module _ (pk : List ℕ) (past : List Command) (opcode : ℕ) (rest : List ℕ) (here : drop (place past) pk ≡ opcode ∷ rest) (fits : param_bytes opcode rest ≤ length rest) where
-  rest-is : drop (place past + 1) pk ≡ rest
-  rest-is = sym (drop-drop 1 (place past) pk) ∙ ap (drop 1) here
+  rest_is : drop (place past + 1) pk ≡ rest
+  rest_is = sym (drop-drop 1 (place past) pk) ∙ ap (drop 1) here
 
   flag_at : get_or pk (place past) 0 ≡ opcode
   flag_at = ap (λ (n : ℕ). get_or pk n 0) (omega arith) ∙ sym (get_or-drop (place past) pk 0 0) ∙ ap (λ (l : List ℕ). get_or l 0 0) here
@@ -101,20 +101,20 @@ module _ (pk : List ℕ) (past : List Command) (opcode : ℕ) (rest : List ℕ) 
   long = omega (arith, ap length here, length-drop (place past) pk)
 
   -- a packet that breaks no rule is the one at its place
-  packet-here : RightPacket past (taken opcode rest) → is_packet opcode ≡ true → IsPacket pk (code_in opcode (take (param_bytes opcode rest) rest)) (place past) (taken opcode rest)
-  packet-here right flag =
+  packet_here : RightPacket past (taken opcode rest) → is_packet opcode ≡ true → IsPacket pk (code_in opcode (take (param_bytes opcode rest) rest)) (place past) (taken opcode rest)
+  packet_here right flag =
       let below : opcode < 240 = ltb-true opcode 240 flag in
-      let room : (form_of opcode).fields ≤ counted_bytes opcode rest = omega (arith, right.room, counted-taken opcode rest fits) in
+      let room : (form_of opcode).fields ≤ counted_bytes opcode rest = omega (arith, right.room, counted_taken opcode rest fits) in
       record {
         later = packet_later past (taken opcode rest) right flag;
         inside = omega (arith, long);
         flag = rw flag_at flag;
-        stands = rw (flag_at, rest-is) refl;
-        room = rw flag_at (omega (arith, long, fixed-packet opcode below));
+        stands = rw (flag_at, rest_is) refl;
+        room = rw flag_at (omega (arith, long, fixed_packet opcode below));
         code_is = refl;
-        code_there = rw (flag_at, rest-is) (code-taken opcode rest fits below room);
-        width_there = rw (flag_at, rest-is) (width-taken opcode rest fits below room);
-        escapement_there = rw (flag_at, rest-is) (escapement-taken opcode rest fits below room);
+        code_there = rw (flag_at, rest_is) (code_taken opcode rest fits below room);
+        width_there = rw (flag_at, rest_is) (width_taken opcode rest fits below room);
+        escapement_there = rw (flag_at, rest_is) (escapement_taken opcode rest fits below room);
       }
 
   abbrev next : List Command
@@ -126,9 +126,9 @@ module _ (pk : List ℕ) (past : List Command) (opcode : ℕ) (rest : List ℕ) 
   unchanged code same-packets same_place (one c only is) = one c (same-packets ∙ only) (subst (λ (p : ℕ). IsPacket pk code p c) (sym same_place) is)
 
   -- one packet more
-  noted-packet : (code : ℕ) → RightPacket past (taken opcode rest) → is_packet opcode ≡ true → NotedAt pk past code → (b : Bool)
+  noted_packet : (code : ℕ) → RightPacket past (taken opcode rest) → is_packet opcode ≡ true → NotedAt pk past code → (b : Bool)
       → eqb (code_in opcode (take (param_bytes opcode rest) rest)) code ≡ b → NotedAt pk next code
-  noted-packet code right flag before true e =
+  noted_packet code right flag before true e =
       let k = code_in opcode (take (param_bytes opcode rest) rest) in
       let same : k ≡ code = eqb-true k code e in
       let empty : packets_for code past ≡ [] = unmet code past (ap (λ (n : ℕ). met n past) (sym same) ∙ right.code_new) in
@@ -140,8 +140,8 @@ module _ (pk : List ℕ) (past : List Command) (opcode : ℕ) (rest : List ℕ) 
       one
       (taken opcode rest)
       only
-      (subst (λ (p : ℕ). IsPacket pk code p (taken opcode rest)) (sym value) (subst (λ (n : ℕ). IsPacket pk n (place past) (taken opcode rest)) same (packet-here right flag)))
-  noted-packet code right flag before false e =
+      (subst (λ (p : ℕ). IsPacket pk code p (taken opcode rest)) (sym value) (subst (λ (n : ℕ). IsPacket pk n (place past) (taken opcode rest)) same (packet_here right flag)))
+  noted_packet code right flag before false e =
       let k = code_in opcode (take (param_bytes opcode rest) rest) in
       let differs = eqb-false k code e in
       let value : get_or (places next) code 0 ≡ get_or (places past) code 0 =
@@ -150,7 +150,7 @@ module _ (pk : List ℕ) (past : List Command) (opcode : ℕ) (rest : List ℕ) 
 
   pub noted_more : (code : ℕ) → font_fault past (taken opcode rest) ≡ 0 → NotedAt pk past code → (b : Bool) → is_packet opcode ≡ b → NotedAt pk next code
   noted_more code right before true e =
-      noted-packet code (packet_right past (taken opcode rest) right e) e before (eqb (code_in opcode (take (param_bytes opcode rest) rest)) code) refl
+      noted_packet code (packet_right past (taken opcode rest) right e) e before (eqb (code_in opcode (take (param_bytes opcode rest) rest)) code) refl
   noted_more code right before false e = unchanged code (rw e refl) (rw e refl) before
 
 pub noted_at : (pk : List ℕ) (past : List Command) → Standing pk past → (code : ℕ) → NotedAt pk past code

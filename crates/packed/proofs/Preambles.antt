@@ -14,9 +14,9 @@ use Rattle.packed.specs.Commands.{is_no_op, is_preamble, param_bytes}
 use Rattle.packed.specs.Rules.{ended, misplaced_after, font_fault}
 use Rattle.packed.specs.Judged.{taken}
 use Rattle.packed.specs.Table.{checksum_in, font_checksum}
-use Rattle.packed.proofs.Forms.{fixed-preamble, counted-preamble}
+use Rattle.packed.proofs.Forms.{fixed_preamble, counted_preamble}
 use Rattle.packed.proofs.Says.{clash, not_true}
-use Rattle.packed.proofs.Faults.{taken-length}
+use Rattle.packed.proofs.Faults.{taken_length}
 use Rattle.packed.proofs.Standing.{Standing, more}
 
 -- ---- where the preamble may be
@@ -58,33 +58,33 @@ module _ (pk : List ℕ) (opcode : ℕ) (rest : List ℕ) (here : drop 0 pk ≡ 
   split : params ++ drop (param_bytes opcode rest) rest ≡ rest
   split = take-append-drop (param_bytes opcode rest) rest
 
-  rest-is : drop 1 pk ≡ rest
-  rest-is = ap (drop 1) here
+  rest_is : drop 1 pk ≡ rest
+  rest_is = ap (drop 1) here
 
   comment : param_bytes opcode rest ≡ 18 + unsigned_at rest 1 1
-  comment = omega (arith, fixed-preamble opcode first, counted-preamble opcode rest first)
+  comment = omega (arith, fixed_preamble opcode first, counted_preamble opcode rest first)
 
-  same-comment : unsigned_at params 1 1 ≡ unsigned_at rest 1 1
-  same-comment = sym (unsigned_front params (drop (param_bytes opcode rest) rest) 1 1 (omega (arith, taken-length opcode rest fits, comment))) ∙ ap (λ (l : List ℕ). unsigned_at l 1 1) split
+  same_comment : unsigned_at params 1 1 ≡ unsigned_at rest 1 1
+  same_comment = sym (unsigned_front params (drop (param_bytes opcode rest) rest) 1 1 (omega (arith, taken_length opcode rest fits, comment))) ∙ ap (λ (l : List ℕ). unsigned_at l 1 1) split
 
   same_sum : checksum_in params ≡ checksum_in rest
   same_sum =
-      ap (λ (n : ℕ). unsigned_at params (6 + n) 4) same-comment
-      ∙ sym (unsigned_front params (drop (param_bytes opcode rest) rest) (6 + unsigned_at rest 1 1) 4 (omega (arith, taken-length opcode rest fits, comment)))
+      ap (λ (n : ℕ). unsigned_at params (6 + n) 4) same_comment
+      ∙ sym (unsigned_front params (drop (param_bytes opcode rest) rest) (6 + unsigned_at rest 1 1) 4 (omega (arith, taken_length opcode rest fits, comment)))
       ∙ ap (λ (l : List ℕ). unsigned_at l (6 + unsigned_at rest 1 1) 4) split
 
-  pub preamble-first : Preambled pk (checksum_in params)
-  preamble-first =
-      let byte : unsigned_at pk 2 1 ≡ unsigned_at rest 1 1 = sym (unsigned_drop pk 1 1 1) ∙ ap (λ (l : List ℕ). unsigned_at l 1 1) rest-is in
+  pub preamble_first : Preambled pk (checksum_in params)
+  preamble_first =
+      let byte : unsigned_at pk 2 1 ≡ unsigned_at rest 1 1 = sym (unsigned_drop pk 1 1 1) ∙ ap (λ (l : List ℕ). unsigned_at l 1 1) rest_is in
       record {
         there = omega (arith, byte, comment, ap length here);
-        sum = same_sum ∙ ap checksum_in (sym rest-is);
+        sum = same_sum ∙ ap checksum_in (sym rest_is);
       }
 
 pub preambled : (pk : List ℕ) (c : Command) (past : List Command) → Standing pk (c ∷ past) → Preambled pk (font_checksum (c ∷ past))
 preambled pk c [] (more opcode rest stand here fits right) =
     let first : opcode ≡ 247 = first_preamble (taken opcode rest) (in_place [] (taken opcode rest) right) in
-    rw (eq-eqb opcode 247 first) (preamble-first pk opcode rest here fits first)
+    rw (eq-eqb opcode 247 first) (preamble_first pk opcode rest here fits first)
 preambled pk c (before ∷ past) (more opcode rest stand here fits right) =
     let other : opcode < 247 = later_other before past (taken opcode rest) (in_place (before ∷ past) (taken opcode rest) right) in
     rw (ne_eqb opcode 247 (λ e. omega (arith, e))) (preambled pk before past stand)

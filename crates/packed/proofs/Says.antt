@@ -38,16 +38,16 @@ module _ (noted : List ℕ) (flag : ℕ) (rest : List ℕ) (from next : ℕ) whe
   abbrev counted : ℕ
   counted = next - (from + (form_of flag).length + (form_of flag).code)
 
-  pub says-short : counted < (form_of flag).fields → (code : ℕ) → PacketSays noted flag rest from next (record { number = 20; next = next; code = code })
-  says-short h code = (rw (lt-ltb counted (form_of flag).fields h) refl, refl, λ e. absurd (omega arith))
+  pub says_short : counted < (form_of flag).fields → (code : ℕ) → PacketSays noted flag rest from next (record { number = 20; next = next; code = code })
+  says_short h code = (rw (lt-ltb counted (form_of flag).fields h) refl, refl, λ e. absurd (omega arith))
 
   module _ (room : (form_of flag).fields ≤ counted) (p : Packet) (is : PacketIs flag rest p) where
-    pub says-wrong : wrong_fields noted p ≡ true → (code : ℕ) → PacketSays noted flag rest from next (record { number = 21; next = next; code = code })
-    says-wrong w code =
+    pub says_wrong : wrong_fields noted p ≡ true → (code : ℕ) → PacketSays noted flag rest from next (record { number = 21; next = next; code = code })
+    says_wrong w code =
         (rw (le-ltb counted (form_of flag).fields room, sym (wrong_same noted flag rest p is) ∙ w) refl, refl, λ e. absurd (omega arith))
 
-    pub says-right : wrong_fields noted p ≡ false → PacketSays noted flag rest from next (record { number = 0; next = next; code = p.code })
-    says-right w = (
+    pub says_right : wrong_fields noted p ≡ false → PacketSays noted flag rest from next (record { number = 0; next = next; code = p.code })
+    says_right w = (
       rw (le-ltb counted (form_of flag).fields room, sym (wrong_same noted flag rest p is) ∙ w) refl,
       refl,
       λ e. (is.code_is, code_small p.code _ w),
@@ -56,8 +56,8 @@ module _ (noted : List ℕ) (flag : ℕ) (rest : List ℕ) (from next : ℕ) whe
 -- ---- a command
 
 module _ (opcode : ℕ) (rest : List ℕ) (at : ℕ) (ended : Bool) (noted : List ℕ) (whole : ℕ) where
-  pub found-cut : length rest < param_bytes opcode rest → (next code : ℕ) → FoundOf opcode rest at ended noted whole (record { number = 18; next = next; code = code })
-  found-cut h next code =
+  pub found_cut : length rest < param_bytes opcode rest → (next code : ℕ) → FoundOf opcode rest at ended noted whole (record { number = 18; next = next; code = code })
+  found_cut h next code =
       record {
         lowest = rw (lt-ltb (length rest) (param_bytes opcode rest) h) refl;
         next = λ e. absurd (omega arith);
@@ -66,8 +66,8 @@ module _ (opcode : ℕ) (rest : List ℕ) (at : ℕ) (ended : Bool) (noted : Lis
       }
 
   module _ (next : ℕ) (ends : next ≡ at + 1 + param_bytes opcode rest) (inside : next ≤ whole) (fits : param_bytes opcode rest ≤ length rest) where
-    pub found-misplaced : misplaced_at at ended opcode rest ≡ true → (code : ℕ) → FoundOf opcode rest at ended noted whole (record { number = 19; next = next; code = code })
-    found-misplaced e code =
+    pub found_misplaced : misplaced_at at ended opcode rest ≡ true → (code : ℕ) → FoundOf opcode rest at ended noted whole (record { number = 19; next = next; code = code })
+    found_misplaced e code =
         record {
           lowest = rw (le-ltb (length rest) (param_bytes opcode rest) fits, e) refl;
           next = λ z. absurd (omega arith);
@@ -75,8 +75,8 @@ module _ (opcode : ℕ) (rest : List ℕ) (at : ℕ) (ended : Bool) (noted : Lis
           other = λ z. absurd (omega arith);
         }
 
-    pub found-other : misplaced_at at ended opcode rest ≡ false → 240 ≤ opcode → FoundOf opcode rest at ended noted whole (record { number = 0; next = next; code = 256 })
-    found-other e h =
+    pub found_other : misplaced_at at ended opcode rest ≡ false → 240 ≤ opcode → FoundOf opcode rest at ended noted whole (record { number = 0; next = next; code = 256 })
+    found_other e h =
         record {
           lowest = rw (le-ltb (length rest) (param_bytes opcode rest) fits, e, le-ltb opcode 240 h) refl;
           next = λ z. (ends, inside);
@@ -84,10 +84,10 @@ module _ (opcode : ℕ) (rest : List ℕ) (at : ℕ) (ended : Bool) (noted : Lis
           other = λ z l. refl;
         }
 
-    pub found-packet : misplaced_at at ended opcode rest ≡ false → opcode < 240 → (from : ℕ)
+    pub found_packet : misplaced_at at ended opcode rest ≡ false → opcode < 240 → (from : ℕ)
         → next - (from + (form_of opcode).length + (form_of opcode).code) ≡ counted_bytes opcode rest → (r : Found) → PacketSays noted opcode rest from next r
         → FoundOf opcode rest at ended noted whole r
-    found-packet e h from counts r says =
+    found_packet e h from counts r says =
         let due : packet_number noted opcode rest (counted_bytes opcode rest) ≡ cond (ltb (length rest) (param_bytes opcode rest)) 18 (number_at at ended noted opcode rest) =
         rw (le-ltb (length rest) (param_bytes opcode rest) fits, e, lt-ltb opcode 240 h) refl in
         record {

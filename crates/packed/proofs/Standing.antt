@@ -9,13 +9,13 @@ use lib.ListN.{length, drop}
 use lib.Seq.{drop-drop}
 use borrow.Author.Tests.{ltb-false}
 use Rattle.refusals.specs.Answer.{given}
-use Rattle.refusals.proofs.Answer.{given-not-refused, given-next, given-same}
+use Rattle.refusals.proofs.Answer.{given_not_refused, given_next, given_same}
 use Rattle.commands.specs.Commands.{Command, place}
 use Rattle.packed.specs.Commands.{param_bytes}
 use Rattle.packed.specs.Rules.{ended, font_fault}
 use Rattle.packed.specs.Judged.{taken, font_judged_from, font_judged}
 use Rattle.packed.proofs.Says.{not_true}
-use Rattle.packed.proofs.Faults.{taken-length}
+use Rattle.packed.proofs.Faults.{taken_length}
 
 -- the commands of past, the newest first, stand in the file from its start on
 pub data Standing (pk : List ℕ) : List Command → Type 0 where
@@ -34,18 +34,18 @@ pub behind : (pk : List ℕ) (past : List Command) (opcode : ℕ) (rest : List �
     → drop (place (taken opcode rest ∷ past)) pk ≡ drop (param_bytes opcode rest) rest
 behind pk past opcode rest here fits =
     let size = param_bytes opcode rest in
-    let count : place (taken opcode rest ∷ past) ≡ place past + suc size = omega (arith, taken-length opcode rest fits) in
+    let count : place (taken opcode rest ∷ past) ≡ place past + suc size = omega (arith, taken_length opcode rest fits) in
     ap (λ (n : ℕ). drop n pk) count ∙ sym (drop-drop (suc size) (place past) pk) ∙ ap (drop (suc size)) here
 
 pub never : (past : List Command) (bytes : List ℕ) (all : List Command) → font_judged_from zero past bytes ≡ given all → ⊥
 unfolding font_judged_from
-never past bytes all e = given-not-refused all 18 (place past) (sym e)
+never past bytes all e = given_not_refused all 18 (place past) (sym e)
 
 pub at_end : (left : ℕ) (past all : List Command) → font_judged_from (suc left) past [] ≡ given all → (ended past ≡ true) × (past ≡ all)
 unfolding font_judged_from
 at_end left past all e =
-    let next = given-next (not (ended past)) 18 (place past) (given past) all e in
-    (not_true (ended past) next.0, given-same past all next.1)
+    let next = given_next (not (ended past)) 18 (place past) (given past) all e in
+    (not_true (ended past) next.0, given_same past all next.1)
 
 -- one command more: its bytes are there, it earns no refusal, and the rest is judged
 pub record Goes (left : ℕ) (past : List Command) (opcode : ℕ) (rest : List ℕ) (all : List Command) : Type 0 where
@@ -57,8 +57,8 @@ pub goes_on : (left : ℕ) (past : List Command) (opcode : ℕ) (rest : List ℕ
     → Goes left past opcode rest all
 unfolding font_judged_from
 goes_on left past opcode rest all e =
-    let cut = given-next (ltb (length rest) (param_bytes opcode rest)) 18 (place past) _ all e in
-    let due = given-next (ltb 0 (font_fault past (taken opcode rest))) (font_fault past (taken opcode rest)) (place past) _ all cut.1 in
+    let cut = given_next (ltb (length rest) (param_bytes opcode rest)) 18 (place past) _ all e in
+    let due = given_next (ltb 0 (font_fault past (taken opcode rest))) (font_fault past (taken opcode rest)) (place past) _ all cut.1 in
     record {
       fits = ltb-false (length rest) (param_bytes opcode rest) cut.0;
       right = omega (arith, ltb-false 0 (font_fault past (taken opcode rest)) due.0);

@@ -7,7 +7,7 @@ use native.Mathlib.Omega.{arith}
 use lib.Dec.{ltb}
 use lib.ListN.{length, take, drop, get_or, length-append}
 use Rattle.refusals.specs.Answer.{given}
-use Rattle.refusals.proofs.Answer.{given-same}
+use Rattle.refusals.proofs.Answer.{given_same}
 use Rattle.commands.specs.Commands.{Command}
 use Rattle.widths.specs.Table.{width_record_size}
 use Rattle.packed.specs.Rules.{ended, places}
@@ -56,8 +56,8 @@ module _ (pk : List ℕ) (scale : ℕ) (noted entry : List ℕ) (checksum : ℕ)
   stand : Standing pk past
   stand = (judged_stands pk past w.can.judged).stand
 
-  pub writing-length : length out ≡ length entry
-  writing-length =
+  pub writing_length : length out ≡ length entry
+  writing_length =
       let later = map make (packets_from (256 - code) code past) in
       let within : width_record_size * length w.below.done ≤ length entry = omega (arith, ap length w.below.all, length-append w.below.done later, enough) in
       ap length w.below.area ∙ area_length w.below.done entry within
@@ -76,11 +76,11 @@ module _ (pk : List ℕ) (scale : ℕ) (noted entry : List ℕ) (checksum : ℕ)
             record {
               inside = is.inside;
               fields_there = is.room;
-              space = omega (arith, w.below.ends, at_least, ap length only, enough, writing-length);
+              space = omega (arith, w.below.ends, at_least, ap length only, enough, writing_length);
             }
             )
 
-    pub writing-on : Writing
+    pub writing_on : Writing
         pk
         scale
         noted
@@ -89,16 +89,16 @@ module _ (pk : List ℕ) (scale : ℕ) (noted entry : List ℕ) (checksum : ℕ)
         (cond (ltb 0 (get_or noted code 0)) (take written out ++ entry_bytes (entry_at checksum scale pk (get_or noted code 0)) ++ drop (written + width_record_size) out) out)
         (cond (ltb 0 (get_or noted code 0)) (written + width_record_size) written)
         (code + 1)
-    writing-on =
+    writing_on =
         record {
           can = w.can;
           sum = w.sum;
           below = rw (at_is code) (below_next scale checksum past pk entry code written out w.below more (noted_at pk past stand code));
         }
 
-  pub writing-end : 256 ≤ code → WrittenBy pk scale entry out
-  writing-end h other judged =
-      let same : past ≡ other = given-same past other (sym w.can.judged ∙ judged) in
+  pub writing_end : 256 ≤ code → WrittenBy pk scale entry out
+  writing_end h other judged =
+      let same : past ≡ other = given_same past other (sym w.can.judged ∙ judged) in
       below_all scale checksum past entry code written out w.below h
       ∙ ap (λ (n : ℕ). area_with (map (entry_of n scale) (packets_from 256 0 past)) entry) w.sum
       ∙ ap (λ (l : List Command). area_with (font_table scale l) entry) same

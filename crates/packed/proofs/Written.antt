@@ -102,8 +102,8 @@ module _ (scale checksum : ℕ) (past : List Command) (pk entry : List ℕ) (cod
   at = get_or (places past) code 0
 
   -- the packets for the code are written next
-  all-next : b.done ++ (map make (packets_for code past) ++ map make (packets_from (256 - (code + 1)) (code + 1) past)) ≡ map make (packets_from 256 0 past)
-  all-next =
+  all_next : b.done ++ (map make (packets_for code past) ++ map make (packets_from (256 - (code + 1)) (code + 1) past)) ≡ map make (packets_from 256 0 past)
+  all_next =
       ap (λ (l : List Entry). b.done ++ l) (sym (ap (map make) (from_step code past more) ∙ map-append make (packets_for code past) (packets_from (256 - (code + 1)) (code + 1) past)))
       ∙ b.all
 
@@ -113,7 +113,7 @@ module _ (scale checksum : ℕ) (past : List Command) (pk entry : List ℕ) (cod
       let later = map make (packets_from (256 - (code + 1)) (code + 1) past) in
       omega (
         arith,
-        ap length all-next,
+        ap length all_next,
         length-append b.done (map make (packets_for code past) ++ later),
         length-append (map make (packets_for code past)) later,
         length_map make (packets_for code past),
@@ -132,7 +132,7 @@ module _ (scale checksum : ℕ) (past : List Command) (pk entry : List ℕ) (cod
       rw (le-ltb 0 at (omega (arith, blank))) (
       record {
         done = b.done;
-        all = ap (λ (l : List Command). b.done ++ (map make l ++ map make (packets_from (256 - (code + 1)) (code + 1) past))) (sym empty) ∙ all-next;
+        all = ap (λ (l : List Command). b.done ++ (map make l ++ map make (packets_from (256 - (code + 1)) (code + 1) past))) (sym empty) ∙ all_next;
         ends = b.ends;
         area = b.area;
         small = omega arith;
@@ -144,7 +144,7 @@ module _ (scale checksum : ℕ) (past : List Command) (pk entry : List ℕ) (cod
       rw (lt-ltb 0 at is.later) (
       record {
         done = next;
-        all = append_assoc b.done (make c ∷ []) later ∙ ap (λ (l : List Command). b.done ++ (map make l ++ later)) (sym only) ∙ all-next;
+        all = append_assoc b.done (make c ∷ []) later ∙ ap (λ (l : List Command). b.done ++ (map make l ++ later)) (sym only) ∙ all_next;
         ends = omega (arith, b.ends, length-append b.done (make c ∷ []));
         area =
             ap₂ (λ (l : List ℕ) (e : Entry). take written l ++ entry_bytes e ++ drop (written + width_record_size) l) b.area (same_entry checksum scale code at pk c is)

@@ -146,10 +146,10 @@ module _ (setting : Setting) where
   Plain one other cs = (s : State) → placed_counts (by one cs s) ≡ placed_counts (by other cs (plain_state s))
 
   -- so do they after an outcome
-  on-plain : (one other : Ruler) (rest : List Located) → Plain one other rest → (at : ℕ) (o : Outcome)
+  on_plain : (one other : Ruler) (rest : List Located) → Plain one other rest → (at : ℕ) (o : Outcome)
       → placed_counts (on_outcome at o (by one rest)) ≡ placed_counts (on_outcome at (plain_outcome o) (by other rest))
-  on-plain one other rest plain at leaves_range = refl
-  on-plain one other rest plain at (continues s added) =
+  on_plain one other rest plain at leaves_range = refl
+  on_plain one other rest plain at (continues s added) =
       then_counted added (by one rest s)
       ∙ count_plain added (placed_counts (by one rest s))
       ∙ ap (λ (x : Answer Counts). and_then x (λ n. given (count_noted n (plain_added added)))) (plain s)
@@ -160,9 +160,9 @@ module _ (setting : Setting) where
   unfolding placing after
   all_plain one other [] s = refl
   all_plain one other (c ∷ rest) s =
-      on-plain one other rest (all_plain one other rest) c.at (after (by_ruler one setting) s c.command)
+      on_plain one other rest (all_plain one other rest) c.at (after (by_ruler one setting) s c.command)
       ∙ ap (λ (o : Outcome). placed_counts (on_outcome c.at o (by other rest))) (by_kind one other setting s c.command (kind_of_command c.command))
-      ∙ sym (on-plain other other rest (all_plain other other rest) c.at (after (by_ruler other setting) (plain_state s) c.command))
+      ∙ sym (on_plain other other rest (all_plain other other rest) c.at (after (by_ruler other setting) (plain_state s) c.command))
 
 -- a page's counts, and its refusal, are the same by every ruler
 pub any_ruler : (one other : Ruler) (setting : Setting) (s : State) (cs : List Located)

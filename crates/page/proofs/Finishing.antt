@@ -17,13 +17,13 @@ ended area r m s = through area (record { records = r; missing = m; specials = s
 
 module _ (out : List ℕ) (counts : Counts) where
   -- what a command adds is noted, then what follows is finished: the same as to finish both
-  pub finish-adding : (added : Added) (answer : Answer Contents)
+  pub finish_adding : (added : Added) (answer : Answer Contents)
       → finish out counts (and_then answer (λ p. given (adding added p))) ≡ finish (area_noted out counts.records added) (count_noted counts added) answer
-  finish-adding added (refused number place) = refl
-  finish-adding nothing (given p) = refl
-  finish-adding (placed r) (given p) =
+  finish_adding added (refused number place) = refl
+  finish_adding nothing (given p) = refl
+  finish_adding (placed r) (given p) =
       ap (λ (n : ℕ). ended (stored out counts.records (r ∷ p.placements)) n (counts.missing + p.missing_characters) (counts.specials + p.specials)) (omega arith)
-  finish-adding missing (given p) =
+  finish_adding missing (given p) =
       ap (λ (n : ℕ). ended (stored out counts.records p.placements) (counts.records + length p.placements) n (counts.specials + p.specials)) (omega arith)
-  finish-adding special (given p) =
+  finish_adding special (given p) =
       ap (λ (n : ℕ). ended (stored out counts.records p.placements) (counts.records + length p.placements) (counts.missing + p.missing_characters) n) (omega arith)

@@ -55,16 +55,16 @@ module _ (past : List Command) (c : Command) (allowed : Allowed past c) where
   so = does_lawfully does lawful all_lawful allowed
 
   -- only bop begins a page, only eop ends one
-  page-after : is_on_page (stage (c ∷ past)) ≡ cond (is_a Bop c) true (cond (is_a Eop c) false (is_on_page (stage past)))
-  page-after = ap (λ (a : Bool × Bool × Bool). a.0) so
+  page_after : is_on_page (stage (c ∷ past)) ≡ cond (is_a Bop c) true (cond (is_a Eop c) false (is_on_page (stage past)))
+  page_after = ap (λ (a : Bool × Bool × Bool). a.0) so
 
   -- bop stands outside pages
-  bop-outside : is_a Bop c ≡ true → is_on_page (stage past) ≡ false
-  bop-outside e = rw e at (ap (λ (a : Bool × Bool × Bool). a.1) so)
+  bop_outside : is_a Bop c ≡ true → is_on_page (stage past) ≡ false
+  bop_outside e = rw e at (ap (λ (a : Bool × Bool × Bool). a.1) so)
 
   -- outside pages the depth does not change
-  depth-stays : is_on_page (stage past) ≡ false → depth (c ∷ past) ≡ depth past
-  depth-stays e = by (is_a Push c) (is_a Pop c) (rw e at (ap (λ (a : Bool × Bool × Bool). a.2) so))
+  depth_stays : is_on_page (stage past) ≡ false → depth (c ∷ past) ≡ depth past
+  depth_stays e = by (is_a Push c) (is_a Pop c) (rw e at (ap (λ (a : Bool × Bool × Bool). a.2) so))
     where
       by : (push pop : Bool) → (push || pop) ≡ false → cond push (depth past + 1) (cond pop (depth past - 1) (depth past)) ≡ depth past
       by true pop e = absurd (true≢false e)
@@ -88,9 +88,9 @@ module _ (past : List Command) (c : Command) (allowed : Allowed past c) where
   effect_of = by (is_a Bop c) refl (is_a Eop c) refl
     where
       by : (bop : Bool) → is_a Bop c ≡ bop → (eop : Bool) → is_a Eop c ≡ eop → Effect
-      by true b eop e = begins (is_kind (kind_of_command c) Bop b) (bop-outside b)
+      by true b eop e = begins (is_kind (kind_of_command c) Bop b) (bop_outside b)
       by false b true e = closes (is_kind (kind_of_command c) Eop e) (eop_depth e)
-      by false b false e = stays b e (page-after ∙ rw (b, e))
+      by false b false e = stays b e (page_after ∙ rw (b, e))
 
 -- outside pages the depth is 0
 depth_outside : (file : List ℕ) (past : List Command) → Trace file past → is_on_page (stage past) ≡ false → depth past ≡ 0
@@ -100,7 +100,7 @@ depth_outside file past (more {past = before} c rest t f allowed) e = by (effect
     by : Effect before c allowed → (is_on_page (stage before) ≡ false → depth before ≡ 0) → depth (c ∷ before) ≡ 0
     by (begins k out) earlier = absurd (true≢false (rw k at e))
     by (closes k zero-deep) earlier = rw k zero-deep
-    by (stays b p same) earlier = depth-stays before c allowed (sym same ∙ e) ∙ earlier (sym same ∙ e)
+    by (stays b p same) earlier = depth_stays before c allowed (sym same ∙ e) ∙ earlier (sym same ∙ e)
 
 -- ---- the commands of a page that has begun
 
@@ -141,7 +141,7 @@ runs_open file page past (more {past = before} c rest t f allowed) o = by (effec
         let this : eqb (pages before + 1) page ≡ true = rw k at o in
         let none_yet : page_of page before ≡ [] = page_empty page before (omega (arith, eqb-true (pages before + 1) page this)) in
         let size : length c.params ≡ 44 = whole_plain c (front_sound (drop (place before) file) c rest f).0 k refl in
-        let deep : depth (c ∷ before) ≡ 0 = depth-stays before c allowed out ∙ depth_outside file before t out in
+        let deep : depth (c ∷ before) ≡ 0 = depth_stays before c allowed out ∙ depth_outside file before t out in
         rw (k, this, out, none_yet) (rw (size, deep) at runs)
     by (closes k zero-deep) earlier after runs = absurd (false≢true (rw k at o))
     by (stays b p same) earlier after runs =

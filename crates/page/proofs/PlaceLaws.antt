@@ -10,7 +10,7 @@ use lib.ListN.{length, get_or}
 use borrow.Author.Tests.{lt-ltb, le-ltb, le-leb, lt-leb}
 use Rattle.refusals.specs.Numbers.{no_such_page, position_out_of_range, area_too_short}
 use Rattle.refusals.specs.Answer.{Answer, refused, given, refuse_if, and_then}
-use Rattle.refusals.proofs.Answer.{given-not-refused}
+use Rattle.refusals.proofs.Answer.{given_not_refused}
 use Rattle.units.specs.declared.Ratio.{Ratio}
 use Rattle.units.specs.Unit.{unit_of, drift}
 use Rattle.units.specs.Steps.{Units}
@@ -53,74 +53,74 @@ placed_to e entry area area_is = (sym (ap placed_counts e), area_is ∙ sym (ap 
 -- a refusal leaves every byte
 pub refused_kept : (answer : Answer Contents) (entry : List ℕ) (number place : ℕ) → placed_counts answer ≡ refused number place → area_after entry answer ≡ entry
 refused_kept (refused n p) entry number place e = refl
-refused_kept (given p) entry number place e = absurd (given-not-refused (counts_of p) number place e)
+refused_kept (given p) entry number place e = absurd (given_not_refused (counts_of p) number place e)
 
 -- ---- what a walk shows
 
 module _ (out : List ℕ) where
   -- a walk that left the range
-  pub walk-left : (answer : Answer Contents) (number place : ℕ) → stopped number place ≡ finish out zero_counts answer → answer ≡ refused number place
-  walk-left (refused n p) number place e = let n-is : n ≡ number = cc in let p-is : p ≡ place = cc in ap₂ refused n-is p-is
-  walk-left (given p) number place e = let z : ◌≡◌ {A = ℕ} 0 1 = cc in absurd (omega arith)
+  pub walk_left : (answer : Answer Contents) (number place : ℕ) → stopped number place ≡ finish out zero_counts answer → answer ≡ refused number place
+  walk_left (refused n p) number place e = let n-is : n ≡ number = cc in let p-is : p ≡ place = cc in ap₂ refused n-is p-is
+  walk_left (given p) number place e = let z : ◌≡◌ {A = ℕ} 0 1 = cc in absurd (omega arith)
 
   -- one that went through
   pub record Through (answer : Answer Contents) (area : List ℕ) (counts : Counts) : Type 0 where
     pub p : Contents
-    pub answer-is : answer ≡ given p
+    pub answer_is : answer ≡ given p
     pub area_is : area ≡ stored out 0 p.placements
-    pub counts-are : counts ≡ counts_of p
+    pub counts_are : counts ≡ counts_of p
 
   pub walk_through : (answer : Answer Contents) (area : List ℕ) (counts : Counts) → through area counts ≡ finish out zero_counts answer → Through answer area counts
   walk_through (refused n p) area counts e = let z : ◌≡◌ {A = ℕ} 0 1 = cc in absurd (omega arith)
   walk_through (given p) area counts e =
       record {
         p = p;
-        answer-is = refl;
+        answer_is = refl;
         area_is = cc;
-        counts-are =
+        counts_are =
             (let same : counts ≡ record { records = 0 + length p.placements; missing = 0 + p.missing_characters; specials = 0 + p.specials } = cc in same)
             ∙ ap₂ (λ (r m : ℕ). record { records = r; missing = m; specials = 0 + p.specials }) (zero-add (length p.placements)) (zero-add p.missing_characters)
             ∙ ap (λ (s : ℕ). record { records = length p.placements; missing = p.missing_characters; specials = s }) (zero-add p.specials);
       }
 
   -- where one walk goes through, so does each other
-  pub walk-again : (r : Walked) (answer : Answer Contents) (area : List ℕ) {p : Contents} → answer ≡ given p → ending_of area r ≡ finish out zero_counts answer
+  pub walk_again : (r : Walked) (answer : Answer Contents) (area : List ℕ) {p : Contents} → answer ≡ given p → ending_of area r ≡ finish out zero_counts answer
       → (counts : Counts) × Through answer area counts
-  walk-again (Walked.Through counts) answer area a e = (counts, walk_through answer area counts e)
-  walk-again (Walked.Left place) answer area {p} a e = absurd (given-not-refused p position_out_of_range place (sym a ∙ walk-left answer position_out_of_range place e))
+  walk_again (Walked.Through counts) answer area a e = (counts, walk_through answer area counts e)
+  walk_again (Walked.Left place) answer area {p} a e = absurd (given_not_refused p position_out_of_range place (sym a ∙ walk_left answer position_out_of_range place e))
 
 -- ---- 16 and 17, as the walks show
 
 module _ (answer : Answer Contents) (entry : List ℕ) where
-  abbrev judgedRoom : Answer Contents
-  judgedRoom = and_then answer (with_room (length entry))
+  abbrev judged_room : Answer Contents
+  judged_room = and_then answer (with_room (length entry))
 
   -- 16
-  pub left-to : (place : ℕ) → stopped position_out_of_range place ≡ finish [] zero_counts answer → ComesTo judgedRoom entry (refused position_out_of_range place) entry
-  left-to place e = refused_to (ap (λ (a : Answer Contents). and_then a (with_room (length entry))) (walk-left [] answer position_out_of_range place e)) entry
+  pub left_to : (place : ℕ) → stopped position_out_of_range place ≡ finish [] zero_counts answer → ComesTo judged_room entry (refused position_out_of_range place) entry
+  left_to place e = refused_to (ap (λ (a : Answer Contents). and_then a (with_room (length entry))) (walk_left [] answer position_out_of_range place e)) entry
 
   module _ {area : List ℕ} {counts : Counts} (first : Through [] answer area counts) where
     records_are : length first.p.placements ≡ counts.records
-    records_are = sym (ap (λ (c : Counts). c.records) first.counts-are)
+    records_are = sym (ap (λ (c : Counts). c.records) first.counts_are)
 
     -- 17
-    pub short-to : length entry < placement_record_size * counts.records → ComesTo judgedRoom entry (refused area_too_short 0) entry
-    short-to few =
+    pub short_to : length entry < placement_record_size * counts.records → ComesTo judged_room entry (refused area_too_short 0) entry
+    short_to few =
         let test : ltb (length entry) (placement_record_size * length first.p.placements) ≡ true = lt-ltb (length entry) (placement_record_size * length first.p.placements) (omega (arith, few, records_are)) in
-        refused_to (ap (λ (a : Answer Contents). and_then a (with_room (length entry))) first.answer-is ∙ ap (λ (t : Bool). refuse_if t area_too_short 0 (given first.p)) test) entry
+        refused_to (ap (λ (a : Answer Contents). and_then a (with_room (length entry))) first.answer_is ∙ ap (λ (t : Bool). refuse_if t area_too_short 0 (given first.p)) test) entry
 
     -- all placed
-    pub all-to : placement_record_size * counts.records ≤ length entry → (area' : List ℕ) (counts' : Counts) → Through entry answer area' counts'
-        → ComesTo judgedRoom entry (given counts) area'
-    all-to room area' counts' second =
+    pub all_to : placement_record_size * counts.records ≤ length entry → (area' : List ℕ) (counts' : Counts) → Through entry answer area' counts'
+        → ComesTo judged_room entry (given counts) area'
+    all_to room area' counts' second =
         let p = first.p in
         let fits : placement_record_size * length p.placements ≤ length entry = omega (arith, room, records_are) in
         let test : ltb (length entry) (placement_record_size * length p.placements) ≡ false = le-ltb (length entry) (placement_record_size * length p.placements) fits in
-        let same : given second.p ≡ given p = sym second.answer-is ∙ first.answer-is in
+        let same : given second.p ≡ given p = sym second.answer_is ∙ first.answer_is in
         let same-p : second.p ≡ p = cc in
-        let both = placed_to (ap (λ (a : Answer Contents). and_then a (with_room (length entry))) first.answer-is ∙ ap (λ (t : Bool). refuse_if t area_too_short 0 (given p)) test) entry area'
+        let both = placed_to (ap (λ (a : Answer Contents). and_then a (with_room (length entry))) first.answer_is ∙ ap (λ (t : Bool). refuse_if t area_too_short 0 (given p)) test) entry area'
         (second.area_is ∙ ap (λ (x : Contents). stored entry 0 x.placements) same-p ∙ stored_whole p.placements entry fits) in
-        (ap given first.counts-are ∙ both.0, both.1)
+        (ap given first.counts_are ∙ both.0, both.1)
 
 -- ---- 12 to 15
 
@@ -131,41 +131,41 @@ module _ (file table : List ℕ) (resolution page room pages : ℕ) where
   abbrev walked : Ratio → ℕ → Answer Contents
   walked k rows = and_then (placing (setting_of file table k resolution rows page) fresh_state (page_of page (history file))) (with_room room)
 
-  abbrev withPage : Ratio → ℕ → Answer Contents
-  withPage k rows = refuse_if (page_outside page pages) no_such_page 0 (walked k rows)
+  abbrev with_page : Ratio → ℕ → Answer Contents
+  with_page k rows = refuse_if (page_outside page pages) no_such_page 0 (walked k rows)
 
-  abbrev withTable : Ratio → Answer Contents
-  withTable k = and_then (checked_table table) (withPage k)
+  abbrev with_table : Ratio → Answer Contents
+  with_table k = and_then (checked_table table) (with_page k)
 
-  pub unit-refused : {number place : ℕ} → unit ≡ refused number place → placed_accepted file table resolution page room pages ≡ refused number place
-  unit-refused e = ap (λ (u : Answer Ratio). and_then u withTable) e
+  pub unit_refused : {number place : ℕ} → unit ≡ refused number place → placed_accepted file table resolution page room pages ≡ refused number place
+  unit_refused e = ap (λ (u : Answer Ratio). and_then u with_table) e
 
-  module _ {k : Ratio} (unit-is : unit ≡ given k) where
-    with_unit : placed_accepted file table resolution page room pages ≡ withTable k
-    with_unit = ap (λ (u : Answer Ratio). and_then u withTable) unit-is
+  module _ {k : Ratio} (unit_is : unit ≡ given k) where
+    with_unit : placed_accepted file table resolution page room pages ≡ with_table k
+    with_unit = ap (λ (u : Answer Ratio). and_then u with_table) unit_is
 
-    pub table-refused : {number place : ℕ} → checked_table table ≡ refused number place → placed_accepted file table resolution page room pages ≡ refused number place
-    table-refused e = with_unit ∙ ap (λ (t : Answer ℕ). and_then t (withPage k)) e
+    pub table_refused : {number place : ℕ} → checked_table table ≡ refused number place → placed_accepted file table resolution page room pages ≡ refused number place
+    table_refused e = with_unit ∙ ap (λ (t : Answer ℕ). and_then t (with_page k)) e
 
     module _ {rows : ℕ} (table_is : checked_table table ≡ given rows) where
-      with-table : placed_accepted file table resolution page room pages ≡ withPage k rows
-      with-table = with_unit ∙ ap (λ (t : Answer ℕ). and_then t (withPage k)) table_is
+      with_table_lem : placed_accepted file table resolution page room pages ≡ with_page k rows
+      with_table_lem = with_unit ∙ ap (λ (t : Answer ℕ). and_then t (with_page k)) table_is
 
-      with-page : {t : Bool} → page_outside page pages ≡ t → placed_accepted file table resolution page room pages ≡ refuse_if t no_such_page 0 (walked k rows)
-      with-page e = with-table ∙ ap (λ (t : Bool). refuse_if t no_such_page 0 (walked k rows)) e
+      with_page_lem : {t : Bool} → page_outside page pages ≡ t → placed_accepted file table resolution page room pages ≡ refuse_if t no_such_page 0 (walked k rows)
+      with_page_lem e = with_table_lem ∙ ap (λ (t : Bool). refuse_if t no_such_page 0 (walked k rows)) e
 
       -- page 0
-      pub page-zero : page < 1 → placed_accepted file table resolution page room pages ≡ refused no_such_page 0
-      page-zero h = with-page (ap (λ (t : Bool). not (t && leb page pages)) (lt-leb 1 page h))
+      pub page_zero : page < 1 → placed_accepted file table resolution page room pages ≡ refused no_such_page 0
+      page_zero h = with_page_lem (ap (λ (t : Bool). not (t && leb page pages)) (lt-leb 1 page h))
 
       module _ (some : 1 ≤ page) where
         -- a page after the last
-        pub page-beyond : pages < page → placed_accepted file table resolution page room pages ≡ refused no_such_page 0
-        page-beyond h = with-page (ap₂ (λ (a b : Bool). not (a && b)) (le-leb 1 page some) (lt-leb page pages h))
+        pub page_beyond : pages < page → placed_accepted file table resolution page room pages ≡ refused no_such_page 0
+        page_beyond h = with_page_lem (ap₂ (λ (a b : Bool). not (a && b)) (le-leb 1 page some) (lt-leb page pages h))
 
         -- a page of the file
-        pub page-there : page ≤ pages → placed_accepted file table resolution page room pages ≡ walked k rows
-        page-there h = with-page (ap₂ (λ (a b : Bool). not (a && b)) (le-leb 1 page some) (le-leb page pages h))
+        pub page_there : page ≤ pages → placed_accepted file table resolution page room pages ≡ walked k rows
+        page_there h = with_page_lem (ap₂ (λ (a b : Bool). not (a && b)) (le-leb 1 page some) (le-leb page pages h))
 
 -- ---- what a scan holds makes a walk ready
 
@@ -179,36 +179,36 @@ drift_bound resolution = by (leb 200 resolution) (leb 100 resolution)
     by false false = omega arith
 
 module _ {file : List ℕ} {page : ℕ} {fonts : List ℕ} {v : Volume} (held : Held file page fonts v) where
-  state-is : v ≡ volume_of page (history file)
-  state-is = held.keeps.0
+  state_is : v ≡ volume_of page (history file)
+  state_is = held.keeps.0
 
   -- the file's units
-  pub held-units : ((i : ℕ) → get_or file i 0 < 256) → Units v.num v.den v.mag
-  held-units bytes = subst (λ (w : Volume). Units w.num w.den w.mag) (sym state-is) (accepted_units file (summary_of v) bytes held.judgement)
+  pub held_units : ((i : ℕ) → get_or file i 0 < 256) → Units v.num v.den v.mag
+  held_units bytes = subst (λ (w : Volume). Units w.num w.den w.mag) (sym state_is) (accepted_units file (summary_of v) bytes held.judgement)
 
-  pub held-unit : (resolution : ℕ) → unit_of v.num v.den v.mag resolution ≡ unit_of (num (history file)) (den (history file)) (mag (history file)) resolution
-  held-unit resolution = ap (λ (w : Volume). unit_of w.num w.den w.mag resolution) state-is
+  pub held_unit : (resolution : ℕ) → unit_of v.num v.den v.mag resolution ≡ unit_of (num (history file)) (den (history file)) (mag (history file)) resolution
+  held_unit resolution = ap (λ (w : Volume). unit_of w.num w.den w.mag resolution) state_is
 
   module _ (low : 1 ≤ page) (high : page ≤ v.pages) where
-    wanted-is : v.wanted ≡ bop_of page (history file)
-    wanted-is = ap (λ (w : Volume). w.wanted) state-is
+    wanted_is : v.wanted ≡ bop_of page (history file)
+    wanted_is = ap (λ (w : Volume). w.wanted) state_is
 
     -- the page's commands start within the file
     pub held_start : v.wanted + 45 ≤ length file
-    held_start = omega (arith, wanted-is, bop_inside file (summary_of v) page held.judgement low high)
+    held_start = omega (arith, wanted_is, bop_inside file (summary_of v) page held.judgement low high)
 
-    pub held-short : length file ≤ longest_file
-    held-short = (accepts_lawful file (summary_of v) held.judgement).0
+    pub held_short : length file ≤ longest_file
+    held_short = (accepts_lawful file (summary_of v) held.judgement).0
 
     -- all that a walk over the page starts from
-    pub held-ready : (table : List ℕ) (terms : Terms) → terms.page ≡ page → checked_table table ≡ given terms.rows
+    pub held_ready : (table : List ℕ) (terms : Terms) → terms.page ≡ page → checked_table table ≡ given terms.rows
         → (resolution : ℕ) → terms.ruler.drift ≡ drift resolution → ((i : ℕ) → get_or file i 0 < 256)
         → unit_of v.num v.den v.mag resolution ≡ given terms.ruler.k → Ready file fonts table terms (v.wanted + 45)
-    held-ready table terms page-is table_is resolution drift-is bytes unit-is =
+    held_ready table terms page_is table_is resolution drift-is bytes unit_is =
         record {
-          short = held-short;
+          short = held_short;
           right = table_is;
-          unit = (accepted v.num v.den v.mag resolution terms.ruler.k (held-units bytes) unit-is).1;
+          unit = (accepted v.num v.den v.mag resolution terms.ruler.k (held_units bytes) unit_is).1;
           drift_small = subst (λ (d : ℕ). d ≤ 2) (sym drift-is) (drift_bound resolution);
           told =
               record {
@@ -218,6 +218,6 @@ module _ {file : List ℕ} {page : ℕ} {fonts : List ℕ} {v : Volume} (held : 
                 scales = trace_scales file (history file) (accepted_trace file (summary_of v) held.judgement);
               };
           runs =
-              subst (λ (p : ℕ). Runs file (v.wanted + 45) 0 (page_of p (history file))) (sym page-is)
-              (subst (λ (place : ℕ). Runs file (place + 45) 0 (page_of page (history file))) (sym wanted-is) (page_runs file (summary_of v) page held.judgement low high));
+              subst (λ (p : ℕ). Runs file (v.wanted + 45) 0 (page_of p (history file))) (sym page_is)
+              (subst (λ (place : ℕ). Runs file (place + 45) 0 (page_of page (history file))) (sym wanted_is) (page_runs file (summary_of v) page held.judgement low high));
         }

@@ -10,10 +10,10 @@ use lib.ListN.{length, drop, length-drop}
 use Rattle.refusals.specs.Numbers.{no_such_page, area_too_short}
 use Rattle.refusals.specs.Answer.{Answer, refused, given, and_then}
 use Rattle.refusals.specs.RefusedOnly.{RefusedOnly, FileRefusal, UnitRefusal, TableRefusal, PageRefusal}
-use Rattle.refusals.proofs.RefusedOnly.{if-only, then-only, only_wider}
+use Rattle.refusals.proofs.RefusedOnly.{if_only, then_only, only_wider}
 use Rattle.units.proofs.RefusedWith.{unit_refused_with}
-use Rattle.widths.proofs.RefusedWith.{table-refused-with}
-use Rattle.volume.proofs.RefusedWith.{file-refused-with}
+use Rattle.widths.proofs.RefusedWith.{table_refused_with}
+use Rattle.volume.proofs.RefusedWith.{file_refused_with}
 use Rattle.units.specs.Unit.{unit_of}
 use Rattle.widths.specs.Table.{width_record_size, checked_table}
 use Rattle.commands.specs.Commands.{Command, place}
@@ -59,33 +59,33 @@ module _ (file table : List ℕ) where
   May = PageRefusal file width_record_size table
 
   -- 16 at one of the commands
-  placing-refused-with : (setting : Setting) (s : State) (cs : List Located) → AllBelow (length file) cs → RefusedOnly May (placing setting s cs)
+  placing_refused_with : (setting : Setting) (s : State) (cs : List Located) → AllBelow (length file) cs → RefusedOnly May (placing setting s cs)
   unfolding placing
-  placing-refused-with setting s [] below = tt
-  placing-refused-with setting s (c ∷ rest) below = by (after setting s c.command) (λ next. placing-refused-with setting next rest below.1)
+  placing_refused_with setting s [] below = tt
+  placing_refused_with setting s (c ∷ rest) below = by (after setting s c.command) (λ next. placing_refused_with setting next rest below.1)
     where
       by : (o : Outcome) → ((next : State) → RefusedOnly May (placing setting next rest)) → RefusedOnly May (on_outcome c.at o (λ next. placing setting next rest))
       by leaves_range onward = inr (inr (inr (inr (refl, below.0))))
-      by (continues next added) onward = then-only May (placing setting next rest) _ (onward next) (λ p. tt)
+      by (continues next added) onward = then_only May (placing setting next rest) _ (onward next) (λ p. tt)
 
   module _ (resolution page room : ℕ) where
     -- 12 to 17
-    accepted-refused-with : (found : Summary) → judged file ≡ given found → RefusedOnly May (placed_accepted file table resolution page room found.pages)
-    accepted-refused-with found accepted =
+    accepted_refused_with : (found : Summary) → judged file ≡ given found → RefusedOnly May (placed_accepted file table resolution page room found.pages)
+    accepted_refused_with found accepted =
         let unit = unit_of (num (history file)) (den (history file)) (mag (history file)) resolution in
-        then-only May unit _ (only_wider UnitRefusal May unit (λ number place may. inr (inl may)) (unit_refused_with _ _ _ resolution)) (λ k.
-        then-only May (checked_table table) _ (only_wider (TableRefusal width_record_size table) May (checked_table table) (λ number place may. inr (inr (inl may))) (table-refused-with table)) (λ rows.
-        if-only May (page_outside page found.pages) no_such_page 0 _ (inr (inr (inr (inl (inl refl, refl)))))
-        (then-only May (placing (setting_of file table k resolution rows page) fresh_state (page_of page (history file))) _
-        (placing-refused-with _ fresh_state _ (page_below file page (history file) (accepted_trace file found accepted))) (λ p.
-        if-only May (ltb room (placement_record_size * length p.placements)) area_too_short 0 (given p) (inr (inr (inr (inl (inr refl, refl))))) tt))))
+        then_only May unit _ (only_wider UnitRefusal May unit (λ number place may. inr (inl may)) (unit_refused_with _ _ _ resolution)) (λ k.
+        then_only May (checked_table table) _ (only_wider (TableRefusal width_record_size table) May (checked_table table) (λ number place may. inr (inr (inl may))) (table_refused_with table)) (λ rows.
+        if_only May (page_outside page found.pages) no_such_page 0 _ (inr (inr (inr (inl (inl refl, refl)))))
+        (then_only May (placing (setting_of file table k resolution rows page) fresh_state (page_of page (history file))) _
+        (placing_refused_with _ fresh_state _ (page_below file page (history file) (accepted_trace file found accepted))) (λ p.
+        if_only May (ltb room (placement_record_size * length p.placements)) area_too_short 0 (given p) (inr (inr (inr (inl (inr refl, refl))))) tt))))
 
     -- 1 to 17, each at its place
-    pub page-refused-with : RefusedOnly (PageRefusal file width_record_size table) (placed_counts (placed_page file table resolution page room))
-    page-refused-with =
-        then-only May (placed_page file table resolution page room) _ (by (judged file) refl (file-refused-with file)) (λ p. tt)
+    pub page_refused_with : RefusedOnly (PageRefusal file width_record_size table) (placed_counts (placed_page file table resolution page room))
+    page_refused_with =
+        then_only May (placed_page file table resolution page room) _ (by (judged file) refl (file_refused_with file)) (λ p. tt)
       where
         by : (answer : Answer Summary) → judged file ≡ answer → RefusedOnly (FileRefusal file) answer
             → RefusedOnly May (and_then answer (λ found. placed_accepted file table resolution page room found.pages))
         by (refused number at) e may = inl may
-        by (given found) e may = accepted-refused-with found e
+        by (given found) e may = accepted_refused_with found e

@@ -13,7 +13,7 @@ use Rattle.state.specs.Registers.{unselected}
 use Rattle.page.specs.declared.Seen.{Seen}
 use Rattle.turns.specs.Steps.{KeptFor}
 use Rattle.page.specs.Steps.{SeenIs, zero_seen, AllSeen}
-use Rattle.page.proofs.FontLaws.{unselected_known, no-lawful-number}
+use Rattle.page.proofs.FontLaws.{unselected_known, no_lawful_number}
 
 -- ---- what holds in every place of a list
 
@@ -38,7 +38,7 @@ none_kept {table} {rows} right = record { sixteenfold_is = sym sixteenfold_none;
 
 module _ (file fonts table : List ℕ) (rows : ℕ) where
   none_seen_lem : checked_table table ≡ given rows → SeenIs file fonts table rows none_seen
-  none_seen_lem right = (λ past told. (no-lawful-number told (negsuc 0) refl, unselected_known), none_kept right)
+  none_seen_lem right = (λ past told. (no_lawful_number told (negsuc 0) refl, unselected_known), none_kept right)
 
   pub nothing_seen : checked_table table ≡ given rows → AllSeen file fonts table rows (replicate 64 none_seen)
   nothing_seen right = (

@@ -31,10 +31,10 @@ use Rattle.list.specs.Rules.{is_at_start, lawful_preamble, positive_unit, may_st
 use Rattle.volume.specs.Judged.{judged_from, judged}
 use Rattle.volume.specs.History.{history_from, history}
 use Rattle.list.proofs.Arms.{is_kind}
-use Rattle.list.proofs.FaultLaws.{all-kept}
+use Rattle.list.proofs.FaultLaws.{all_kept}
 use Rattle.list.proofs.FontTables.{defines_kind}
 use Rattle.list.proofs.AtStages.{first_pre}
-use Rattle.volume.proofs.Turns.{judged-short, judged-cut, judged-undefined, judged-faulty, judged-onward, history-start, history-last, history-onward, Turn, at_cut, at-undefined, at-fault, at_last, onward, turn}
+use Rattle.volume.proofs.Turns.{judged_short, judged_cut, judged_undefined, judged_faulty, judged_onward, history_start, history_last, history_onward, Turn, at_cut, at_undefined, at_fault, at_last, onward, turn}
 use Rattle.volume.proofs.Accepts.{refused_given, accepts_lawful}
 use Rattle.volume.proofs.Going.{after_command}
 use Rattle.page.specs.Steps.{InScale}
@@ -61,20 +61,20 @@ goes_on file s (suc left) past t e = by (turn past (drop (place past) file)) (λ
         → ((c : Command) → Trace file (c ∷ past) → judged_from left (c ∷ past) (drop (place (c ∷ past)) file) ≡ given s
         → Ended file (history_from left (c ∷ past) (drop (place (c ∷ past)) file)))
         → Ended file (history_from (suc left) past (drop (place past) file))
-    by (at_cut f) next = absurd (refused_given (judged-cut left past (drop (place past) file) f) e)
-    by (at-undefined f) next = absurd (refused_given (judged-undefined left past (drop (place past) file) f) e)
-    by (at-fault c rest n f broken) next = absurd (refused_given (judged-faulty left past (drop (place past) file) c rest f (suc n) broken (λ z. omega arith)) e)
+    by (at_cut f) next = absurd (refused_given (judged_cut left past (drop (place past) file) f) e)
+    by (at_undefined f) next = absurd (refused_given (judged_undefined left past (drop (place past) file) f) e)
+    by (at_fault c rest n f broken) next = absurd (refused_given (judged_faulty left past (drop (place past) file) c rest f (suc n) broken (λ z. omega arith)) e)
     by (at_last c rest f kept last) next =
-        rw (history-last left past (drop (place past) file) c rest f last) (more c rest t f (all-kept past c kept), last_stage past c last)
+        rw (history_last left past (drop (place past) file) c rest f last) (more c rest t f (all_kept past c kept), last_stage past c last)
     by (onward c rest f kept not_last) next =
         let after = (after_command file (place past) c rest f).0 in
-        subst (Ended file) (sym (history-onward left past (drop (place past) file) c rest f not_last ∙ ap (history_from left (c ∷ past)) after))
-        (next c (more c rest t f (all-kept past c kept)) (sym (judged-onward left past (drop (place past) file) c rest f kept not_last ∙ ap (judged_from left (c ∷ past)) after) ∙ e))
+        subst (Ended file) (sym (history_onward left past (drop (place past) file) c rest f not_last ∙ ap (history_from left (c ∷ past)) after))
+        (next c (more c rest t f (all_kept past c kept)) (sym (judged_onward left past (drop (place past) file) c rest f kept not_last ∙ ap (judged_from left (c ∷ past)) after) ∙ e))
 
 -- the commands of an accepted file stand in it and keep the rules, up to post_post
 accepted_ended : (file : List ℕ) (s : Summary) → judged file ≡ given s → Ended file (history file)
 accepted_ended file s e =
-    rw (history-start file) (goes_on file s (suc (length file)) [] start (sym (judged-short file (accepts_lawful file s e).0) ∙ e))
+    rw (history_start file) (goes_on file s (suc (length file)) [] start (sym (judged_short file (accepts_lawful file s e).0) ∙ e))
 
 -- the commands of an accepted file stand in it and keep the rules
 pub accepted_trace : (file : List ℕ) (s : Summary) → judged file ≡ given s → Trace file (history file)
@@ -120,8 +120,8 @@ module _ (params : List ℕ) (bytes : (i : ℕ) → get_or params i 0 < 256) whe
   four_below at = omega (arith, bytes (at + 0), bytes (at + 1), bytes (at + 2), bytes (at + 3))
 
   -- and where they are positive as a signed number, below 2^31
-  positive-four : (at : ℕ) → positive (signed_at params at 4) ≡ true → (0 < unsigned_at params at 4) × (unsigned_at params at 4 < 2 ^ 31)
-  positive-four at e = by (ltb (unsigned_at params at 4 + unsigned_at params at 4) (256 ^ 4)) refl e
+  positive_four : (at : ℕ) → positive (signed_at params at 4) ≡ true → (0 < unsigned_at params at 4) × (unsigned_at params at 4 < 2 ^ 31)
+  positive_four at e = by (ltb (unsigned_at params at 4 + unsigned_at params at 4) (256 ^ 4)) refl e
     where
       by : (low : Bool) → ltb (unsigned_at params at 4 + unsigned_at params at 4) (256 ^ 4) ≡ low
           → lt_z (pos 0) (cond low (pos (unsigned_at params at 4)) (pos (unsigned_at params at 4) -ℤ pos (256 ^ 4))) ≡ true
@@ -132,14 +132,14 @@ module _ (params : List ℕ) (bytes : (i : ℕ) → get_or params i 0 < 256) whe
           absurd (omega (arith, four_below at, lt_yes (pos 0) (pos (unsigned_at params at 4) -ℤ pos (256 ^ 4)) q, diff (pos (unsigned_at params at 4)) (pos (256 ^ 4))))
 
   -- the units of a preamble that keeps the rules
-  preamble-units : lawful_preamble params ≡ true → Units (unsigned_in pre_num params) (unsigned_in pre_den params) (unsigned_in pre_mag params)
-  preamble-units e =
+  preamble_units : lawful_preamble params ≡ true → Units (unsigned_in pre_num params) (unsigned_in pre_den params) (unsigned_in pre_mag params)
+  preamble_units e =
       let from-num = ((and-eq-true_iff (eqb (unsigned_in pre_identification params) 2) _).0 e).1 in
       let from-den = (and-eq-true_iff (positive_unit pre_num params) _).0 from-num in
       let both = (and-eq-true_iff (positive_unit pre_den params) (positive_unit pre_mag params)).0 from-den.1 in
-      let (num_positive, num_below) = positive-four pre_num.at from-den.0 in
-      let (den_positive, den_below) = positive-four pre_den.at both.0 in
-      let (mag_positive, mag_below) = positive-four pre_mag.at both.1 in
+      let (num_positive, num_below) = positive_four pre_num.at from-den.0 in
+      let (den_positive, den_below) = positive_four pre_den.at both.0 in
+      let (mag_positive, mag_below) = positive_four pre_mag.at both.1 in
       record {
         num_positive = num_positive;
         num_below = num_below;
@@ -194,7 +194,7 @@ trace_units file past bytes (more {past = before} c rest t f allowed) e = by (is
         → Units (num (c ∷ before)) (den (c ∷ before)) (mag (c ∷ before))
     by true q earlier =
         let (is-pre, lawful) = first_pre before c allowed q in
-        rw is-pre (preamble-units c.params (params_bytes file bytes (place before) c rest f) lawful)
+        rw is-pre (preamble_units c.params (params_bytes file bytes (place before) c rest f) lawful)
     by false q earlier = rw (later_other before c allowed q) (earlier q)
 
 -- the units of an accepted file, whose elements are bytes, are lawful

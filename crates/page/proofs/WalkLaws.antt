@@ -25,7 +25,7 @@ use Rattle.state.specs.declared.Page.{Page}
 use Rattle.state.specs.Registers.{State, fresh_state, popped_to}
 use Rattle.state.specs.Steps.{zero_kept, level_in, RoundsLevel, RoundsBelow, page_state, saved_of, with_level, Bounded, AllBounded}
 use Rattle.state.proofs.Levels.{bounded_zero}
-use Rattle.state.proofs.Kept.{rounds-zero}
+use Rattle.state.proofs.Kept.{rounds_zero}
 use Rattle.placements.specs.declared.Counts.{Counts}
 use Rattle.turns.specs.declared.Terms.{Terms}
 use Rattle.turns.specs.declared.Turn.{Turn}
@@ -39,10 +39,10 @@ use Rattle.placements.specs.Steps.{added_of, AddsInWords, area_noted, count_note
 use Rattle.page.specs.Steps.{finish, stopped, through, zero_counts, Runs, ends, onward, Ready}
 use Rattle.turns.specs.Steps.{did, Safe, turn_frame, Suits, terms_setting, StepAsks, Known}
 use Rattle.placements.proofs.Areas.{noted_length}
-use Rattle.page.proofs.Finishing.{finish-adding}
+use Rattle.page.proofs.Finishing.{finish_adding}
 use Rattle.page.proofs.FontLaws.{unselected_known}
-use Rattle.turns.proofs.TurnLaws.{after-kind}
-use Rattle.turns.proofs.Frames.{is_ending, opening-push, closing-pop, ending-eop, depth_by, frame_depth}
+use Rattle.turns.proofs.TurnLaws.{after_kind_lem}
+use Rattle.turns.proofs.Frames.{is_ending, opening_push, closing_pop, ending_eop, depth_by, frame_depth}
 
 -- ---- the code's page
 
@@ -108,7 +108,7 @@ starting {file} {fonts} {table} {terms} {start} ready out page fresh flat full z
       runs = subst (λ (depth : ℕ). Runs file start depth (page_of terms.page (history file))) (sym flat) ready.runs;
       same = ap (λ (s : State). finish out zero_counts (placing (terms_setting terms table (history file)) s (page_of terms.page (history file)))) fresh;
       sound =
-          state_sound terms.ruler.k page fresh_state fresh bounded_zero tt (subst (RoundsLevel terms.ruler.k) (sym zero) (rounds-zero terms.ruler.k))
+          state_sound terms.ruler.k page fresh_state fresh bounded_zero tt (subst (RoundsLevel terms.ruler.k) (sym zero) (rounds_zero terms.ruler.k))
           (λ place less. absurd (omega (arith, flat, less))) unselected_known (omega arith) full;
       few_records = omega arith;
       few_missing = omega arith;
@@ -120,12 +120,12 @@ starting {file} {fonts} {table} {terms} {start} ready out page fresh flat full z
 
 -- what is added counts for one at most
 module _ (counts : Counts) (at next : ℕ) (forward : at < next) where
-  few-noted : (added : Added) → counts.records ≤ at → counts.missing ≤ at → counts.specials ≤ at
+  few_noted : (added : Added) → counts.records ≤ at → counts.missing ≤ at → counts.specials ≤ at
       → ((count_noted counts added).records ≤ next) × ((count_noted counts added).missing ≤ next) × ((count_noted counts added).specials ≤ next)
-  few-noted nothing r m s = (omega arith, omega arith, omega arith)
-  few-noted (placed x) r m s = (omega arith, omega arith, omega arith)
-  few-noted missing r m s = (omega arith, omega arith, omega arith)
-  few-noted special r m s = (omega arith, omega arith, omega arith)
+  few_noted nothing r m s = (omega arith, omega arith, omega arith)
+  few_noted (placed x) r m s = (omega arith, omega arith, omega arith)
+  few_noted missing r m s = (omega arith, omega arith, omega arith)
+  few_noted special r m s = (omega arith, omega arith, omega arith)
 
 -- with nothing to come, the area and the counts stay
 finish_none : (out : List ℕ) (counts : Counts) → through out counts ≡ finish out counts (given (record { placements = []; missing_characters = 0; specials = 0 }))
@@ -182,11 +182,11 @@ module _ {file fonts table : List ℕ} {terms : Terms} {start : ℕ} {out₀ out
 
     -- one that does not end the page is no eop's
     no_eop : is_ending (turn_frame turn) ≡ false → is_a Eop c ≡ false
-    no_eop on = sym (ap is_ending suits ∙ ending-eop (kind_of_command c)) ∙ on
+    no_eop on = sym (ap is_ending suits ∙ ending_eop (kind_of_command c)) ∙ on
 
     -- the depth is as after the command
-    turned-depth : depth_by (turn_frame turn) page.depth ≡ depth_after (kind_of_command c) page.depth
-    turned-depth = ap (λ (frame : Frame). depth_by frame page.depth) suits ∙ frame_depth (kind_of_command c) page.depth
+    turned_depth : depth_by (turn_frame turn) page.depth ≡ depth_after (kind_of_command c) page.depth
+    turned_depth = ap (λ (frame : Frame). depth_by frame page.depth) suits ∙ frame_depth (kind_of_command c) page.depth
 
     does : did setting s turn r.asked.adds ≡ after setting s c
     does =
@@ -194,12 +194,12 @@ module _ {file fonts table : List ℕ} {terms : Terms} {start : ℕ} {out₀ out
 
   -- there are fewer records than bytes
   pub few : (counts' : Counts) → counts' ≡ count_noted counts (added_of r.asked.adds) → counts'.records ≤ length file
-  few counts' counts-are =
-      omega (arith, ap (λ (n : Counts). n.records) counts-are, (few-noted counts at r.next advances.0 (added_of r.asked.adds) w.few_records w.few_missing w.few_specials).0, advances.1)
+  few counts' counts_are =
+      omega (arith, ap (λ (n : Counts). n.records) counts_are, (few_noted counts at r.next advances.0 (added_of r.asked.adds) w.few_records w.few_missing w.few_specials).0, advances.1)
 
   -- the record that is added, and the turn, are in their ranges
-  pub in-ranges : AddsInWords r.asked.adds × Safe (level_in page.now) r.asked.turn
-  in-ranges = by here
+  pub in_ranges : AddsInWords r.asked.adds × Safe (level_in page.now) r.asked.turn
+  in_ranges = by here
     where
       both : {c : Command} {rest : List ℕ} → front (drop at file) ≡ whole c rest → AddsInWords r.asked.adds × Safe (level_in page.now) r.asked.turn
       both {c} {rest} stands = ((asks c rest stands).0.0.words, (asks c rest stands).0.0.safe)
@@ -216,7 +216,7 @@ module _ {file fonts table : List ℕ} {terms : Terms} {start : ℕ} {out₀ out
         → (counts' : Counts) → counts' ≡ count_noted counts (added_of r.asked.adds)
         → Walking file fonts table terms start out₀ out' page' counts' r.next
     unfolding placing
-    onwards on s' led page' state-is depth_is sound out' out-is counts' counts-are = by here
+    onwards on s' led page' state_is depth_is sound out' out-is counts' counts_are = by here
       where
         added : Added
         added = added_of r.asked.adds
@@ -227,23 +227,23 @@ module _ {file fonts table : List ℕ} {terms : Terms} {start : ℕ} {out₀ out
             let outcome : after setting s c ≡ continues s' added = sym (does stands turn turn_is) ∙ led in
             let step : placing setting s w.rest ≡ and_then (placing setting s' later) (λ p. given (adding added p)) =
             ap (placing setting s) e ∙ ap (λ (o : Outcome). on_outcome at o (λ n. placing setting n later)) outcome in
-            let noted = few-noted counts at r.next advances.0 added w.few_records w.few_missing w.few_specials in
+            let noted = few_noted counts at r.next advances.0 added w.few_records w.few_missing w.few_specials in
             record {
               ready = w.ready;
               rest = later;
               runs =
                   subst (λ (place : ℕ). Runs file place page'.depth later) (sym (asks c rest stands).1)
-                  (subst (λ (depth : ℕ). Runs file (at + (1 + length c.params)) depth later) (sym (depth_is ∙ turned-depth stands turn turn_is)) runs);
+                  (subst (λ (depth : ℕ). Runs file (at + (1 + length c.params)) depth later) (sym (depth_is ∙ turned_depth stands turn turn_is)) runs);
               same =
-                  ap (λ (x : State). finish out' counts' (placing setting x later)) state-is
-                  ∙ ap₂ (λ (o : List ℕ) (n : Counts). finish o n (placing setting s' later)) out-is counts-are
-                  ∙ sym (finish-adding out counts added (placing setting s' later))
+                  ap (λ (x : State). finish out' counts' (placing setting x later)) state_is
+                  ∙ ap₂ (λ (o : List ℕ) (n : Counts). finish o n (placing setting s' later)) out-is counts_are
+                  ∙ sym (finish_adding out counts added (placing setting s' later))
                   ∙ ap (finish out counts) (sym step)
                   ∙ w.same;
               sound = sound;
-              few_records = subst (λ (n : Counts). n.records ≤ r.next) (sym counts-are) noted.0;
-              few_missing = subst (λ (n : Counts). n.missing ≤ r.next) (sym counts-are) noted.1;
-              few_specials = subst (λ (n : Counts). n.specials ≤ r.next) (sym counts-are) noted.2;
+              few_records = subst (λ (n : Counts). n.records ≤ r.next) (sym counts_are) noted.0;
+              few_missing = subst (λ (n : Counts). n.missing ≤ r.next) (sym counts_are) noted.1;
+              few_specials = subst (λ (n : Counts). n.specials ≤ r.next) (sym counts_are) noted.2;
               long = ap length out-is ∙ noted_length out counts.records added ∙ w.long;
             }
 
@@ -253,30 +253,30 @@ module _ {file fonts table : List ℕ} {terms : Terms} {start : ℕ} {out₀ out
         → (out' : List ℕ) → out' ≡ area_noted out counts.records (added_of r.asked.adds)
         → (counts' : Counts) → counts' ≡ count_noted counts (added_of r.asked.adds)
         → Walking file fonts table terms start out₀ out' page' counts' r.next
-    leveled is-inside l led page' page-is bounded rounds out' out-is counts' counts-are =
+    leveled is-inside l led page' page_is bounded rounds out' out-is counts' counts_are =
         let sound = w.sound in
-        onwards (ap is_ending is-inside) (with_numbers s (level_in l)) led page' (ap page_state page-is) (ap (λ (p : Page). p.depth) page-is ∙ sym (ap (λ (frame : Frame). depth_by frame page.depth) is-inside))
-        (subst (Sound terms.ruler.k) (sym page-is)
+        onwards (ap is_ending is-inside) (with_numbers s (level_in l)) led page' (ap page_state page_is) (ap (λ (p : Page). p.depth) page_is ∙ sym (ap (λ (frame : Frame). depth_by frame page.depth) is-inside))
+        (subst (Sound terms.ruler.k) (sym page_is)
         (record { bounded = bounded; saved_bounded = sound.saved_bounded; rounds = rounds; rounds_below = sound.rounds_below; known = sound.known; shallow = sound.shallow; full = sound.full }))
-        out' out-is counts' counts-are
+        out' out-is counts' counts_are
 
   -- push and pop keep to the depths
-  pub push-room : r.asked.turn ≡ Turn.Push → page.depth < 100
-  push-room turn_is = by here
+  pub push_room : r.asked.turn ≡ Turn.Push → page.depth < 100
+  push_room turn_is = by here
     where
       by : Here → page.depth < 100
       by (last c rest stands eop e) = absurd (true≢false (sym eop ∙ no_eop stands Turn.Push turn_is refl))
       by (next c rest later stands goes_on right e runs) =
-          let pushes : wrong_at_depth Push page.depth ≡ false = subst (λ (k : Kind). wrong_at_depth k page.depth ≡ false) (opening-push (kind_of_command c) (suits stands Turn.Push turn_is)) right in
+          let pushes : wrong_at_depth Push page.depth ≡ false = subst (λ (k : Kind). wrong_at_depth k page.depth ≡ false) (opening_push (kind_of_command c) (suits stands Turn.Push turn_is)) right in
           leb-false 100 page.depth (neither (leb 100 page.depth) false pushes)
 
-  pub pop-room : r.asked.turn ≡ Turn.Pop → 0 < page.depth
-  pop-room turn_is = by here
+  pub pop_room : r.asked.turn ≡ Turn.Pop → 0 < page.depth
+  pop_room turn_is = by here
     where
       by : Here → 0 < page.depth
       by (last c rest stands eop e) = absurd (true≢false (sym eop ∙ no_eop stands Turn.Pop turn_is refl))
       by (next c rest later stands goes_on right e runs) =
-          let pops : wrong_at_depth Pop page.depth ≡ false = subst (λ (k : Kind). wrong_at_depth k page.depth ≡ false) (closing-pop (kind_of_command c) (suits stands Turn.Pop turn_is)) right in
+          let pops : wrong_at_depth Pop page.depth ≡ false = subst (λ (k : Kind). wrong_at_depth k page.depth ≡ false) (closing_pop (kind_of_command c) (suits stands Turn.Pop turn_is)) right in
           omega (arith, eqb-false page.depth 0 (neither (eqb page.depth 0) false pops))
 
   -- at eop all has been walked over
@@ -284,18 +284,18 @@ module _ {file fonts table : List ℕ} {terms : Terms} {start : ℕ} {out₀ out
       → (counts' : Counts) → counts' ≡ count_noted counts (added_of r.asked.adds)
       → through out' counts' ≡ finish out₀ zero_counts (placing setting fresh_state (page_of terms.page (history file)))
   unfolding placing
-  ended turn_is out' out-is counts' counts-are = by here
+  ended turn_is out' out-is counts' counts_are = by here
     where
       by : Here → through out' counts' ≡ finish out₀ zero_counts (placing setting fresh_state (page_of terms.page (history file)))
       by (last c rest stands eop e) =
           let same_outcome : continues s (added_of r.asked.adds) ≡ continues s nothing =
-          does stands Turn.End turn_is ∙ sym (after-kind setting (level_in page.now) (saved_of page.depth page.stack) page.font c Eop (is_kind (kind_of_command c) Eop eop)) in
+          does stands Turn.End turn_is ∙ sym (after_kind_lem setting (level_in page.now) (saved_of page.depth page.stack) page.font c Eop (is_kind (kind_of_command c) Eop eop)) in
           let none : added_of r.asked.adds ≡ nothing = cc in
-          ap₂ through (out-is ∙ ap (area_noted out counts.records) none) (counts-are ∙ ap (count_noted counts) none)
+          ap₂ through (out-is ∙ ap (area_noted out counts.records) none) (counts_are ∙ ap (count_noted counts) none)
           ∙ finish_none out counts
           ∙ ap (λ (cs : List Located). finish out counts (placing setting s cs)) (sym e)
           ∙ w.same
-      by (next c rest later stands goes_on right e runs) = absurd (true≢false (ap is_ending (suits stands Turn.End turn_is) ∙ ending-eop (kind_of_command c) ∙ goes_on))
+      by (next c rest later stands goes_on right e runs) = absurd (true≢false (ap is_ending (suits stands Turn.End turn_is) ∙ ending_eop (kind_of_command c) ∙ goes_on))
 
   -- where h or v would leave its range, the page is refused there
   pub left : r.asked.turn ≡ Turn.Leave → stopped position_out_of_range at ≡ finish out₀ zero_counts (placing setting fresh_state (page_of terms.page (history file)))

@@ -31,8 +31,8 @@ module _ (out : List ℕ) (index : ℕ) (r : Record) where
       simp (le-leb (placement_record_size * index + placement_record_size) (length out) h, whole)
 
   -- a record put in its place changes no length
-  pub put-length : length (put_record out index r) ≡ length out
-  put-length =
+  pub put_length : length (put_record out index r) ≡ length out
+  put_length =
       ⊎_elim
       (λ short. ap length (no_room short))
       (λ long. ap length (room long) ∙ length-paste out (placement_record_size * index) (record_bytes r) placement_record_size long (omega (arith, record_length r)))
@@ -41,7 +41,7 @@ module _ (out : List ℕ) (index : ℕ) (r : Record) where
 -- nor does anything else that a command adds
 pub noted_length : (out : List ℕ) (index : ℕ) (added : Added) → length (area_noted out index added) ≡ length out
 noted_length out index nothing = refl
-noted_length out index (placed r) = put-length out index r
+noted_length out index (placed r) = put_length out index r
 noted_length out index missing = refl
 noted_length out index special = refl
 
@@ -66,7 +66,7 @@ stored_all (r ∷ records) out index h =
     let fits : at + placement_record_size + more ≤ length out = omega arith in
     let area : List ℕ = paste out at (record_bytes r) placement_record_size in
     let put : put_record out index r ≡ area = room out index r (omega arith) in
-    let long : length area ≡ length out = ap length (sym put) ∙ put-length out index r in
+    let long : length area ≡ length out = ap length (sym put) ∙ put_length out index r in
     let next : placement_record_size * (index + 1) ≡ at + placement_record_size = omega arith in
     let end : placement_record_size * (index + 1 + length records) ≡ at + placement_record_size + more = omega arith in
     let whole : at + placement_record_size + more ≡ placement_record_size * (index + suc (length records)) = omega arith in

@@ -1,12 +1,10 @@
 // The records of a page in the output area, and their counts.
-#![tactic(auto)]
-
 ghost use Rattle.std.specs.Prelude.{◌≡◌, ◌++◌, ◌+◌, ◌≤◌, ◌<◌, length, take, drop};
 ghost use Rattle.placements.specs.Records.{record_bytes};
 ghost use Rattle.placements.specs.Steps.{InWords, added_of, put_record, area_noted, count_noted, AddsInWords};
 
 // One placed character or rule
-#[derive(Clone, Copy)]
+#[derive(Drop)]
 pub struct Record {
     // 1 character, 2 rule
     pub kind: u64,
@@ -21,7 +19,7 @@ pub struct Record {
 }
 
 // How many records, missing characters and specials a page has
-#[derive(Clone, Copy)]
+#[derive(Drop)]
 pub struct Counts {
     pub records: usize,
     pub missing: usize,
@@ -29,7 +27,7 @@ pub struct Counts {
 }
 
 // What a command adds to the page
-#[derive(Clone, Copy)]
+#[derive(Drop)]
 pub enum Adds {
     Nothing,
     Placed(Record),

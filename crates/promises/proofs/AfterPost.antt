@@ -34,11 +34,11 @@ module _ {past : List Command} {c : Command} (allowed : Allowed past c) where
   so : does (stage past) (kind_of_command c) ≡ lawful (stage past) (kind_of_command c)
   so = does_lawfully does lawful all_lawful allowed
 
-  pub passes-post : is_after_post (stage (c ∷ past)) ≡ is_a Post c || is_after_post (stage past)
-  passes-post = ap (λ (a : Bool × Bool × Bool × Bool). a.0) so
+  pub passes_post : is_after_post (stage (c ∷ past)) ≡ is_a Post c || is_after_post (stage past)
+  passes_post = ap (λ (a : Bool × Bool × Bool × Bool). a.0) so
 
-  pub post-between : is_a Post c ≡ true → (is_on_page (stage past) ≡ false) × (is_after_post (stage past) ≡ false)
-  post-between e = split _ _ (rw e at (ap (λ (a : Bool × Bool × Bool × Bool). a.1) so))
+  pub post_between : is_a Post c ≡ true → (is_on_page (stage past) ≡ false) × (is_after_post (stage past) ≡ false)
+  post_between e = split _ _ (rw e at (ap (λ (a : Bool × Bool × Bool × Bool). a.1) so))
     where
       split : (a b : Bool) → (a || b) ≡ false → (a ≡ false) × (b ≡ false)
       split false b h = (refl, h)
@@ -57,18 +57,18 @@ never_deeper (c ∷ past) = omega arith
 
 module _ (past : List Command) (c : Command) where
   -- one that is no push and no pop leaves it
-  pub greatest-stays : (push pop : Bool) → is_a Push c ≡ push → is_a Pop c ≡ pop → (push || pop) ≡ false → greatest (c ∷ past) ≡ greatest past
-  greatest-stays true pop e f h = absurd (true≢false h)
-  greatest-stays false true e f h = absurd (true≢false h)
-  greatest-stays false false e f h = rw (e, f) (omega (arith, never_deeper past))
+  pub greatest_stays : (push pop : Bool) → is_a Push c ≡ push → is_a Pop c ≡ pop → (push || pop) ≡ false → greatest (c ∷ past) ≡ greatest past
+  greatest_stays true pop e f h = absurd (true≢false h)
+  greatest_stays false true e f h = absurd (true≢false h)
+  greatest_stays false false e f h = rw (e, f) (omega (arith, never_deeper past))
 
   -- a command after post leaves the greatest depth and the place of post
   stays : Allowed past c → is_after_post (stage past) ≡ true → (greatest (c ∷ past) ≡ greatest past) × (post_place (c ∷ past) ≡ post_place past)
-  stays allowed e = (greatest-stays (is_a Push c) (is_a Pop c) refl refl (still_after allowed e), no_post (is_a Post c) refl)
+  stays allowed e = (greatest_stays (is_a Push c) (is_a Pop c) refl refl (still_after allowed e), no_post (is_a Post c) refl)
     where
       no_post : (post : Bool) → is_a Post c ≡ post → cond post (place past) (post_place past) ≡ post_place past
       no_post false f = refl
-      no_post true f = absurd (true≢false (sym e ∙ (post-between allowed f).1))
+      no_post true f = absurd (true≢false (sym e ∙ (post_between allowed f).1))
 
 -- so do all that follow post
 pub after_post : {past cs : List Command} → Follows past cs → is_after_post (stage past) ≡ true
@@ -76,5 +76,5 @@ pub after_post : {past cs : List Command} → Follows past cs → is_after_post 
 after_post (ends {past = past} {c = c} n w allowed last enough) e = rw last (stays past c allowed e)
 after_post (goes {past = past} {c = c} w allowed not_last follows) e =
     let (g, p) = stays past c allowed e in
-    let (gs, ps) = after_post follows (passes-post allowed ∙ rw e (or-true (is_a Post c))) in
+    let (gs, ps) = after_post follows (passes_post allowed ∙ rw e (or-true (is_a Post c))) in
     rw not_last (gs ∙ g, ps ∙ p)

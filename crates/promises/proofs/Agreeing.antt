@@ -22,7 +22,7 @@ use Rattle.list.specs.Rules.{fault, Allowed}
 use Rattle.list.specs.Lawful.{Follows, ends, goes}
 use Rattle.volume.specs.Judged.{summary}
 use Rattle.volume.specs.OfList.{up_to_last}
-use Rattle.list.proofs.FaultLaws.{none-broken, all-kept}
+use Rattle.list.proofs.FaultLaws.{none_broken, all_kept}
 use Rattle.list.proofs.Arms.{on_kinds, is_kind}
 use Rattle.state.specs.Registers.{State, fresh_state}
 use Rattle.turns.specs.Placing.{Located, Setting, Outcome, continues, leaves_range, set_character, put_character, after_kind, after, Contents, adding, on_outcome, placing}
@@ -45,8 +45,8 @@ pub record Agree (past past' : List Command) : Type 0 where
 
 module _ {past past' : List Command} (a : Agree past past') where
   -- they agree after one more command
-  agree-more : (c : Command) → Agree (c ∷ past) (c ∷ past')
-  agree-more c =
+  agree_more : (c : Command) → Agree (c ∷ past) (c ∷ past')
+  agree_more c =
       record {
         same_place = rw a.same_place;
         same_stage = rw a.same_stage;
@@ -67,8 +67,8 @@ module _ {past past' : List Command} (a : Agree past past') where
   same_summary = rw (a.same_pages, a.same_count false, a.same_greatest, a.same_post)
 
   -- the next command breaks the same rule, or none
-  same-fault : (c : Command) → fault past c ≡ fault past' c
-  same-fault c =
+  same_fault : (c : Command) → fault past c ≡ fault past' c
+  same_fault c =
       rw (
         a.same_stage,
         a.same_depth,
@@ -87,14 +87,14 @@ module _ {past past' : List Command} (a : Agree past past') where
         a.same_count true,
       )
 
-  agree-allowed : {c : Command} → Allowed past c → Allowed past' c
-  agree-allowed {c} allowed = all-kept past' c (sym (same-fault c) ∙ none-broken past c allowed)
+  agree_allowed : {c : Command} → Allowed past c → Allowed past' c
+  agree_allowed {c} allowed = all_kept past' c (sym (same_fault c) ∙ none_broken past c allowed)
 
 -- a list goes on after the one as after the other, and they agree at its end
 pub agree_follows : {past past' cs : List Command} → Agree past past' → Follows past cs → Follows past' cs × Agree (up_to_last past cs) (up_to_last past' cs)
-agree_follows a (ends {c = c} n w allowed last enough) = (ends n w (agree-allowed a allowed) last enough, rw last (agree-more a c))
+agree_follows a (ends {c = c} n w allowed last enough) = (ends n w (agree_allowed a allowed) last enough, rw last (agree_more a c))
 agree_follows a (goes {c = c} w allowed not_last follows) =
-    let (onwards, at_end) = agree_follows (agree-more a c) follows in (goes w (agree-allowed a allowed) not_last onwards, rw not_last at_end)
+    let (onwards, at_end) = agree_follows (agree_more a c) follows in (goes w (agree_allowed a allowed) not_last onwards, rw not_last at_end)
 
 -- ---- placing
 
@@ -116,38 +116,38 @@ module _ {past past' : List Command} (a : Agree past past') (table : List ℕ) (
     same_set code absent = refl
     same_set code (found m) = refl
 
-    same-put : (code : ℤ) (l : LookUp) → put_character one s code l ≡ put_character other s code l
-    same-put code absent = refl
-    same-put code (found m) = refl
+    same_put : (code : ℤ) (l : LookUp) → put_character one s code l ≡ put_character other s code l
+    same_put code absent = refl
+    same_put code (found m) = refl
 
     abbrev code : ℤ
     code = character_code c.opcode c.params
 
     -- nor does a command of another kind than these and a selection
-    abbrev ofOthers : Setting → Kind → Outcome
-    ofOthers setting kind = cond (is kind Select || (is kind SetCharacter || is kind PutCharacter)) leaves_range (after_kind kind setting s c)
+    abbrev of_others : Setting → Kind → Outcome
+    of_others setting kind = cond (is kind Select || (is kind SetCharacter || is kind PutCharacter)) leaves_range (after_kind kind setting s c)
 
     by_kind : (select set put : Bool) → is_a Select c ≡ select → is_a SetCharacter c ≡ set → is_a PutCharacter c ≡ put
         → after_kind (kind_of_command c) one s c ≡ after_kind (kind_of_command c) other s c
     by_kind true set put e f g = rw (is_kind (kind_of_command c) Select e, a.same_definition false (selected_font c.opcode c.params))
     by_kind false true put e f g = rw (is_kind (kind_of_command c) SetCharacter f) (same_set code (one.look s.font code))
-    by_kind false false true e f g = rw (is_kind (kind_of_command c) PutCharacter g) (same-put code (one.look s.font code))
-    by_kind false false false e f g = rw (e, f, g) at (on_kinds (ofOthers one) (ofOthers other) refl (kind_of_command c))
+    by_kind false false true e f g = rw (is_kind (kind_of_command c) PutCharacter g) (same_put code (one.look s.font code))
+    by_kind false false false e f g = rw (e, f, g) at (on_kinds (of_others one) (of_others other) refl (kind_of_command c))
 
     -- a command asks of the volume only what the definitions before post say
     same_after : after one s c ≡ after other s c
     unfolding after
     same_after = by_kind (is_a Select c) (is_a SetCharacter c) (is_a PutCharacter c) refl refl refl
 
-  same-onwards : (place : ℕ) (own : List Located) → ((s : State) → placing one s own ≡ placing other s own)
+  same_onwards : (place : ℕ) (own : List Located) → ((s : State) → placing one s own ≡ placing other s own)
       → (o : Outcome) → on_outcome place o (λ next. placing one next own) ≡ on_outcome place o (λ next. placing other next own)
-  same-onwards place own h leaves_range = refl
-  same-onwards place own h (continues next added) = ap (λ (x : Answer Contents). and_then x (λ p. given (adding added p))) (h next)
+  same_onwards place own h leaves_range = refl
+  same_onwards place own h (continues next added) = ap (λ (x : Answer Contents). and_then x (λ p. given (adding added p))) (h next)
 
-  same-placing : (own : List Located) (s : State) → placing one s own ≡ placing other s own
+  same_placing : (own : List Located) (s : State) → placing one s own ≡ placing other s own
   unfolding placing
-  same-placing [] s = refl
-  same-placing (c ∷ own) s = rw (same_after s c.command) (same-onwards c.at own (same-placing own) (after other s c.command))
+  same_placing [] s = refl
+  same_placing (c ∷ own) s = rw (same_after s c.command) (same_onwards c.at own (same_placing own) (after other s c.command))
 
 -- each page of the one volume is placed as that of the other
 pub same_placed : {past past' : List Command} → Agree past past' → (table : List ℕ) (resolution page room pages : ℕ)
@@ -161,4 +161,4 @@ same_placed {past} {past'} a table resolution page room pages =
     then_same (checked_table table) (λ rows.
     ap (λ (x : Answer Contents). refuse_if (page_outside page pages) no_such_page 0 (and_then x (with_room room)))
     (ap (placing (setting_in past table k resolution rows page) fresh_state) (a.same_page page)
-    ∙ same-placing a table resolution rows page k (page_of page past') fresh_state)))
+    ∙ same_placing a table resolution rows page k (page_of page past') fresh_state)))

@@ -16,7 +16,7 @@ use Rattle.cutting.specs.Chosen.{wrong_list}
 use Rattle.cutting.specs.CutFile.{cut_file, cut_pages, bytes_cut}
 use Rattle.rewritten.specs.OldWords.{pages_up_to}
 use Rattle.rewritten.proofs.AllPages.{up_to_right}
-use Rattle.rewritten.proofs.CutAccepted.{cut-accepted, cut-length, cut_again}
+use Rattle.rewritten.proofs.CutAccepted.{cut_accepted_lem, cut_length, cut_again}
 use Rattle.reader.specs.declared.PagesCut.{PagesCut}
 use Rattle.reader.specs.declared.PagesCut.TheVariants as PagesCut
 use Rattle.reader.proofs.cut_pages.Reads as cut-pages
@@ -30,21 +30,21 @@ cut_given file list room may = rw (may.accepted, may.right, le-ltb room (length 
 
 module _ (κs : Lfts 3) (file pages area : _) (r : PagesCut) (x : _) (post : cut-pages.Post κs (file, (pages, (area, tt))) r x) where
   -- so many bytes are answered
-  bytes-answered : MayCut file.now pages.now (length area.now) → r ≡ PagesCut.Bytes (length (cut_file file.now pages.now))
-  bytes-answered may =
+  bytes_answered : MayCut file.now pages.now (length area.now) → r ≡ PagesCut.Bytes (length (cut_file file.now pages.now))
+  bytes_answered may =
       cut_one_to_one r (PagesCut.Bytes (length (cut_file file.now pages.now))) (post.0 ∙ ap bytes_cut (cut_given file.now pages.now (length area.now) may))
 
   -- an area with three bytes more than an accepted file suffices for every right list
-  pub three-more-suffice : (s : Summary) → judged file.now ≡ given s → Bytes file.now → wrong_list s.pages pages.now ≡ false → length file.now + 3 ≤ length area.now
+  pub three_more_suffice : (s : Summary) → judged file.now ≡ given s → Bytes file.now → wrong_list s.pages pages.now ≡ false → length file.now + 3 ≤ length area.now
       → r ≡ PagesCut.Bytes (length (cut_file file.now pages.now))
-  three-more-suffice s accepted bytes right long =
-      bytes-answered
-      (record { summary = s; accepted = accepted; right = right; enough = omega (arith, long, (cut-length file.now s accepted bytes pages.now right).1) })
+  three_more_suffice s accepted bytes right long =
+      bytes_answered
+      (record { summary = s; accepted = accepted; right = right; enough = omega (arith, long, (cut_length file.now s accepted bytes pages.now right).1) })
 
 -- a call is answered with bytes exactly if the file is accepted, the list right for its pages, and the area has room for the new file
 pub cut_pages_accepts : (κs : Lfts 3) → (file pages area : _) → (r : PagesCut) → (x : _) → cut-pages.Post κs (file, (pages, (area, tt))) r x
     → IsCut r ↔ MayCut file.now pages.now (length area.now)
-cut_pages_accepts κs file pages area r x post = (forth r post, λ may. subst IsCut (sym (bytes-answered κs file pages area r x post may)) tt)
+cut_pages_accepts κs file pages area r x post = (forth r post, λ may. subst IsCut (sym (bytes_answered κs file pages area r x post may)) tt)
   where
     forth : (r : PagesCut) → cut-pages.Post κs (file, (pages, (area, tt))) r x → IsCut r → MayCut file.now pages.now (length area.now)
     forth (PagesCut.Bytes bytes) post cut =
@@ -74,9 +74,9 @@ cut_again_same κs κs' file pages area bytes x post again all area' r y post' a
     let may : MayCut again.now all.now (length area'.now) =
     record {
       summary = _;
-      accepted = ap judged file_is ∙ cut-accepted file.now g.summary g.accepted are-bytes pages.now g.right;
+      accepted = ap judged file_is ∙ cut_accepted_lem file.now g.summary g.accepted are-bytes pages.now g.right;
       right = ap (wrong_list (length pages.now)) is_all ∙ up_to_right (length pages.now) (has_page g.summary.pages pages.now g.right);
       enough = omega (arith, as_long, enough);
     } in
-    let answer = bytes-answered κs' again all area' r y post' may ∙ ap PagesCut.Bytes as_long in
+    let answer = bytes_answered κs' again all area' r y post' may ∙ ap PagesCut.Bytes as_long in
     (answer, (cut_pages_gives κs' again all area' bytes y (subst (λ (s : PagesCut). cut-pages.Post κs' (again, (all, (area', tt))) s y) answer post')).front ∙ same ∙ sym g.front)

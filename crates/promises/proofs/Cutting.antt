@@ -12,7 +12,7 @@ use lib.IntN.{ℤ}
 use lib.Seq.{take_at, drop_at}
 use borrow.Author.Tests.{ltb-false}
 use Rattle.refusals.specs.Answer.{Answer, refused, given, refuse_if, and_then}
-use Rattle.refusals.proofs.Answer.{given-same, given-not-refused}
+use Rattle.refusals.proofs.Answer.{given_same, given_not_refused}
 use Rattle.widths.specs.AsBytes.{Bytes}
 use Rattle.volume.specs.declared.Summary.{Summary}
 use Rattle.list.specs.Past.{Definition, none, stands, definition_of, post_place}
@@ -27,8 +27,8 @@ use Rattle.cutting.specs.CutFile.{cut_file, cut_accepted, cut_pages, bytes_cut, 
 use Rattle.rewritten.specs.OldWords.{deepest_on, new_place}
 use Rattle.rewritten.specs.Renumbered.{renumbered}
 use Rattle.rewritten.specs.Unplaced.{unplaced}
-use Rattle.rewritten.proofs.CutAccepted.{cut-accepted, cut-definitions}
-use Rattle.rewritten.proofs.CutPlaces.{cut-places}
+use Rattle.rewritten.proofs.CutAccepted.{cut_accepted_lem, cut_definitions}
+use Rattle.rewritten.proofs.CutPlaces.{cut_places}
 use Rattle.reader.specs.declared.FileChecked.{FileChecked}
 use Rattle.reader.specs.declared.PagesCut.{PagesCut}
 use Rattle.reader.specs.declared.PagesCut.TheVariants as PagesCut
@@ -52,17 +52,17 @@ gives file list area bytes after said is = by (judged file) refl said is
         → given bytes ≡ bytes_cut (and_then x (λ found. refuse_if (wrong_list found.pages list) 23 0 (cut_accepted file list (length area))))
         → after ≡ cut_area area (and_then x (λ found. refuse_if (wrong_list found.pages list) 23 0 (cut_accepted file list (length area))))
         → Gives file list area bytes after
-    by (refused number place) e said is = absurd (given-not-refused bytes number place said)
-    by (given s) e said is = of-list (wrong_list s.pages list) refl (ltb (length area) (length (cut_file file list))) refl said is
+    by (refused number place) e said is = absurd (given_not_refused bytes number place said)
+    by (given s) e said is = of_list (wrong_list s.pages list) refl (ltb (length area) (length (cut_file file list))) refl said is
       where
-        of-list : (wrong : Bool) → wrong_list s.pages list ≡ wrong → (short : Bool) → ltb (length area) (length (cut_file file list)) ≡ short
+        of_list : (wrong : Bool) → wrong_list s.pages list ≡ wrong → (short : Bool) → ltb (length area) (length (cut_file file list)) ≡ short
             → given bytes ≡ bytes_cut (refuse_if wrong 23 0 (refuse_if short 17 0 (given (cut_file file list))))
             → after ≡ cut_area area (refuse_if wrong 23 0 (refuse_if short 17 0 (given (cut_file file list))))
             → Gives file list area bytes after
-        of-list true w short t said is = absurd (given-not-refused bytes 23 0 said)
-        of-list false w true t said is = absurd (given-not-refused bytes 17 0 said)
-        of-list false w false t said is =
-            let long = given-same bytes (length (cut_file file list)) said in
+        of_list true w short t said is = absurd (given_not_refused bytes 23 0 said)
+        of_list false w true t said is = absurd (given_not_refused bytes 17 0 said)
+        of_list false w false t said is =
+            let long = given_same bytes (length (cut_file file list)) said in
             record {
               summary = s;
               accepted = e;
@@ -89,7 +89,7 @@ module _ (file list : List ℕ) (s : Summary) (accepted : judged file ≡ given 
   new = cut_file file list
 
   -- its check: as many pages as were chosen, the old file's fonts, the greatest depth of the chosen pages
-  pub new-file-checked : (κs : Lfts 1) → (again : _) → (r : FileChecked) → (x : _) → again.now ≡ new → check-file.Post κs (again, tt) r x
+  pub new_file_checked : (κs : Lfts 1) → (again : _) → (r : FileChecked) → (x : _) → again.now ≡ new → check-file.Post κs (again, tt) r x
       → file_answer r
       ≡ given (record {
         pages = length list;
@@ -97,27 +97,27 @@ module _ (file list : List ℕ) (s : Summary) (accepted : judged file ≡ given 
         depth = deepest_on (is_in list) (history file);
         post = post_place (cut_past (is_in list) (history file));
       })
-  new-file-checked κs again r x is post = post.0 ∙ ap judged is ∙ cut-accepted file s accepted bytes list right
+  new_file_checked κs again r x is post = post.0 ∙ ap judged is ∙ cut_accepted_lem file s accepted bytes list right
 
   -- placing its n-th page: what placing the n-th page of the list answers in the old file, with the new page number in each record, and 16 at the same command's new place
-  pub new-page-placed : (front : List ℕ) (page : ℕ) (rest : List ℕ) → list ≡ front ++ (page ∷ rest) → (κs : Lfts 3) → (again table area : _) → (resolution : ℕ) → (r : Placed) → (x : _)
+  pub new_page_placed : (front : List ℕ) (page : ℕ) (rest : List ℕ) → list ≡ front ++ (page ∷ rest) → (κs : Lfts 3) → (again table area : _) → (resolution : ℕ) → (r : Placed) → (x : _)
       → again.now ≡ new → place-page.Post κs (again, (table, (resolution, (length front + 1, (area, tt))))) r x
       → (placed_answer r
       ≡ placed_counts (renumbered (length front + 1) (new_place (is_in list) (history file)) (placed_page file table.now resolution page (length area.now))))
       × (x.1.1.1.1.0.now
       ≡ area_after area.now (renumbered (length front + 1) (new_place (is_in list) (history file)) (placed_page file table.now resolution page (length area.now))))
-  new-page-placed front page rest is_list κs again table area resolution r x is post =
+  new_page_placed front page rest is_list κs again table area resolution r x is post =
       let same = ap (λ (f : List ℕ). placed_page f table.now resolution (length front + 1) (length area.now)) is
-      ∙ cut-places file s accepted bytes list right front page rest is_list table.now resolution (length area.now) in
+      ∙ cut_places file s accepted bytes list right front page rest is_list table.now resolution (length area.now) in
       (post.0 ∙ ap placed_counts same, post.1.0 ∙ ap (area_after area.now) same)
 
   -- a font's name is the same
   pub same_name : (font : ℤ) → name_of new font ≡ name_of file font
   same_name font =
-      let again = cut-accepted file s accepted bytes list right in
+      let again = cut_accepted_lem file s accepted bytes list right in
       spelled new _ again
       ∙ plain (definition_of false font (history new))
-      ∙ ap name_in (cut-definitions file s accepted bytes list right font)
+      ∙ ap name_in (cut_definitions file s accepted bytes list right font)
       ∙ sym (plain (definition_of false font (history file)))
       ∙ sym (spelled file s accepted)
     where
@@ -129,25 +129,25 @@ module _ (file list : List ℕ) (s : Summary) (accepted : judged file ≡ given 
       plain (stands at c) = refl
 
   -- a name is refused in the new file exactly where it is refused in the old one, with the same number and place
-  pub name-refused-same : (font : ℤ) (number place : ℕ) → (name_place file font ≡ refused number place) ↔ (name_place new font ≡ refused number place)
-  name-refused-same font number place =
+  pub name_refused_same : (font : ℤ) (number place : ℕ) → (name_place file font ≡ refused number place) ↔ (name_place new font ≡ refused number place)
+  name_refused_same font number place =
       let of-old = named file s accepted font in
-      let of-new = named new _ (cut-accepted file s accepted bytes list right) font in
-      let same = cut-definitions file s accepted bytes list right font in (
-        λ e. of-new ∙ refused-too (definition_of false font (history file)) (definition_of false font (history new)) (sym same) (sym of-old ∙ e),
-        λ e. of-old ∙ refused-too (definition_of false font (history new)) (definition_of false font (history file)) same (sym of-new ∙ e),
+      let of-new = named new _ (cut_accepted_lem file s accepted bytes list right) font in
+      let same = cut_definitions file s accepted bytes list right font in (
+        λ e. of-new ∙ refused_too (definition_of false font (history file)) (definition_of false font (history new)) (sym same) (sym of-old ∙ e),
+        λ e. of-old ∙ refused_too (definition_of false font (history new)) (definition_of false font (history file)) same (sym of-new ∙ e),
       )
     where
-      refused-too : (d e : Definition) → unplaced d ≡ unplaced e → named_by d ≡ refused number place → named_by e ≡ refused number place
-      refused-too none none same q = q
-      refused-too none (stands at c) same q = absurd (let z : ◌≡◌ {A = ℕ} 0 1 = cc in omega arith)
-      refused-too (stands at c) e same q = absurd (given-not-refused (name_part at c) number place q)
+      refused_too : (d e : Definition) → unplaced d ≡ unplaced e → named_by d ≡ refused number place → named_by e ≡ refused number place
+      refused_too none none same q = q
+      refused_too none (stands at c) same q = absurd (let z : ◌≡◌ {A = ℕ} 0 1 = cc in omega arith)
+      refused_too (stands at c) e same q = absurd (given_not_refused (name_part at c) number place q)
 
   -- font_name, of the old file and of the new one: the same bytes and the same number, and where it is refused the same place
-  pub new-font-named : (κs κs' : Lfts 3) → (lent again : _) → (font : ℤ) → (n p n' p' r r' x y : _) → lent.now ≡ file → again.now ≡ new
+  pub new_font_named : (κs κs' : Lfts 3) → (lent again : _) → (font : ℤ) → (n p n' p' r r' x y : _) → lent.now ≡ file → again.now ≡ new
       → font-name.Post κs (lent, (font, (n, (p, tt)))) r x → font-name.Post κs' (again, (font, (n', (p', tt)))) r' y
       → (r'.now ≡ r.now) × (y.1.1.0.now ≡ x.1.1.0.now) × ((x.1.1.0.now ≡ 0 → ⊥) → y.1.1.1.0.now ≡ x.1.1.1.0.now)
-  new-font-named κs κs' lent again font n p n' p' r r' x y is-old is-new post post' =
+  new_font_named κs κs' lent again font n p n' p' r r' x y is-old is-new post post' =
       let refusal =
       told x.1.1.0.now x.1.1.1.0.now (length r.now) y.1.1.0.now y.1.1.1.0.now (length r'.now)
       (post.1.1.0 ∙ ap (λ (f : List ℕ). name_place f font) is-old) (post'.1.1.0 ∙ ap (λ (f : List ℕ). name_place f font) is-new) in (
@@ -159,7 +159,7 @@ module _ (file list : List ℕ) (s : Summary) (accepted : judged file ≡ given 
       told : (number place long number' place' long' : ℕ) → name_answer number place long ≡ name_place file font → name_answer number' place' long' ≡ name_place new font
           → (number' ≡ number) × ((number ≡ 0 → ⊥) → place' ≡ place)
       told zero place long zero place' long' e q = (refl, λ some. absurd (some refl))
-      told zero place long (suc less) place' long' e q = absurd (given-not-refused _ (suc less) place' (e ∙ (name-refused-same font (suc less) place').1 (sym q)))
+      told zero place long (suc less) place' long' e q = absurd (given_not_refused _ (suc less) place' (e ∙ (name_refused_same font (suc less) place').1 (sym q)))
       told (suc less) place long number' place' long' e q =
-          let same = name_one_to_one number' place' long' (suc less) place long (q ∙ (name-refused-same font (suc less) place).0 (sym e)) in
+          let same = name_one_to_one number' place' long' (suc less) place long (q ∙ (name_refused_same font (suc less) place).0 (sym e)) in
           (same.0, λ _. same.1)

@@ -9,14 +9,14 @@ use lib.ListN.{length, take, drop, length-append, take-append-drop}
 use lib.Seq.{take_at, drop_at}
 use borrow.Author.Tests.{le-ltb}
 use Rattle.refusals.specs.Answer.{given}
-use Rattle.refusals.proofs.Answer.{given-same}
+use Rattle.refusals.proofs.Answer.{given_same}
 use Rattle.commands.specs.Commands.{Command, written}
 use Rattle.packed.specs.Commands.{fixed_bytes, param_bytes}
 use Rattle.packed.specs.Rules.{ended, font_fault}
 use Rattle.packed.specs.Lawful.{WholeInFont, FollowsInFont, ends, goes, LawfulFont}
 use Rattle.packed.specs.Judged.{taken, font_judged_from, font_judged}
 use Rattle.packed.proofs.Fields.{counted_front}
-use Rattle.packed.proofs.Faults.{taken-length, counted-taken}
+use Rattle.packed.proofs.Faults.{taken_length, counted_taken}
 use Rattle.packed.proofs.Standing.{never, at_end, goes_on}
 use Rattle.promises.specs.Fonts.{upon}
 
@@ -29,8 +29,8 @@ module _ (c : Command) (rest : List ℕ) (whole : WholeInFont c) where
       let counted = counted_front c.opcode c.params rest (omega (arith, whole)) in
       ap (λ (n : ℕ). fixed_bytes c.opcode + n) counted ∙ sym whole
 
-  reads-back : taken c.opcode (c.params ++ rest) ≡ c
-  reads-back = rw size (ap (λ (l : List ℕ). record { opcode = c.opcode; params = l }) (take_at c.params rest (length c.params) refl))
+  reads_back : taken c.opcode (c.params ++ rest) ≡ c
+  reads_back = rw size (ap (λ (l : List ℕ). record { opcode = c.opcode; params = l }) (take_at c.params rest (length c.params) refl))
 
   rest_back : drop (param_bytes c.opcode (c.params ++ rest)) (c.params ++ rest) ≡ rest
   rest_back = rw size (drop_at c.params rest (length c.params) refl)
@@ -40,7 +40,7 @@ pub one_step : (left : ℕ) (past : List Command) (c : Command) (rest : List ℕ
 unfolding font_judged_from
 one_step left past c rest whole right =
     let fits = le-ltb (length (c.params ++ rest)) (param_bytes c.opcode (c.params ++ rest)) (omega (arith, size c rest whole, length-append c.params rest)) in
-    rw (fits, reads-back c rest whole, right, rest_back c rest whole) refl
+    rw (fits, reads_back c rest whole, right, rest_back c rest whole) refl
 
 at_last : (left : ℕ) (past : List Command) → ended past ≡ true → font_judged_from (suc left) past [] ≡ given past
 unfolding font_judged_from
@@ -66,10 +66,10 @@ sound (suc left) past (opcode ∷ rest) all e =
     let goes-here = goes_on left past opcode rest all e in
     let fits = goes-here.fits in
     let (cs, follows, forms, same) = sound left (taken opcode rest ∷ past) (drop (param_bytes opcode rest) rest) all goes-here.onward in
-    let whole : WholeInFont (taken opcode rest) = omega (arith, taken-length opcode rest fits, counted-taken opcode rest fits) in
-    let bytes-are : written (taken opcode rest ∷ cs) ≡ opcode ∷ rest =
+    let whole : WholeInFont (taken opcode rest) = omega (arith, taken_length opcode rest fits, counted_taken opcode rest fits) in
+    let bytes_are : written (taken opcode rest ∷ cs) ≡ opcode ∷ rest =
     ap (λ (l : List ℕ). opcode ∷ (take (param_bytes opcode rest) rest ++ l)) forms ∙ ap (λ (l : List ℕ). opcode ∷ l) (take-append-drop (param_bytes opcode rest) rest) in
-    (taken opcode rest ∷ cs, goes whole goes-here.right follows, bytes-are, same)
+    (taken opcode rest ∷ cs, goes whole goes-here.right follows, bytes_are, same)
 
 -- ---- whole files
 
@@ -99,5 +99,5 @@ back cs = twice cs [] [] ∙ append-nil cs
 pub one_font_list : (cs ds : List Command) → FollowsInFont [] cs → FollowsInFont [] ds → written cs ≡ written ds → cs ≡ ds
 one_font_list cs ds keeps also-keeps e =
     let pk = written ds in
-    let same : upon [] cs ≡ upon [] ds = given-same _ _ (sym (lawful_judged pk (cs, keeps, e)) ∙ lawful_judged pk (ds, also-keeps, refl)) in
+    let same : upon [] cs ≡ upon [] ds = given_same _ _ (sym (lawful_judged pk (cs, keeps, e)) ∙ lawful_judged pk (ds, also-keeps, refl)) in
     sym (back cs) ∙ ap (upon []) same ∙ back ds

@@ -27,13 +27,13 @@ use Rattle.promises.specs.Fonts.{Among, first, later, Rising, none, more, OneFor
 -- ---- in a list that goes on
 
 module _ {A : Type 0} where
-  among-left : (x : A) (xs ys : List A) → Among x xs → Among x (xs ++ ys)
-  among-left x (y ∷ xs) ys first = first
-  among-left x (y ∷ xs) ys (later a) = later (among-left x xs ys a)
+  among_left : (x : A) (xs ys : List A) → Among x xs → Among x (xs ++ ys)
+  among_left x (y ∷ xs) ys first = first
+  among_left x (y ∷ xs) ys (later a) = later (among_left x xs ys a)
 
-  among-right : (x : A) (xs ys : List A) → Among x ys → Among x (xs ++ ys)
-  among-right x [] ys a = a
-  among-right x (y ∷ xs) ys a = later (among-right x xs ys a)
+  among_right : (x : A) (xs ys : List A) → Among x ys → Among x (xs ++ ys)
+  among_right x [] ys a = a
+  among_right x (y ∷ xs) ys a = later (among_right x xs ys a)
 
 uncons : {A : Type 0} (x y : A) (xs : List A) → Among x (y ∷ xs) → (y ≡ x) ⊎ Among x xs
 uncons x y xs first = inl refl
@@ -81,8 +81,8 @@ among_from c past k (suc left) code low high a = go (eqb code k) refl (λ low-ne
     go : (b : Bool) → eqb code k ≡ b → (suc code ≤ k → Among c (packets_from left (suc code) past)) → Among c (packets_for code past ++ packets_from left (suc code) past)
     go true e onward =
         let same : code ≡ k = eqb-true code k e in
-        among-left c (packets_for code past) (packets_from left (suc code) past) (subst (λ (n : ℕ). Among c (packets_for n past)) (sym same) a)
-    go false e onward = among-right c (packets_for code past) (packets_from left (suc code) past) (onward (omega (arith, eqb-false code k e)))
+        among_left c (packets_for code past) (packets_from left (suc code) past) (subst (λ (n : ℕ). Among c (packets_for n past)) (sym same) a)
+    go false e onward = among_right c (packets_for code past) (packets_from left (suc code) past) (onward (omega (arith, eqb-false code k e)))
 
 -- a packet of a file that was judged has a code below 256
 code_small : (pk : List ℕ) (past : List Command) → Standing pk past → (c : Command) → Among c past → is_packet c.opcode ≡ true → code_in c.opcode c.params < 256

@@ -9,13 +9,13 @@ use lib.Dec.{ltb}
 use lib.ListN.{length, take, drop, length-append, take-append-drop, length-drop}
 use borrow.Author.Tests.{lt-ltb, le-ltb, ltb-true, ltb-false}
 use Rattle.refusals.specs.Answer.{Answer, refused, given, refuse_if}
-use Rattle.refusals.proofs.Answer.{given-not-refused}
+use Rattle.refusals.proofs.Answer.{given_not_refused}
 use Rattle.commands.specs.Commands.{Command, written, place}
 use Rattle.packed.specs.Commands.{param_bytes}
 use Rattle.packed.specs.Rules.{ended, font_fault}
 use Rattle.packed.specs.Lawful.{WholeInFont}
 use Rattle.packed.specs.Judged.{taken, font_judged_from, font_judged}
-use Rattle.packed.proofs.Faults.{taken-length, counted-taken}
+use Rattle.packed.proofs.Faults.{taken_length, counted_taken}
 use Rattle.promises.specs.Fonts.{upon, KeptInFont, none_kept, one_kept, DueInFont, no_postamble, cut, broken, FontRefused}
 use Rattle.promises.proofs.FontLists.{one_step}
 
@@ -59,7 +59,7 @@ refused_from zero past bytes number at h e = absurd (omega arith)
 refused_from (suc left) past [] number at h e = go (ended past) refl e
   where
     go : (b : Bool) → ended past ≡ b → refuse_if (not b) 18 (place past) (given past) ≡ refused number at → Begins past [] number at
-    go true f e = absurd (given-not-refused past number at e)
+    go true f e = absurd (given_not_refused past number at e)
     go false f e = here past [] 18 number at (no_postamble f) e
 refused_from (suc left) past (opcode ∷ rest) number at h e =
     go (ltb (length rest) (param_bytes opcode rest)) (ltb 0 (font_fault past (taken opcode rest))) refl refl e (refused_from left (taken opcode rest ∷ past) (drop (param_bytes opcode rest) rest) number at)
@@ -77,11 +77,11 @@ refused_from (suc left) past (opcode ∷ rest) number at h e =
         let fits = ltb-false (length rest) (param_bytes opcode rest) p in
         let right : font_fault past (taken opcode rest) ≡ 0 = omega (arith, ltb-false 0 (font_fault past (taken opcode rest)) q) in
         let (cs, kept, (behind, forms, due, there)) = onward (omega (arith, length-drop (param_bytes opcode rest) rest)) e in
-        let whole : WholeInFont (taken opcode rest) = omega (arith, taken-length opcode rest fits, counted-taken opcode rest fits) in
+        let whole : WholeInFont (taken opcode rest) = omega (arith, taken_length opcode rest fits, counted_taken opcode rest fits) in
         let params = take (param_bytes opcode rest) rest in
-        let bytes-are : (opcode ∷ (params ++ written cs)) ++ behind ≡ opcode ∷ rest =
+        let bytes_are : (opcode ∷ (params ++ written cs)) ++ behind ≡ opcode ∷ rest =
         ap (λ (l : List ℕ). opcode ∷ l) (append_assoc params (written cs) behind ∙ ap (λ (l : List ℕ). params ++ l) forms ∙ take-append-drop (param_bytes opcode rest) rest) in
-        (taken opcode rest ∷ cs, one_kept whole right kept, (behind, bytes-are, due, there))
+        (taken opcode rest ∷ cs, one_kept whole right kept, (behind, bytes_are, due, there))
 
 -- ---- the theorem
 

@@ -167,19 +167,19 @@ data Before (checksum scale least : ℕ) : List Entry → Type 0 where
   last : (front : List Entry) (d : Entry) → d.checksum ≡ checksum → d.scale ≡ scale → Fits d → d.code < least → Before checksum scale least (front ++ (d ∷ []))
 
 module _ (checksum scale : ℕ) (e : Entry) (sum_is : e.checksum ≡ checksum) (scale_is : e.scale ≡ scale) (fits : Fits e) (back : List Entry) where
-  own-fields : (front : List Entry) → lawful_fields (record_of (table_bytes (front ++ (e ∷ back))) (length front)) ≡ true
-  own-fields front =
+  own_fields : (front : List Entry) → lawful_fields (record_of (table_bytes (front ++ (e ∷ back))) (length front)) ≡ true
+  own_fields front =
       let r = record_reads front e back fits in
       let first = ap (λ (w : FixWord). w.b0) r.width_is in
       simp (r.scale_is, r.name_zeros, r.zero_is, first, fits.scale_right, fits.first_right)
 
-  whole-record : (front : List Entry) → whole_in name_size (table_bytes (front ++ (e ∷ back))) (length front) ≡ true
-  whole-record front =
+  whole_record : (front : List Entry) → whole_in name_size (table_bytes (front ++ (e ∷ back))) (length front) ≡ true
+  whole_record front =
       le-leb (length front * width_record_size + width_record_size) (length (table_bytes (front ++ (e ∷ back)))) (omega (arith, table_length (front ++ (e ∷ back)), length-append front (e ∷ back)))
 
-  rises-here : (least : ℕ) (front : List Entry) → least ≤ e.code → Before checksum scale least front → rises_in name_size (table_bytes (front ++ (e ∷ back))) (length front) ≡ true
-  rises-here least front low nothing = refl
-  rises-here least front low (last init d d-sum d-scale d-fits below) =
+  rises_here : (least : ℕ) (front : List Entry) → least ≤ e.code → Before checksum scale least front → rises_in name_size (table_bytes (front ++ (e ∷ back))) (length front) ≡ true
+  rises_here least front low nothing = refl
+  rises_here least front low (last init d d-sum d-scale d-fits below) =
       let table = table_bytes ((init ++ (d ∷ [])) ++ (e ∷ back)) in
       let count : length (init ++ (d ∷ [])) ≡ suc (length init) = omega (arith, length-append init (d ∷ [])) in
       let shifted : table_bytes (init ++ (d ∷ (e ∷ back))) ≡ table = ap table_bytes (sym (append_assoc init (d ∷ []) (e ∷ back))) in
@@ -193,8 +193,8 @@ module _ (checksum scale : ℕ) (e : Entry) (sum_is : e.checksum ≡ checksum) (
       key_reads table (suc (length init)) e here ∙ ap₂ (λ (c s : ℕ). character_key (unsigned_at (bytes_of 4 c) 0 4) s 0 e.code) sum_is scale_is in
       rw count (by_code ((X * 2 ^ 32 + scale) * 2 ^ 128 + 0) d.code e.code (record_of table (length init)).key (record_of table (suc (length init))).key low_key high-key lower)
 
-  right-record : (least : ℕ) (front : List Entry) → least ≤ e.code → Before checksum scale least front → right_in name_size (table_bytes (front ++ (e ∷ back))) (length front) ≡ true
-  right-record least front low before = simp (whole-record front, rises-here least front low before, own-fields front)
+  right_record : (least : ℕ) (front : List Entry) → least ≤ e.code → Before checksum scale least front → right_in name_size (table_bytes (front ++ (e ∷ back))) (length front) ≡ true
+  right_record least front low before = simp (whole_record front, rises_here least front low before, own_fields front)
 
 -- ---- the check
 
@@ -216,7 +216,7 @@ checked_all checksum scale least front (e ∷ rest) alike rising before zero h =
 checked_all checksum scale least front (e ∷ rest) (an_entry d sum_is scale_is fits alike) (more d' low high rising) before (suc left) h =
     let table = table_bytes (front ++ (e ∷ rest)) in
     let inside : length front * width_record_size < length table = omega (arith, table_length (front ++ (e ∷ rest)), length-append front (e ∷ rest)) in
-    let right = right-record checksum scale e sum_is scale_is fits rest least front low before in
+    let right = right_record checksum scale e sum_is scale_is fits rest least front low before in
     let next = front ++ (e ∷ []) in
     let same : next ++ rest ≡ front ++ (e ∷ rest) = append_assoc front (e ∷ []) rest in
     let count : length next ≡ suc (length front) = omega (arith, length-append front (e ∷ [])) in

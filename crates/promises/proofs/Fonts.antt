@@ -11,7 +11,7 @@ use lib.ListN.{length, take, drop}
 use lib.Seq.{take_at}
 use borrow.Author.Tests.{ltb-false}
 use Rattle.refusals.specs.Answer.{Answer, refused, given, refuse_if, and_then}
-use Rattle.refusals.proofs.Answer.{given-same, given-next, given-not-refused}
+use Rattle.refusals.proofs.Answer.{given_same, given_next, given_not_refused}
 use Rattle.numbers.specs.Bytes.{unsigned_at}
 use Rattle.numbers.specs.Sizes.{lawful_size}
 use Rattle.numbers.proofs.Bytes.{unsigned_drop, unsigned_below, read_back}
@@ -29,7 +29,7 @@ use Rattle.packed.proofs.Faults.{packet_right}
 use Rattle.packed.proofs.Standing.{Standing, judged_stands}
 use Rattle.packed.proofs.Standing as standing
 use Rattle.packed.proofs.Written.{table_length}
-use Rattle.packed.proofs.MadeLaws.{made-given}
+use Rattle.packed.proofs.MadeLaws.{made_given}
 use Rattle.packed.proofs.Writing.{judged_preambled}
 use Rattle.reader.specs.declared.TableMade.{TableMade}
 use Rattle.reader.specs.declared.TableMade.TheVariants as TableMade
@@ -60,26 +60,26 @@ module _ (pk : List ℕ) (scale : ℕ) (past : List Command) (lawful : lawful_si
       fits_among pk past (judged_stands pk past judged).stand (font_checksum past) scale lawful c r.0 r.1
 
   -- the table check finds the table right
-  pub table-checks : checked_table (table_bytes (font_table scale past)) ≡ given (length (font_table scale past))
-  table-checks = alike_checks (font_checksum past) scale (font_table scale past) (alike_map (font_checksum past) scale (packets_from 256 0 past) all_fit) (one_for_one pk scale past judged).rising
+  pub table_checks : checked_table (table_bytes (font_table scale past)) ≡ given (length (font_table scale past))
+  table_checks = alike_checks (font_checksum past) scale (font_table scale past) (alike_map (font_checksum past) scale (packets_from 256 0 past) all_fit) (one_for_one pk scale past judged).rising
 
   alike_all : Alike (font_checksum past) scale (font_table scale past)
   alike_all = alike_map (font_checksum past) scale (packets_from 256 0 past) all_fit
 
   -- an entry of the table fits, and has the font's check sum
-  in-alike : (entries : List Entry) → Alike (font_checksum past) scale entries → (front : List Entry) (e : Entry) (back : List Entry) → entries ≡ front ++ (e ∷ back) → Fits e × (e.checksum ≡ font_checksum past)
-  in-alike entries alike front e back split = alike_at front e back (subst (Alike (font_checksum past) scale) split alike)
+  in_alike : (entries : List Entry) → Alike (font_checksum past) scale entries → (front : List Entry) (e : Entry) (back : List Entry) → entries ≡ front ++ (e ∷ back) → Fits e × (e.checksum ≡ font_checksum past)
+  in_alike entries alike front e back split = alike_at front e back (subst (Alike (font_checksum past) scale) split alike)
     where
       alike_at : (front : List Entry) (e : Entry) (back : List Entry) → Alike (font_checksum past) scale (front ++ (e ∷ back)) → Fits e × (e.checksum ≡ font_checksum past)
       alike_at [] e back (an_entry d sum_is scale_is fits alike) = (fits, sum_is)
       alike_at (x ∷ front) e back (an_entry d sum_is scale_is fits alike) = alike_at front e back alike
 
-  pub entry-sum : (front : List Entry) (e : Entry) (back : List Entry) → font_table scale past ≡ front ++ (e ∷ back) → e.checksum ≡ font_checksum past
-  entry-sum front e back split = (in-alike (font_table scale past) alike_all front e back split).1
+  pub entry_sum : (front : List Entry) (e : Entry) (back : List Entry) → font_table scale past ≡ front ++ (e ∷ back) → e.checksum ≡ font_checksum past
+  entry_sum front e back split = (in_alike (font_table scale past) alike_all front e back split).1
 
   -- each of its records reads as its entry
-  pub entry-reads : (front : List Entry) (e : Entry) (back : List Entry) → font_table scale past ≡ front ++ (e ∷ back) → Reads (record_of (table_bytes (font_table scale past)) (length front)) e
-  entry-reads front e back split = rw split (record_reads front e back (in-alike (font_table scale past) alike_all front e back split).0)
+  pub entry_reads : (front : List Entry) (e : Entry) (back : List Entry) → font_table scale past ≡ front ++ (e ∷ back) → Reads (record_of (table_bytes (font_table scale past)) (length front)) e
+  entry_reads front e back split = rw split (record_reads front e back (in_alike (font_table scale past) alike_all front e back split).0)
 
 -- the check sum of a file of bytes has four bytes
 sum_small : (pk : List ℕ) (past : List Command) → font_judged pk ≡ given past → Bytes pk → font_checksum past < 2 ^ 32
@@ -103,14 +103,14 @@ record Grounds (pk : List ℕ) (scale room : ℕ) (entries : List Entry) : Type 
 
 grounds : (pk : List ℕ) (scale room : ℕ) (entries : List Entry) → table_made pk scale room ≡ given entries → Grounds pk scale room entries
 grounds pk scale room entries e =
-    let scaled = given-next (not (lawful_size scale)) 22 0 (and_then (font_judged pk) (λ past. with_room room (font_table scale past))) entries e in
+    let scaled = given_next (not (lawful_size scale)) 22 0 (and_then (font_judged pk) (λ past. with_room room (font_table scale past))) entries e in
     go (font_judged pk) refl (not_true (lawful_size scale) scaled.0) scaled.1
   where
     go : (a : Answer (List Command)) → font_judged pk ≡ a → lawful_size scale ≡ true → and_then a (λ past. with_room room (font_table scale past)) ≡ given entries → Grounds pk scale room entries
     go (refused number place) judged lawful made = absurd (let z : ◌≡◌ {A = ℕ} 0 1 = cc in omega arith)
     go (given past) judged lawful made =
-        let roomy = given-next (ltb room (width_record_size * length (font_table scale past))) 17 0 (given (font_table scale past)) entries made in
-        let same : font_table scale past ≡ entries = given-same (font_table scale past) entries roomy.1 in
+        let roomy = given_next (ltb room (width_record_size * length (font_table scale past))) 17 0 (given (font_table scale past)) entries made in
+        let same : font_table scale past ≡ entries = given_same (font_table scale past) entries roomy.1 in
         record {
           past = past;
           lawful = lawful;
@@ -121,39 +121,39 @@ grounds pk scale room entries e =
 
 -- an accepted call
 module _ (pk : List ℕ) (scale room records : ℕ) (before after : List ℕ) where
-  makes-by : (entries : List Entry) → Grounds pk scale room entries → records ≡ length entries → after ≡ table_area before (given entries) → Makes pk scale records before after
-  makes-by entries g count area =
+  makes_by : (entries : List Entry) → Grounds pk scale room entries → records ≡ length entries → after ≡ table_area before (given entries) → Makes pk scale records before after
+  makes_by entries g count area =
       let lawful = judged_lawful pk g.past g.judged in
       let size : length (table_bytes entries) ≡ width_record_size * records = omega (arith, table_length entries, count) in
       let front : take (width_record_size * records) after ≡ table_bytes entries =
       ap (take (width_record_size * records)) area ∙ take_at (table_bytes entries) (drop (width_record_size * length entries) before) (width_record_size * records) size in
       let table_is : take (width_record_size * records) after ≡ table_bytes (font_table scale g.past) = front ∙ ap table_bytes (sym g.entries_are) in
-      let packets-are : packets g.past ≡ records = sym (one_for_one pk scale g.past g.judged).as_many ∙ ap length g.entries_are ∙ sym count in
+      let packets_are : packets g.past ≡ records = sym (one_for_one pk scale g.past g.judged).as_many ∙ ap length g.entries_are ∙ sym count in
       record {
         list = lawful.0.0;
         keeps = lawful.0.1;
         forms = lawful.0.2;
         entries = entries;
-        records_are = sym packets-are ∙ ap packets lawful.1;
+        records_are = sym packets_are ∙ ap packets lawful.1;
         one_for_one =
             subst (λ (l : List Command). OneForOne scale l entries) lawful.1 (subst (OneForOne scale g.past) g.entries_are (one_for_one pk scale g.past g.judged));
         area = area ∙ ap (λ (n : ℕ). table_bytes entries ++ drop (width_record_size * n) before) (sym count);
-        checks = ap checked_table table_is ∙ table-checks pk scale g.past g.lawful g.judged ∙ ap given (ap length g.entries_are ∙ sym count);
-        record_reads = λ first-ones e back split. rw table_is (entry-reads pk scale g.past g.lawful g.judged first-ones e back (g.entries_are ∙ split));
+        checks = ap checked_table table_is ∙ table_checks pk scale g.past g.lawful g.judged ∙ ap given (ap length g.entries_are ∙ sym count);
+        record_reads = λ first-ones e back split. rw table_is (entry_reads pk scale g.past g.lawful g.judged first-ones e back (g.entries_are ∙ split));
         check_sums = λ bytes first-ones e back split.
-            let reads = entry-reads pk scale g.past g.lawful g.judged first-ones e back (g.entries_are ∙ split) in
-            let own = entry-sum pk scale g.past g.lawful g.judged first-ones e back (g.entries_are ∙ split) in
+            let reads = entry_reads pk scale g.past g.lawful g.judged first-ones e back (g.entries_are ∙ split) in
+            let own = entry_sum pk scale g.past g.lawful g.judged first-ones e back (g.entries_are ∙ split) in
             rw table_is (reads.sum_is ∙ read_back 4 e.checksum (omega (arith, own, sum_small pk g.past g.judged bytes)));
       }
 
-  makes-of : (answer : Answer (List Entry)) → table_made pk scale room ≡ answer → given records ≡ records_made answer → after ≡ table_area before answer → Makes pk scale records before after
-  makes-of (refused number place) e said area = absurd (let z : ◌≡◌ {A = ℕ} 0 1 = cc in omega arith)
-  makes-of (given entries) e said area = makes-by entries (grounds pk scale room entries e) (given-same records (length entries) said) area
+  makes_of : (answer : Answer (List Entry)) → table_made pk scale room ≡ answer → given records ≡ records_made answer → after ≡ table_area before answer → Makes pk scale records before after
+  makes_of (refused number place) e said area = absurd (let z : ◌≡◌ {A = ℕ} 0 1 = cc in omega arith)
+  makes_of (given entries) e said area = makes_by entries (grounds pk scale room entries e) (given_same records (length entries) said) area
 
 pub width_table_makes : (κs : Lfts 2) → (pk : _) → (scale : ℕ) → (area : _) → (records : ℕ) → (x : _) → width-table.Post κs (pk, (scale, (area, tt))) (TableMade.Records records) x
     → Makes pk.now scale records area.now x.1.1.0.now
 width_table_makes κs pk scale area records x post =
-    makes-of pk.now scale (length area.now) records area.now x.1.1.0.now (table_made pk.now scale (length area.now)) refl post.0 post.1.0
+    makes_of pk.now scale (length area.now) records area.now x.1.1.0.now (table_made pk.now scale (length area.now)) refl post.0 post.1.0
 
 -- a call is accepted exactly if the scale is lawful, the file is a lawful PK file, and the area has room for a record a packet
 pub font_table_iff : (pk : List ℕ) (scale room : ℕ)
@@ -173,7 +173,7 @@ font_table_iff pk scale room = (forth, back)
         let past = upon [] lawful.0 in
         let judged = lawful_judged pk lawful in
         let count = (one_for_one pk scale past judged).as_many in
-        (font_table scale past, made-given pk scale room right past judged (omega (arith, enough, count)))
+        (font_table scale past, made_given pk scale room right past judged (omega (arith, enough, count)))
 
 -- the same of the contract
 pub width_table_accepts : (κs : Lfts 2) → (pk : _) → (scale : ℕ) → (area : _) → (r : TableMade) → (x : _) → width-table.Post κs (pk, (scale, (area, tt))) r x
@@ -195,7 +195,7 @@ width_table_accepts κs pk scale area r x post = (forth r post.0, back r post.0)
     back (TableMade.Records records) said taken = tt
     back (TableMade.Refused number place) said taken =
         let (entries, e) = (font_table_iff pk.now scale (length area.now)).1 taken in
-        given-not-refused (length entries) number place (sym (said ∙ ap records_made e))
+        given_not_refused (length entries) number place (sym (said ∙ ap records_made e))
 
 -- for every list that keeps the rules and is written as the file, answer and area are those of this list
 pub width_table_by_the_list : (κs : Lfts 2) → (pk : _) → (scale : ℕ) → (area : _) → (r : TableMade) → (x : _) → width-table.Post κs (pk, (scale, (area, tt))) r x

@@ -12,19 +12,19 @@ use lib.Seq.{take_at, drop_at}
 use borrow.Author.Tests.{le-ltb}
 use Rattle.refusals.specs.Numbers.{no_such_page, area_too_short, named_record}
 use Rattle.refusals.specs.Answer.{Answer, given, refuse_if, and_then}
-use Rattle.refusals.proofs.Answer.{given-same}
+use Rattle.refusals.proofs.Answer.{given_same}
 use Rattle.names.specs.Names.{name_size, name_number}
 use Rattle.units.specs.declared.Ratio.{Ratio}
 use Rattle.units.specs.Unit.{unit_of, drift}
 use Rattle.widths.specs.AsBytes.{Bytes}
 use Rattle.widths.specs.Table.{size_with, checked_in, checked_table, old_table}
 use Rattle.widths.specs.LookUp.{LookUp, code_byte}
-use Rattle.widths.proofs.TableLaws.{table-size}
+use Rattle.widths.proofs.TableLaws.{table_size}
 use Rattle.converting.specs.Converting.{in_form, narrow_table, converted_area}
 use Rattle.converting.specs.Named.{Unnamed, FirstNamed}
-use Rattle.converting.proofs.Forms.{form-length}
-use Rattle.converting.proofs.Named.{widen_given, narrow-given, narrow-named}
-use Rattle.converting.proofs.Widened.{widened-right, widened-looks, narrowed-again, narrow-of-widened}
+use Rattle.converting.proofs.Forms.{form_length}
+use Rattle.converting.proofs.Named.{widen_given, narrow_given, narrow_named}
+use Rattle.converting.proofs.Widened.{widened_right, widened_looks, narrowed_again, narrow_of_widened}
 use Rattle.list.specs.Past.{num, den, mag}
 use Rattle.volume.specs.declared.Summary.{Summary}
 use Rattle.volume.specs.Judged.{judged}
@@ -51,7 +51,7 @@ use Rattle.promises.specs.OldTables.{old_look, old_placed_page, Converts}
 converts : (from to : ℕ) (table before after : List ℕ) (records : ℕ) → checked_in from table ≡ given records → records * size_with to ≤ length before
     → after ≡ converted_area from to table before (given records) → Converts from to table before after records
 converts from to table before after records judged room is =
-    let size = form-length from to records table (omega (arith, table-size from table records judged)) in
+    let size = form_length from to records table (omega (arith, table_size from table records judged)) in
     record {
       room = room;
       front = ap (take (records * size_with to)) is ∙ take_at (in_form from to records table) (drop (records * size_with to) before) (records * size_with to) size;
@@ -69,13 +69,13 @@ widen_table_gives κs old area records x post =
 pub narrow_table_gives : (κs : Lfts 2) → (table area : _) → (records : ℕ) → (x : _) → narrow-table.Post κs (table, (area, tt)) (TableMade.Records records) x
     → (checked_table table.now ≡ given records) × Unnamed table.now records × Converts name_size 0 table.now area.now x.1.0.now records
 narrow_table_gives κs table area records x post =
-    let all = (narrow-given table.now (length area.now) records).0 (sym post.0) in
+    let all = (narrow_given table.now (length area.now) records).0 (sym post.0) in
     (all.0, all.1, converts name_size 0 table.now area.now x.1.0.now records all.0 all.2 (post.1.0 ∙ ap (converted_area name_size 0 table.now area.now) (sym post.0)))
 
 -- what 24 refuses has a name: it is the first record with one, in a table that is right
 pub narrow_table_names : (κs : Lfts 2) → (table area : _) → (place : ℕ) → (x : _) → narrow-table.Post κs (table, (area, tt)) (TableMade.Refused named_record place) x
     → (records : ℕ) × (checked_table table.now ≡ given records) × FirstNamed table.now records place
-narrow_table_names κs table area place x post = (narrow-named table.now (length area.now) place).0 (sym post.0)
+narrow_table_names κs table area place x post = (narrow_named table.now (length area.now) place).0 (sym post.0)
 
 -- ---- when a call gives records
 
@@ -88,13 +88,13 @@ widen_table_takes κs old area r x post records right room = made_one_to_one r (
 pub narrow_table_takes : (κs : Lfts 2) → (table area : _) → (r : TableMade) → (x : _) → narrow-table.Post κs (table, (area, tt)) r x
     → (records : ℕ) → checked_table table.now ≡ given records → Unnamed table.now records → records * size_with 0 ≤ length area.now → r ≡ TableMade.Records records
 narrow_table_takes κs table area r x post records right none room =
-    made_one_to_one r (TableMade.Records records) (post.0 ∙ (narrow-given table.now (length area.now) records).1 (right, none, room))
+    made_one_to_one r (TableMade.Records records) (post.0 ∙ (narrow_given table.now (length area.now) records).1 (right, none, room))
 
 -- and every right table with a name is refused with 24, whatever the area
 pub names_are_told : (κs : Lfts 2) → (table area : _) → (r : TableMade) → (x : _) → narrow-table.Post κs (table, (area, tt)) r x
     → (records place : ℕ) → checked_table table.now ≡ given records → FirstNamed table.now records place → r ≡ TableMade.Refused named_record place
 names_are_told κs table area r x post records place right first =
-    made_one_to_one r (TableMade.Refused named_record place) (post.0 ∙ (narrow-named table.now (length area.now) place).1 (records, right, first))
+    made_one_to_one r (TableMade.Refused named_record place) (post.0 ∙ (narrow_named table.now (length area.now) place).1 (records, right, first))
 
 -- ---- the widened table and the other entries
 
@@ -103,53 +103,53 @@ module _ (old : List ℕ) (records : ℕ) (right : old_table old ≡ given recor
   new = in_form 0 name_size records old
 
   -- the check finds it right, with as many records
-  pub widened-table-checked : Bytes old → (κs : Lfts 1) → (table : _) → (r : TableChecked) → (x : _) → table.now ≡ in_form 0 name_size records old → check-table.Post κs (table, tt) r x
+  pub widened_table_checked : Bytes old → (κs : Lfts 1) → (table : _) → (r : TableChecked) → (x : _) → table.now ≡ in_form 0 name_size records old → check-table.Post κs (table, tt) r x
       → table_answer r ≡ given records
-  widened-table-checked bytes κs table r x is post = post ∙ ap checked_table is ∙ widened-right old records bytes right
+  widened_table_checked bytes κs table r x is post = post ∙ ap checked_table is ∙ widened_right old records bytes right
 
   -- it goes back where the area has room
-  pub widened-table-taken-back : Bytes old → (κs : Lfts 2) → (table area : _) → (r : TableMade) → (x : _) → table.now ≡ in_form 0 name_size records old → records * size_with 0 ≤ length area.now
+  pub widened_table_taken_back : Bytes old → (κs : Lfts 2) → (table area : _) → (r : TableMade) → (x : _) → table.now ≡ in_form 0 name_size records old → records * size_with 0 ≤ length area.now
       → narrow-table.Post κs (table, (area, tt)) r x → r ≡ TableMade.Records records
-  widened-table-taken-back bytes κs table area r x is room post =
+  widened_table_taken_back bytes κs table area r x is room post =
       made_one_to_one r (TableMade.Records records)
-      (post.0 ∙ ap (λ (t : List ℕ). narrow_table t (length area.now)) is ∙ narrow-of-widened old records bytes right (length area.now)
+      (post.0 ∙ ap (λ (t : List ℕ). narrow_table t (length area.now)) is ∙ narrow_of_widened old records bytes right (length area.now)
       ∙ ap (λ (short : Bool). refuse_if short area_too_short 0 (given records)) (le-ltb (length area.now) (records * size_with 0) room))
 
   -- it is narrowed to the old table, byte by byte
-  pub widened-table-narrowed : (κs : Lfts 2) → (table area : _) → (count : ℕ) → (x : _) → Bytes old → table.now ≡ in_form 0 name_size records old
+  pub widened_table_narrowed : (κs : Lfts 2) → (table area : _) → (count : ℕ) → (x : _) → Bytes old → table.now ≡ in_form 0 name_size records old
       → narrow-table.Post κs (table, (area, tt)) (TableMade.Records count) x
       → (count ≡ records) × (take (records * size_with 0) x.1.0.now ≡ old)
-  widened-table-narrowed κs table area count x bytes is post =
+  widened_table_narrowed κs table area count x bytes is post =
       let given-all = narrow_table_gives κs table area count x post in
-      let same : count ≡ records = given-same count records (sym given-all.0 ∙ ap checked_table is ∙ widened-right old records bytes right) in (
+      let same : count ≡ records = given_same count records (sym given-all.0 ∙ ap checked_table is ∙ widened_right old records bytes right) in (
         same,
         subst (λ (n : ℕ). take (n * size_with 0) x.1.0.now ≡ in_form name_size 0 n table.now) same given-all.2.front
-            ∙ ap (in_form name_size 0 records) is ∙ narrowed-again old records right,
+            ∙ ap (in_form name_size 0 records) is ∙ narrowed_again old records right,
       )
 
   -- whatever a font is called, its characters are found as the old look-up finds them
-  looks-same : look_in new records ≡ old_look old records
-  looks-same = fun_ext (λ (font : Font). fun_ext (λ (code : ℤ). widened-looks old records right font.checksum font.scale (name_number font.name) (code_byte code)))
+  looks_same : look_in new records ≡ old_look old records
+  looks_same = fun_ext (λ (font : Font). fun_ext (λ (code : ℤ). widened_looks old records right font.checksum font.scale (name_number font.name) (code_byte code)))
 
   -- every page places as the old look-up would have placed it
-  pub widened-places : Bytes old → (file : List ℕ) (resolution page room : ℕ) → placed_page file (in_form 0 name_size records old) resolution page room ≡ old_placed_page file old resolution page room
-  widened-places bytes file resolution page room =
+  pub widened_places : Bytes old → (file : List ℕ) (resolution page room : ℕ) → placed_page file (in_form 0 name_size records old) resolution page room ≡ old_placed_page file old resolution page room
+  widened_places bytes file resolution page room =
       let past = history file in
       let walked : Summary → Ratio → (Font → ℤ → LookUp) → Answer Contents = λ found k look.
       refuse_if (page_outside page found.pages) no_such_page 0
       (and_then (placing (record { ruler = record { k = k; drift = drift resolution }; look = look; volume = past; page = page }) fresh_state (page_of page past)) (with_room room)) in
       let by : Answer ℕ → (ℕ → Font → ℤ → LookUp) → Answer Contents = λ judgement look.
       and_then (judged file) (λ found. and_then (unit_of (num past) (den past) (mag past) resolution) (λ k. and_then judgement (λ rows. walked found k (look rows)))) in
-      ap (λ (a : Answer ℕ). by a (look_in new)) (widened-right old records bytes right)
-      ∙ ap (λ (look : Font → ℤ → LookUp). by (given records) (λ rows. look)) looks-same
+      ap (λ (a : Answer ℕ). by a (look_in new)) (widened_right old records bytes right)
+      ∙ ap (λ (look : Font → ℤ → LookUp). by (given records) (λ rows. look)) looks_same
       ∙ ap (λ (a : Answer ℕ). by a (old_look old)) (sym right)
 
   -- the same of a call: its counts or its refusal, and every byte of the area
-  pub widened-page-placed : Bytes old → (κs : Lfts 3) → (file table area : _) → (resolution page : ℕ) → (r : Placed) → (x : _) → table.now ≡ in_form 0 name_size records old
+  pub widened_page_placed : Bytes old → (κs : Lfts 3) → (file table area : _) → (resolution page : ℕ) → (r : Placed) → (x : _) → table.now ≡ in_form 0 name_size records old
       → place-page.Post κs (file, (table, (resolution, (page, (area, tt))))) r x
       → (placed_answer r ≡ placed_counts (old_placed_page file.now old resolution page (length area.now)))
       × (x.1.1.1.1.0.now ≡ area_after area.now (old_placed_page file.now old resolution page (length area.now)))
-  widened-page-placed bytes κs file table area resolution page r x is post =
+  widened_page_placed bytes κs file table area resolution page r x is post =
       let same : placed_page file.now table.now resolution page (length area.now) ≡ old_placed_page file.now old resolution page (length area.now) =
-      ap (λ (t : List ℕ). placed_page file.now t resolution page (length area.now)) is ∙ widened-places bytes file.now resolution page (length area.now) in
+      ap (λ (t : List ℕ). placed_page file.now t resolution page (length area.now)) is ∙ widened_places bytes file.now resolution page (length area.now) in
       (post.0 ∙ ap placed_counts same, post.1.0 ∙ ap (area_after area.now) same)

@@ -28,11 +28,11 @@ use Rattle.page.proofs.Traces.{accepted_trace, accepted_end}
 use Rattle.cutting.specs.Chosen.{is_in, wrong_list}
 use Rattle.cutting.specs.CutList.{opening, stays, mended, cut_after, cut_past}
 use Rattle.cutting.specs.CutFile.{cut_file}
-use Rattle.cutting.proofs.Turning.{Turn, starts, idles, defines_early, begins, within, finishes, posts, idles_late, defines_again, ends, turn_of_lem}
+use Rattle.cutting.proofs.Turning.{Turn, starts, idles, defines_early, begins, within, finishes, posts, idles_late, defines_again, ends, turn_of}
 use Rattle.rewritten.specs.OldWords.{deepest_on}
 use Rattle.rewritten.proofs.Opening.{inner_stage}
-use Rattle.rewritten.proofs.Mending.{post_length, post-depth}
-use Rattle.rewritten.proofs.CutAccepted.{cut-accepted, cut-history}
+use Rattle.rewritten.proofs.Mending.{post_length, post_depth_lem}
+use Rattle.rewritten.proofs.CutAccepted.{cut_accepted_lem, cut_history}
 use Rattle.promises.specs.StatedDepth.{stated_depth}
 use Rattle.promises.proofs.Volumes.{PastKeeps, no_more, and_one, deep}
 
@@ -73,22 +73,22 @@ module _ (new : List ℕ) (first : List Command) (chosen : ℕ → Bool) (early 
   States past = stated_depth new (post_place past) ≡ greatest past
 
   -- a post that is mended for the commands before it
-  post-states : (before : List Command) (c : Command) (rest : List ℕ) → Whole c → Trace new before → front (drop (place before) new) ≡ whole (mended before c) rest
+  post_states : (before : List Command) (c : Command) (rest : List ℕ) → Whole c → Trace new before → front (drop (place before) new) ≡ whole (mended before c) rest
       → kind_of_command c ≡ Post → States (mended before c ∷ before)
-  post-states before c rest w t f k =
+  post_states before c rest w t f k =
       let there : drop (place before + 1) new ≡ drop 1 (drop (place before) new) = sym (drop-drop 1 (place before) new) in
       let bytes = ap (drop 1) (front_sound (drop (place before) new) (mended before c) rest f).1 in
       let size = post_length before c w k ∙ whole_plain c w k refl in
       let stated : stated_depth new (place before) ≡ greatest before =
       ap (unsigned_in post_depth) (there ∙ bytes)
       ∙ unsigned_front (mended before c).params rest 24 2 (omega (arith, size))
-      ∙ post-depth before c w k (omega (arith, deepest_there (kept t))) in
+      ∙ post_depth_lem before c w k (omega (arith, deepest_there (kept t))) in
       rw k (stated ∙ no_deeper before)
 
   -- so do the commands with one more that is a post or stands behind it
-  later-states : (before : List Command) (c : Command) → Allowed before c → (is_a Post c ≡ true → States (c ∷ before)) → (is_after_post (stage before) ≡ true → States before)
+  later_states : (before : List Command) (c : Command) → Allowed before c → (is_a Post c ≡ true → States (c ∷ before)) → (is_after_post (stage before) ≡ true → States before)
       → is_after_post (stage (c ∷ before)) ≡ true → States (c ∷ before)
-  later-states before c allowed here earlier late = by (turn_of_lem allowed)
+  later_states before c allowed here earlier late = by (turn_of allowed)
     where
       by : Turn (stage before) (kind_of_command c) → States (c ∷ before)
       by (starts at k) = absurd (false≢true (rw k at late))
@@ -115,8 +115,8 @@ module _ (new : List ℕ) (first : List Command) (chosen : ℕ → Bool) (early 
           → (Trace new before → is_after_post (stage before) ≡ true → States before)
           → States (cond stay (mended before c ∷ before) before)
       by true (more d rest-new t-new f-new allowed-new) late earlier =
-          later-states before (mended before c) allowed-new
-          (λ post. post-states before c rest-new (front_sound (drop (place past) file) c rest f).0 t-new f-new (is_kind (kind_of_command c) Post post))
+          later_states before (mended before c) allowed-new
+          (λ post. post_states before c rest-new (front_sound (drop (place past) file) c rest f).0 t-new f-new (is_kind (kind_of_command c) Post post))
           (earlier t-new) late
       by false new-trace late earlier = earlier new-trace late
 
@@ -124,8 +124,8 @@ module _ (new : List ℕ) (first : List Command) (chosen : ℕ → Bool) (early 
 pub new_file_states : (file list : List ℕ) (s : Summary) → judged file ≡ given s → Bytes file → wrong_list s.pages list ≡ false
     → stated_depth (cut_file file list) (post_place (cut_past (is_in list) (history file))) ≡ deepest_on (is_in list) (history file)
 new_file_states file list s accepted bytes right =
-    let again = cut-accepted file s accepted bytes list right in
-    let same = cut-history file s accepted bytes list right in
+    let again = cut_accepted_lem file s accepted bytes list right in
+    let same = cut_history file s accepted bytes list right in
     let new = cut_file file list in
     states new (opening (history file)) (is_in list) (opening_early (history file)) (accepted_trace file s accepted)
     (subst (Trace new) same (accepted_trace new _ again)) (ap (λ (l : List Command). is_after_post (stage l)) (sym same) ∙ rw (accepted_end new _ again))

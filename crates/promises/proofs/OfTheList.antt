@@ -34,24 +34,24 @@ use Rattle.promises.specs.OfTheList.{name_in_list, placed_by}
 -- cs is a list of the file
 module _ (bytes : List ℕ) (cs : List Command) (keeps : Keeps cs) (forms : written cs ≡ bytes) (short : length bytes ≤ longest_file) where
   -- the commands that later notions speak of are the list's
-  pub history-of-the-list : history bytes ≡ past_of cs
-  history-of-the-list = lawful_history bytes (short, (cs, keeps, forms))
+  pub history_of_the_list : history bytes ≡ past_of cs
+  history_of_the_list = lawful_history bytes (short, (cs, keeps, forms))
 
   -- the check accepts, with the list's own counts
-  pub checked-by-the-list : judged bytes ≡ given (counts cs)
-  checked-by-the-list = lawful_counts bytes (short, (cs, keeps, forms))
+  pub checked_by_the_list : judged bytes ≡ given (counts cs)
+  checked_by_the_list = lawful_counts bytes (short, (cs, keeps, forms))
 
   -- a font's name is where the list's definition has it
-  pub named-by-the-list : (font : ℤ) → name_place bytes font ≡ name_in_list cs font
-  named-by-the-list font =
-      ap (λ (check : Answer Summary). and_then check (λ found. named_by (definition_of false font (history bytes)))) checked-by-the-list
-      ∙ ap (λ (past : List Command). named_by (definition_of false font past)) history-of-the-list
+  pub named_by_the_list : (font : ℤ) → name_place bytes font ≡ name_in_list cs font
+  named_by_the_list font =
+      ap (λ (check : Answer Summary). and_then check (λ found. named_by (definition_of false font (history bytes)))) checked_by_the_list
+      ∙ ap (λ (past : List Command). named_by (definition_of false font past)) history_of_the_list
 
   -- a page is placed by the list's commands
-  pub placed-by-the-list : (widths : List ℕ) (dots number room : ℕ) → placed_page bytes widths dots number room ≡ placed_by cs widths dots number room
-  placed-by-the-list widths dots number room =
-      ap (λ (check : Answer Summary). and_then check (λ found. placed_accepted bytes widths dots number room found.pages)) checked-by-the-list
-      ∙ ap (λ (past : List Command). placed_in past widths dots number room (counts cs).pages) history-of-the-list
+  pub placed_by_the_list : (widths : List ℕ) (dots number room : ℕ) → placed_page bytes widths dots number room ≡ placed_by cs widths dots number room
+  placed_by_the_list widths dots number room =
+      ap (λ (check : Answer Summary). and_then check (λ found. placed_accepted bytes widths dots number room found.pages)) checked_by_the_list
+      ∙ ap (λ (past : List Command). placed_in past widths dots number room (counts cs).pages) history_of_the_list
 
 -- ---- the contracts
 
@@ -59,14 +59,14 @@ module _ (bytes : List ℕ) (cs : List Command) (keeps : Keeps cs) (forms : writ
 pub check_file_by_the_list : (κs : Lfts 1) → (lent : _) → (r : FileChecked) → (x : _) → check-file.Post κs (lent, tt) r x
     → (cs : List Command) → Keeps cs → written cs ≡ lent.now → length lent.now ≤ longest_file
     → file_answer r ≡ given (counts cs)
-check_file_by_the_list κs lent r x post cs keeps forms short = post.0 ∙ checked-by-the-list lent.now cs keeps forms short
+check_file_by_the_list κs lent r x post cs keeps forms short = post.0 ∙ checked_by_the_list lent.now cs keeps forms short
 
 -- a font's name
 pub font_name_by_the_list : (κs : Lfts 3) → (lent : _) → (font : ℤ) → (number place : _) → (r : _) → (x : _)
     → font-name.Post κs (lent, (font, (number, (place, tt)))) r x
     → (cs : List Command) → Keeps cs → written cs ≡ lent.now → length lent.now ≤ longest_file
     → name_answer x.1.1.0.now x.1.1.1.0.now (length r.now) ≡ name_in_list cs font
-font_name_by_the_list κs lent font number place r x post cs keeps forms short = post.1.1.0 ∙ named-by-the-list lent.now cs keeps forms short font
+font_name_by_the_list κs lent font number place r x post cs keeps forms short = post.1.1.0 ∙ named_by_the_list lent.now cs keeps forms short font
 
 -- place_page: the answer, and every byte of the area
 pub place_page_by_the_list : (κs : Lfts 3) (a x : Arguments) (r : Placed) → place-page.Post κs a r x
@@ -74,5 +74,5 @@ pub place_page_by_the_list : (κs : Lfts 3) (a x : Arguments) (r : Placed) → p
     → (placed_answer r ≡ placed_counts (placed_by cs (table a) (resolution a) (page a) (length (area a))))
     × (area x ≡ area_after (area a) (placed_by cs (table a) (resolution a) (page a) (length (area a))))
 place_page_by_the_list κs a x r post cs keeps forms short =
-    let by-list = placed-by-the-list (file a) cs keeps forms short (table a) (resolution a) (page a) (length (area a)) in
+    let by-list = placed_by_the_list (file a) cs keeps forms short (table a) (resolution a) (page a) (length (area a)) in
     (post.0 ∙ ap placed_counts by-list, post.1.0 ∙ ap (area_after (area a)) by-list)

@@ -13,13 +13,13 @@ use borrow.Author.Tests.{leb-true, eqb-true, not_true}
 use Rattle.refusals.specs.Answer.{given}
 use Rattle.numbers.specs.Bytes.{unsigned_at}
 use Rattle.names.specs.Names.{name_size, name_number, has_zero, fits_record, sought_name}
-use Rattle.names.proofs.NameLaws.{number_at, padded, padded-length, without-zero}
+use Rattle.names.proofs.NameLaws.{number_at, padded, padded_length, without_zero}
 use Rattle.widths.specs.declared.Metric.{Metric}
 use Rattle.widths.specs.AsBytes.{Bytes}
 use Rattle.widths.specs.Table.{record_of, checked_table}
 use Rattle.widths.specs.LookUp.{LookUp, found, absent, metric_of, code_byte, is_for, walk_from, walk, or_else}
 use Rattle.widths.proofs.AsBytes.{bytes_same}
-use Rattle.widths.proofs.Search.{own-found}
+use Rattle.widths.proofs.Search.{own_found}
 use Rattle.commands.specs.Commands.{Command}
 use Rattle.commands.specs.Parameters.{font_name}
 use Rattle.list.specs.Past.{body, stands}
@@ -44,15 +44,15 @@ walk_hit table checksum scale name byte m (suc left) index e = by (is_for (recor
 
 module _ (table : List ℕ) (records : ℕ) (judged : checked_table table ≡ given records) where
   -- a font finds its own record where there is one, before any of sixteen zeros
-  pub finds-its-own : (font : Font) (code : ℤ) (index : ℕ) → index < records → IsOwn table index font code → look_in table records font code ≡ found (metric_of (record_of table index))
-  finds-its-own font code index inside own =
+  pub finds_its_own : (font : Font) (code : ℤ) (index : ℕ) → index < records → IsOwn table index font code → look_in table records font code ≡ found (metric_of (record_of table index))
+  finds_its_own font code index inside own =
       ap (λ (l : LookUp). or_else l (walk records table font.checksum font.scale 0 (code_byte code)))
-      (own-found table records judged font.checksum font.scale (name_number font.name) (code_byte code) index inside own)
+      (own_found table records judged font.checksum font.scale (name_number font.name) (code_byte code) index inside own)
 
   -- what is found is a record of the table for this check sum, scale and code, and its name is the one that the font seeks or sixteen zeros: never another font's
-  pub none-of-another : (font : Font) (code : ℤ) (m : Metric) → look_in table records font code ≡ found m
+  pub none_of_another : (font : Font) (code : ℤ) (m : Metric) → look_in table records font code ≡ found m
       → (index : ℕ) × (index < records) × (m ≡ metric_of (record_of table index)) × (IsOwn table index font code ⊎ IsOfAny table index font code)
-  none-of-another font code m is = by (sought (name_number font.name)) refl is
+  none_of_another font code m is = by (sought (name_number font.name)) refl is
     where
       sought : ℕ → LookUp
       sought name = walk records table font.checksum font.scale name (code_byte code)
@@ -68,12 +68,12 @@ module _ (table : List ℕ) (records : ℕ) (judged : checked_table table ≡ gi
           (hit.0, omega (arith, hit.1), hit.2, inr hit.3)
 
   -- two fonts that seek different names, of one check sum and scale or not, each with a record of its own for a character: each finds its own, and these are two records
-  pub never-spliced : (one other : Font) (code : ℤ) (i j : ℕ) → i < records → j < records → IsOwn table i one code → IsOwn table j other code
+  pub never_spliced : (one other : Font) (code : ℤ) (i j : ℕ) → i < records → j < records → IsOwn table i one code → IsOwn table j other code
       → (name_number one.name ≡ name_number other.name → ⊥)
       → (look_in table records one code ≡ found (metric_of (record_of table i))) × (look_in table records other code ≡ found (metric_of (record_of table j))) × (i ≡ j → ⊥)
-  never-spliced one other code i j i-in j-in own own' differ = (
-    finds-its-own one code i i-in own,
-    finds-its-own other code j j-in own',
+  never_spliced one other code i j i-in j-in own own' differ = (
+    finds_its_own one code i i-in own,
+    finds_its_own other code j j-in own',
     λ same. differ (sym (called one i own) ∙ ap (λ (n : ℕ). (record_of table n).name) same ∙ called other j own'),
   )
     where
@@ -135,19 +135,19 @@ module _ (name : List ℕ) (fits : fits_record name ≡ true) where
   no_zero : has_zero name ≡ false
   no_zero = not_true (has_zero name) ((and-eq-true_iff (leb (length name) name_size) (not (has_zero name))).0 fits).1
 
-  sought-number : name_number (sought_name name) ≡ unsigned_at (padded name short) 0 16
-  sought-number = sym (ap name_number (without-zero name short no_zero)) ∙ number_at (padded name short) 0
+  sought_number : name_number (sought_name name) ≡ unsigned_at (padded name short) 0 16
+  sought_number = sym (ap name_number (without_zero name short no_zero)) ∙ number_at (padded name short) 0
 
-  padded-bytes : Bytes name → Bytes (padded name short)
-  padded-bytes bytes = both_bytes name (replicate (16 - length name) 0) bytes (zeros_bytes (16 - length name))
+  padded_bytes : Bytes name → Bytes (padded name short)
+  padded_bytes bytes = both_bytes name (replicate (16 - length name) 0) bytes (zeros_bytes (16 - length name))
 
 -- names that records can have are sought as one number only if they are one name
 pub different_names : (one other : List ℕ) → fits_record one ≡ true → fits_record other ≡ true → Bytes one → Bytes other
     → name_number (sought_name one) ≡ name_number (sought_name other) → one ≡ other
 different_names one other p q one-bytes other-bytes e =
     same_name one other (16 - length one) (16 - length other) (no_zero one p) (no_zero other q)
-    (bytes_same (padded one (short one p)) (padded other (short other q)) 16 (padded-length one (short one p)) (padded-length other (short other q)) (padded-bytes one p one-bytes) (padded-bytes other q other-bytes)
-    (sym (sought-number one p) ∙ e ∙ sought-number other q))
+    (bytes_same (padded one (short one p)) (padded other (short other q)) 16 (padded_length one (short one p)) (padded_length other (short other q)) (padded_bytes one p one-bytes) (padded_bytes other q other-bytes)
+    (sym (sought_number one p) ∙ e ∙ sought_number other q))
 
 -- a name that a record can have is not sought as sixteen zeros, but for the empty one
 pub own_is_not_any : (name : List ℕ) → fits_record name ≡ true → Bytes name → name_number (sought_name name) ≡ name_number (sought_name []) → name ≡ []
@@ -161,5 +161,5 @@ pub definitions_apart : (table : List ℕ) (records : ℕ) → checked_table tab
     → (look_in table records (font_by one (stands at c)) code ≡ found (metric_of (record_of table i)))
     × (look_in table records (font_by other (stands at' d)) code ≡ found (metric_of (record_of table j))) × (i ≡ j → ⊥)
 definitions_apart table records judged one other at at' c d c-fits d-fits c-bytes d-bytes differ code i j i-in j-in own own' =
-    never-spliced table records judged (font_by one (stands at c)) (font_by other (stands at' d)) code i j i-in j-in own own'
+    never_spliced table records judged (font_by one (stands at c)) (font_by other (stands at' d)) code i j i-in j-in own own'
     (λ same. differ (different_names (font_name (body c)) (font_name (body d)) c-fits d-fits c-bytes d-bytes same))

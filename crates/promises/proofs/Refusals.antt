@@ -11,12 +11,12 @@ use Rattle.units.proofs.RefusedWith.{distance_refused_with}
 use Rattle.scaling.specs.Scaling.{fix_word}
 use Rattle.widths.specs.Table.{width_record_size, old_record_size}
 use Rattle.scaling.proofs.RefusedWith.{width_refused_with}
-use Rattle.widths.proofs.RefusedWith.{table-refused-with, look-up-refused-with}
-use Rattle.converting.proofs.RefusedWith.{widen_refused_with, narrow-refused-with}
+use Rattle.widths.proofs.RefusedWith.{table_refused_with, look_up_refused_with}
+use Rattle.converting.proofs.RefusedWith.{widen_refused_with, narrow_refused_with}
 use Rattle.commands.proofs.RefusedWith.{command_refused_with}
-use Rattle.volume.proofs.RefusedWith.{file-refused-with, name-refused-with}
-use Rattle.page.proofs.RefusedWith.{page-refused-with}
-use Rattle.packed.proofs.RefusedWith.{made-refused-with}
+use Rattle.volume.proofs.RefusedWith.{file_refused_with, name_refused_with}
+use Rattle.page.proofs.RefusedWith.{page_refused_with}
+use Rattle.packed.proofs.RefusedWith.{made_refused_with}
 use Rattle.cutting.proofs.RefusedWith.{cut_refused_with}
 use Rattle.reader.specs.declared.CommandRead.{CommandRead}
 use Rattle.reader.specs.declared.FileChecked.{FileChecked}
@@ -53,13 +53,13 @@ read_command_refusals κs file at r x post = said (CommandRefusal at) post (comm
 -- 1 at 0; 2 to 11 in the file or at its end
 pub check_file_refusals : (κs : Lfts 1) → (file : _) → (r : FileChecked) → (x : _) → check-file.Post κs (file, tt) r x
     → RefusedOnly (FileRefusal file.now) (file_answer r)
-check_file_refusals κs file r x post = said (FileRefusal file.now) post.0 (file-refused-with file.now)
+check_file_refusals κs file r x post = said (FileRefusal file.now) post.0 (file_refused_with file.now)
 
 -- as check_file; 8 at 0
 pub font_name_refusals : (κs : Lfts 3) → (file : _) → (font : ℤ) → (number place : _) → (r : _) → (x : _)
     → font-name.Post κs (file, (font, (number, (place, tt)))) r x
     → RefusedOnly (NameRefusal file.now) (name_answer x.1.1.0.now x.1.1.1.0.now (length r.now))
-font_name_refusals κs file font number place r x post = said (NameRefusal file.now) post.1.1.0 (name-refused-with file.now font)
+font_name_refusals κs file font number place r x post = said (NameRefusal file.now) post.1.1.0 (name_refused_with file.now font)
 
 -- 4, 12 or 13 at 0
 pub round_distance_refusals : (κs : Lfts 0) → (num den mag : ℤ) → (resolution : ℕ) → (n : ℤ) → (r : Rounded) → (x : _)
@@ -75,26 +75,26 @@ scale_width_refusals κs scale b0 b1 b2 b3 r x post = said WidthRefusal post (wi
 -- 14 at the first byte of a record that begins in the table
 pub check_table_refusals : (κs : Lfts 1) → (table : _) → (r : TableChecked) → (x : _) → check-table.Post κs (table, tt) r x
     → RefusedOnly (TableRefusal width_record_size table.now) (table_answer r)
-check_table_refusals κs table r x post = said (TableRefusal width_record_size table.now) post (table-refused-with table.now)
+check_table_refusals κs table r x post = said (TableRefusal width_record_size table.now) post (table_refused_with table.now)
 
 -- as check_table
 pub look_up_refusals : (κs : Lfts 2) → (table : _) → (checksum scale : ℕ) → (name : _) → (code : ℤ) → (r : LookedUp) → (x : _)
     → look_up.Post κs (table, (checksum, (scale, (name, (code, tt))))) r x
     → RefusedOnly (TableRefusal width_record_size table.now) (looked_answer r)
 look_up_refusals κs table checksum scale name code r x post =
-    said (TableRefusal width_record_size table.now) post (look-up-refused-with table.now checksum scale name.now code)
+    said (TableRefusal width_record_size table.now) post (look_up_refused_with table.now checksum scale name.now code)
 
 -- as check_file; 12, 13, 15 or 17 at 0; as check_table; 16 in the file
 pub place_page_refusals : (κs : Lfts 3) → (file table : _) → (resolution page : ℕ) → (area : _) → (r : Placed) → (x : _)
     → place-page.Post κs (file, (table, (resolution, (page, (area, tt))))) r x
     → RefusedOnly (PageRefusal file.now width_record_size table.now) (placed_answer r)
 place_page_refusals κs file table resolution page area r x post =
-    said (PageRefusal file.now width_record_size table.now) post.0 (page-refused-with file.now table.now resolution page (length area.now))
+    said (PageRefusal file.now width_record_size table.now) post.0 (page_refused_with file.now table.now resolution page (length area.now))
 
 -- 22 at 0; 18 in the file or at its end; 19 to 21 in the file; 17 at 0
 pub width_table_refusals : (κs : Lfts 2) → (pk : _) → (scale : ℕ) → (area : _) → (r : TableMade) → (x : _) → width-table.Post κs (pk, (scale, (area, tt))) r x
     → RefusedOnly (MadeRefusal pk.now) (made_answer r)
-width_table_refusals κs pk scale area r x post = said (MadeRefusal pk.now) post.0 (made-refused-with pk.now scale (length area.now))
+width_table_refusals κs pk scale area r x post = said (MadeRefusal pk.now) post.0 (made_refused_with pk.now scale (length area.now))
 
 -- as check_file; 23 or 17 at 0
 pub cut_pages_refusals : (κs : Lfts 3) → (file pages area : _) → (r : PagesCut) → (x : _) → cut-pages.Post κs (file, (pages, (area, tt))) r x
@@ -109,4 +109,4 @@ widen_table_refusals κs old area r x post = said (WidenRefusal old_record_size 
 -- 14 and 24 at the first byte of a record that begins in the table; 17 at 0
 pub narrow_table_refusals : (κs : Lfts 2) → (table area : _) → (r : TableMade) → (x : _) → narrow-table.Post κs (table, (area, tt)) r x
     → RefusedOnly (NarrowRefusal width_record_size table.now) (made_answer r)
-narrow_table_refusals κs table area r x post = said (NarrowRefusal width_record_size table.now) post.0 (narrow-refused-with table.now (length area.now))
+narrow_table_refusals κs table area r x post = said (NarrowRefusal width_record_size table.now) post.0 (narrow_refused_with table.now (length area.now))

@@ -44,28 +44,28 @@ module _ (past : List Command) (table : List ℕ) (page room : ℕ) (one other :
   by unit resolution rows = and_then (paged unit resolution rows) (with_room room)
 
   -- it counts the same by either
-  page-counts : (rows : ℕ) → placed_counts (by k one rows) ≡ placed_counts (by l other rows)
-  page-counts rows =
+  page_counts : (rows : ℕ) → placed_counts (by k one rows) ≡ placed_counts (by l other rows)
+  page_counts rows =
       counted_room room (paged k one rows)
       ∙ ap (λ (counts : Answer Counts). and_then counts (roomed room))
       (any_ruler (record { k = k; drift = drift one }) (record { k = l; drift = drift other }) (setting_in past table k one rows page) fresh_state (page_of page past))
       ∙ sym (counted_room room (paged l other rows))
 
   -- 14 and 15 do not ask the resolution
-  judged-alike : (pages : ℕ) (rows : Answer ℕ)
+  judged_alike : (pages : ℕ) (rows : Answer ℕ)
       → placed_counts (and_then rows (λ r. refuse_if (page_outside page pages) no_such_page 0 (by k one r)))
       ≡ placed_counts (and_then rows (λ r. refuse_if (page_outside page pages) no_such_page 0 (by l other r)))
-  judged-alike pages (refused number place) = refl
-  judged-alike pages (given rows) = outside (page_outside page pages)
+  judged_alike pages (refused number place) = refl
+  judged_alike pages (given rows) = outside (page_outside page pages)
     where
       outside : (t : Bool) → placed_counts (refuse_if t no_such_page 0 (by k one rows)) ≡ placed_counts (refuse_if t no_such_page 0 (by l other rows))
       outside true = refl
-      outside false = page-counts rows
+      outside false = page_counts rows
 
   -- nor does anything after 12 and 13
-  same-counts : (pages : ℕ) → unit_of (num past) (den past) (mag past) one ≡ given k → unit_of (num past) (den past) (mag past) other ≡ given l
+  same_counts : (pages : ℕ) → unit_of (num past) (den past) (mag past) one ≡ given k → unit_of (num past) (den past) (mag past) other ≡ given l
       → placed_counts (placed_in past table one page room pages) ≡ placed_counts (placed_in past table other page room pages)
-  same-counts pages at_one at_other = rw (at_one, at_other) (judged-alike pages (checked_table table))
+  same_counts pages at_one at_other = rw (at_one, at_other) (judged_alike pages (checked_table table))
 
 -- what place_page answers at one resolution it answers at another
 pub same_at_any_resolution : (file table : List ℕ) (page room one other : ℕ) (k l : Ratio)
@@ -78,4 +78,4 @@ same_at_any_resolution file table page room one other k l at_one at_other = by (
         → placed_counts (and_then judgement (λ found. placed_accepted file table one page room found.pages))
         ≡ placed_counts (and_then judgement (λ found. placed_accepted file table other page room found.pages))
     by (refused number place) = refl
-    by (given found) = same-counts (history file) table page room one other k l found.pages at_one at_other
+    by (given found) = same_counts (history file) table page room one other k l found.pages at_one at_other

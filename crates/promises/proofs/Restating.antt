@@ -28,7 +28,7 @@ use Rattle.volume.specs.OfList.{up_to_last}
 use Rattle.volume.specs.Refusing.{RefusesAt, breaks, later}
 use Rattle.promises.proofs.Agreeing.{Agree, agree_follows}
 use Rattle.promises.proofs.Volumes.{repeats}
-use Rattle.promises.proofs.AfterPost.{passes-post, post-between, end_after, greatest-stays, after_post}
+use Rattle.promises.proofs.AfterPost.{passes_post, post_between, end_after, greatest_stays, after_post}
 
 -- a byte that is stored outside of a number's bytes does not change it
 unsigned_elsewhere : (bytes : List ℕ) (i byte at count : ℕ) → ((j : ℕ) → j < count → at + j ≡ i → ⊥) → unsigned_at (set bytes i byte) at count ≡ unsigned_at bytes at count
@@ -57,9 +57,9 @@ module _ (high low : ℕ) where
       ∙ unsigned_elsewhere params 24 high field.at field.size (λ j l e. ⊎_elim (λ h. omega arith) (λ h. omega arith) apart)
 
   -- and s
-  other-s : (params : List ℕ) → length params ≡ 28 → unsigned_in post_depth (other params) ≡ stated
+  other_s : (params : List ℕ) → length params ≡ 28 → unsigned_in post_depth (other params) ≡ stated
   unfolding unsigned_at
-  other-s params l =
+  other_s params l =
       rw (
         get_or-set_other (set params 24 high) 25 24 low 0 (λ e. omega arith),
         get_or-set_same params 24 high 0 (omega arith),
@@ -70,28 +70,28 @@ module _ (high low : ℕ) where
   restated c = record { opcode = c.opcode; params = other c.params }
 
   module _ (c : Command) (w : Whole c) (k : kind_of_command c ≡ Post) where
-    is-248 : c.opcode ≡ 248
-    is-248 = let range = kind_range c.opcode (omega (arith, w.defined)) k in omega (arith, range.0, range.1)
+    is_248 : c.opcode ≡ 248
+    is_248 = let range = kind_range c.opcode (omega (arith, w.defined)) k in omega (arith, range.0, range.1)
 
-    has-28 : length c.params ≡ 28
+    has_28 : length c.params ≡ 28
     unfolding lengths fixed_length inner_length size_of kind_of
-    has-28 = w.exact ∙ ap (λ (opcode : ℕ). size_of opcode c.params) is-248
+    has_28 = w.exact ∙ ap (λ (opcode : ℕ). size_of opcode c.params) is_248
 
-    still-28 : length (other c.params) ≡ 28
-    still-28 = length-set (set c.params 24 high) 25 low ∙ length-set c.params 24 high ∙ has-28
+    still_28 : length (other c.params) ≡ 28
+    still_28 = length-set (set c.params 24 high) 25 low ∙ length-set c.params 24 high ∙ has_28
 
-    restated-whole : Whole (restated c)
+    restated_whole : Whole (restated c)
     unfolding lengths fixed_length inner_length size_of kind_of
-    restated-whole = record { defined = w.defined; exact = still-28 ∙ sym (ap (λ (opcode : ℕ). size_of opcode (other c.params)) is-248) }
+    restated_whole = record { defined = w.defined; exact = still_28 ∙ sym (ap (λ (opcode : ℕ). size_of opcode (other c.params)) is_248) }
 
     module _ (past : List Command) (allowed : Allowed past c) where
       outside : is_on_page (stage past) ≡ false
-      outside = (post-between allowed (rw k)).0
+      outside = (post_between allowed (rw k)).0
 
       agrees : Agree (c ∷ past) (restated c ∷ past)
       agrees =
           record {
-            same_place = ap (λ (l : ℕ). place past + (1 + l)) (has-28 ∙ sym still-28);
+            same_place = ap (λ (l : ℕ). place past + (1 + l)) (has_28 ∙ sym still_28);
             same_stage = refl;
             same_depth = refl;
             same_greatest = refl;
@@ -106,8 +106,8 @@ module _ (high low : ℕ) where
           }
 
       -- its p, and what it says of the list, where s is enough or not
-      pointer-kept : signed_in post_pointer (other c.params) ≡ signed_in post_pointer c.params
-      pointer-kept = ap (from_twos (256 ^ 4)) (kept_field (record { at = post_pointer.at; size = post_pointer.size }) c.params (inl (omega arith)))
+      pointer_kept : signed_in post_pointer (other c.params) ≡ signed_in post_pointer c.params
+      pointer_kept = ap (from_twos (256 ^ 4)) (kept_field (record { at = post_pointer.at; size = post_pointer.size }) c.params (inl (omega arith)))
 
       says : (enough : Bool) → leb (greatest past) stated ≡ enough
           → lawful_postamble (num past) (den past) (mag past) (greatest past) (pages past) (other c.params) ≡ enough
@@ -118,7 +118,7 @@ module _ (high low : ℕ) where
             eq-eqb (unsigned_in post_num (other p)) (num past) (kept_field post_num p (inl (omega arith)) ∙ num-is),
             eq-eqb (unsigned_in post_den (other p)) (den past) (kept_field post_den p (inl (omega arith)) ∙ den-is),
             eq-eqb (unsigned_in post_mag (other p)) (mag past) (kept_field post_mag p (inl (omega arith)) ∙ mag_is),
-            other-s p has-28,
+            other_s p has_28,
             e,
             eq-eqb (unsigned_in post_pages (other p)) (pages past) (kept_field post_pages p (inr (omega arith)) ∙ pages_is),
           ) (and-true enough)
@@ -137,10 +137,10 @@ module _ (high low : ℕ) where
       eight = rw k
 
       nine : pointer_wrong past (restated c) ≡ false
-      nine = rw (k, pointer-kept) (rw k at allowed.pointer)
+      nine = rw (k, pointer_kept) (rw k at allowed.pointer)
 
-      large-enough : greatest past ≤ stated → Allowed past (restated c)
-      large-enough h =
+      large_enough : greatest past ≤ stated → Allowed past (restated c)
+      large_enough h =
           record {
             preamble = four;
             standing = allowed.standing;
@@ -162,8 +162,8 @@ module _ (high low : ℕ) where
   set_beyond (x ∷ front) rest i zero byte e = absurd (omega (arith, e))
   set_beyond (x ∷ front) rest i (suc at) byte e = ap (λ (l : List ℕ). x ∷ l) (set_beyond front rest i at byte (omega (arith, e)))
 
-  storing-beyond : (front rest : List ℕ) (skip at : ℕ) → at ≡ length front + skip → storing at (front ++ rest) ≡ front ++ storing skip rest
-  storing-beyond front rest skip at e =
+  storing_beyond : (front rest : List ℕ) (skip at : ℕ) → at ≡ length front + skip → storing at (front ++ rest) ≡ front ++ storing skip rest
+  storing_beyond front rest skip at e =
       ap (λ (l : List ℕ). set l (at + 1 + 24 + 1) low) (set_beyond front rest (skip + 1 + 24) (at + 1 + 24) high (omega (arith, e)))
       ∙ set_beyond front (set rest (skip + 1 + 24) high) (skip + 1 + 24 + 1) (at + 1 + 24 + 1) low (omega (arith, e))
 
@@ -171,23 +171,23 @@ module _ (high low : ℕ) where
   pub record Restated (past cs : List Command) : Type 0 where
     pub list : List Command
     pub skip : ℕ
-    pub post-at : post_place (up_to_last past cs) ≡ place past + skip
+    pub post_at : post_place (up_to_last past cs) ≡ place past + skip
     pub forms : written list ≡ storing skip (written cs)
     pub goes_on : greatest (up_to_last past cs) ≤ stated → Follows past list × Agree (up_to_last past cs) (up_to_last past list)
     pub is_refused : stated < greatest (up_to_last past cs) → RefusesAt past (written list) wrong_postamble (place past + skip)
 
   module _ {past cs : List Command} {c : Command} (w : Whole c) (allowed : Allowed past c) (not_last : is_a PostPost c ≡ false) where
     -- at post itself
-    at-post : is_a Post c ≡ true → Follows (c ∷ past) cs → Restated past (c ∷ cs)
-    at-post e follows =
+    at_post : is_a Post c ≡ true → Follows (c ∷ past) cs → Restated past (c ∷ cs)
+    at_post e follows =
         let k : kind_of_command c ≡ Post = is_kind (kind_of_command c) Post e in
-        let long : length c.params ≡ 28 = has-28 c w k in
-        let (deep, place_is) = after_post follows (passes-post allowed ∙ rw e) in
-        let reached : greatest (c ∷ past) ≡ greatest past = greatest-stays past c (is_a Push c) (is_a Pop c) refl refl (rw k) in
+        let long : length c.params ≡ 28 = has_28 c w k in
+        let (deep, place_is) = after_post follows (passes_post allowed ∙ rw e) in
+        let reached : greatest (c ∷ past) ≡ greatest past = greatest_stays past c (is_a Push c) (is_a Pop c) refl refl (rw k) in
         record {
           list = restated c ∷ cs;
           skip = 0;
-          post-at = rw not_last (place_is ∙ rw e (omega arith));
+          post_at = rw not_last (place_is ∙ rw e (omega arith));
           forms =
               ap (λ (l : List ℕ). c.opcode ∷ l)
               (sym (ap (λ (l : List ℕ). set l 25 low) (set-append_left c.params (written cs) 24 high (omega arith))
@@ -195,21 +195,21 @@ module _ (high low : ℕ) where
           goes_on = λ h.
               let enough : greatest past ≤ stated = omega (arith, rw not_last at h, deep, reached) in
               let (onwards, at_end) = agree_follows (agrees c w k past allowed) follows in
-              (goes (restated-whole c w k) (large-enough c w k past allowed enough) not_last onwards, rw not_last at_end);
+              (goes (restated_whole c w k) (large_enough c w k past allowed enough) not_last onwards, rw not_last at_end);
           is_refused = λ h.
               let less : stated < greatest past = omega (arith, rw not_last at h, deep, reached) in
               subst (RefusesAt past (written (restated c ∷ cs)) wrong_postamble) (omega arith)
-              (breaks (restated c) (written cs) (restated-whole c w k) (too_small c w k past allowed less) (omega arith));
+              (breaks (restated c) (written cs) (restated_whole c w k) (too_small c w k past allowed less) (omega arith));
         }
 
     -- before it
-    before-post : Restated (c ∷ past) cs → Restated past (c ∷ cs)
-    before-post r =
+    before_post : Restated (c ∷ past) cs → Restated past (c ∷ cs)
+    before_post r =
         record {
           list = c ∷ r.list;
           skip = 1 + length c.params + r.skip;
-          post-at = rw not_last (r.post-at ∙ omega arith);
-          forms = ap (λ (l : List ℕ). form c ++ l) r.forms ∙ sym (storing-beyond (form c) (written cs) r.skip (1 + length c.params + r.skip) (omega arith));
+          post_at = rw not_last (r.post_at ∙ omega arith);
+          forms = ap (λ (l : List ℕ). form c ++ l) r.forms ∙ sym (storing_beyond (form c) (written cs) r.skip (1 + length c.params + r.skip) (omega arith));
           goes_on = λ h. let (onwards, at_end) = r.goes_on (rw not_last at h) in (goes w allowed not_last onwards, rw not_last at_end);
           is_refused = λ h.
               subst (RefusesAt past (written (c ∷ r.list)) wrong_postamble) (omega arith)
@@ -218,8 +218,8 @@ module _ (high low : ℕ) where
 
   pub restate : {past cs : List Command} → Follows past cs → is_after_post (stage past) ≡ false → Restated past cs
   restate (ends n w allowed last enough) e = absurd (end_after allowed last e)
-  restate (goes {past = past} {c = c} {cs = cs} w allowed not_last follows) e = by (is_a Post c) refl (λ f. restate follows (passes-post allowed ∙ rw (f, e)))
+  restate (goes {past = past} {c = c} {cs = cs} w allowed not_last follows) e = by (is_a Post c) refl (λ f. restate follows (passes_post allowed ∙ rw (f, e)))
     where
       by : (post : Bool) → is_a Post c ≡ post → (is_a Post c ≡ false → Restated (c ∷ past) cs) → Restated past (c ∷ cs)
-      by true f onwards = at-post w allowed not_last f follows
-      by false f onwards = before-post w allowed not_last (onwards f)
+      by true f onwards = at_post w allowed not_last f follows
+      by false f onwards = before_post w allowed not_last (onwards f)

@@ -27,7 +27,7 @@ use Rattle.volume.specs.Names.{named_by, name_place, name_of}
 use Rattle.volume.specs.OfList.{past_of, counts}
 use Rattle.volume.specs.Refusing.{RefusesAt}
 use Rattle.volume.proofs.Accepts.{accepts_lawful, counts_own, refused_given}
-use Rattle.volume.proofs.Refused.{refuses-file}
+use Rattle.volume.proofs.Refused.{refuses_file}
 use Rattle.page.specs.Answers.{placed_page, placed_counts, area_after}
 use Rattle.reader.specs.declared.FileChecked.{FileChecked}
 use Rattle.reader.specs.declared.Placed.{Placed}
@@ -40,7 +40,7 @@ use Rattle.promises.specs.Calls.{Arguments, file, table, resolution, page, area,
 use Rattle.promises.specs.StatedDepth.{stated_depth, stating}
 use Rattle.promises.proofs.Agreeing.{Agree, same_summary, same_placed}
 use Rattle.promises.proofs.OneToOne.{file_one_to_one, name_one_to_one, placed_one_to_one}
-use Rattle.promises.proofs.OfTheList.{history-of-the-list, checked-by-the-list}
+use Rattle.promises.proofs.OfTheList.{history_of_the_list, checked_by_the_list}
 use Rattle.promises.proofs.NameBytes.{name_in, named_bytes}
 use Rattle.promises.proofs.Restating.{stated, storing, Restated, restate}
 
@@ -58,45 +58,45 @@ module _ (high low : ℕ) where
     abbrev cs : List Command
     cs = list_of.1.0
 
-    found-is : found ≡ counts cs
-    found-is = counts_own file found accepted cs list_of.1.1 list_of.1.2
+    found_is : found ≡ counts cs
+    found_is = counts_own file found accepted cs list_of.1.1 list_of.1.2
 
-    other-list : Restated high low [] cs
-    other-list = restate high low list_of.1.1 refl
+    other_list : Restated high low [] cs
+    other_list = restate high low list_of.1.1 refl
 
     depth_is : found.depth ≡ greatest (past_of cs)
-    depth_is = ap (λ (s : Summary). s.depth) found-is
+    depth_is = ap (λ (s : Summary). s.depth) found_is
 
-    skip_is : other-list.skip ≡ found.post
-    skip_is = sym (ap (λ (s : Summary). s.post) found-is ∙ other-list.post-at ∙ omega arith)
+    skip_is : other_list.skip ≡ found.post
+    skip_is = sym (ap (λ (s : Summary). s.post) found_is ∙ other_list.post_at ∙ omega arith)
 
-    written-so : written other-list.list ≡ changed
-    written-so = other-list.forms ∙ ap (λ (at : ℕ). storing high low at (written cs)) skip_is ∙ ap (storing high low found.post) list_of.1.2
+    written_so : written other_list.list ≡ changed
+    written_so = other_list.forms ∙ ap (λ (at : ℕ). storing high low at (written cs)) skip_is ∙ ap (storing high low found.post) list_of.1.2
 
     no_longer : length changed ≤ longest_file
     no_longer = omega (arith, list_of.0, length-set (set file (found.post + 1 + 24) high) (found.post + 1 + 24 + 1) low, length-set file (found.post + 1 + 24) high)
 
     module _ (h : found.depth ≤ stated high low) where
-      other-kept : Keeps other-list.list × Agree (past_of cs) (past_of other-list.list)
-      other-kept = other-list.goes_on (omega (arith, depth_is))
+      other_kept : Keeps other_list.list × Agree (past_of cs) (past_of other_list.list)
+      other_kept = other_list.goes_on (omega (arith, depth_is))
 
       -- a later command finds the same in both histories
-      same-history : Agree (history file) (history changed)
-      same-history =
+      same_history : Agree (history file) (history changed)
+      same_history =
           subst (λ (past : List Command). Agree past (history changed))
-          (sym (history-of-the-list file cs list_of.1.1 list_of.1.2 list_of.0))
-          (subst (Agree (past_of cs)) (sym (history-of-the-list changed other-list.list other-kept.0 written-so no_longer)) other-kept.1)
+          (sym (history_of_the_list file cs list_of.1.1 list_of.1.2 list_of.0))
+          (subst (Agree (past_of cs)) (sym (history_of_the_list changed other_list.list other_kept.0 written_so no_longer)) other_kept.1)
 
       same_answer : judged changed ≡ given found
-      same_answer = checked-by-the-list changed other-list.list other-kept.0 written-so no_longer ∙ ap given (sym (found-is ∙ same_summary other-kept.1))
+      same_answer = checked_by_the_list changed other_list.list other_kept.0 written_so no_longer ∙ ap given (sym (found_is ∙ same_summary other_kept.1))
 
-    refused-so : stated high low < found.depth → judged changed ≡ refused wrong_postamble found.post
-    refused-so h =
-        refuses-file changed wrong_postamble found.post
+    refused_so : stated high low < found.depth → judged changed ≡ refused wrong_postamble found.post
+    refused_so h =
+        refuses_file changed wrong_postamble found.post
         (inr (
           no_longer,
-          subst (λ (bytes : List ℕ). RefusesAt [] bytes wrong_postamble found.post) written-so
-              (subst (RefusesAt [] (written other-list.list) wrong_postamble) (omega (arith, skip_is)) (other-list.is_refused (omega (arith, depth_is)))),
+          subst (λ (bytes : List ℕ). RefusesAt [] bytes wrong_postamble found.post) written_so
+              (subst (RefusesAt [] (written other_list.list) wrong_postamble) (omega (arith, skip_is)) (other_list.is_refused (omega (arith, depth_is)))),
         ))
 
 -- s in two bytes is s
@@ -109,37 +109,37 @@ module _ (s : ℕ) (file : List ℕ) (found : Summary) (accepted : judged file �
     large = omega (arith, two_bytes s)
 
     -- an s that is not too small changes nothing: neither what the check answers (rules 3.8, 9.2),
-    pub other-s-same : judged (stating s found.post file) ≡ given found
-    other-s-same = same_answer (s / 256) (s % 256) file found accepted large
+    pub other_s_same : judged (stating s found.post file) ≡ given found
+    other_s_same = same_answer (s / 256) (s % 256) file found accepted large
 
     -- nor where a font's name is (rule 9.4),
-    pub other-s-named : (font : ℤ) → name_place (stating s found.post file) font ≡ name_place file font
-    other-s-named font =
-        rw (accepted, other-s-same) (ap named_by (sym ((same-history (s / 256) (s % 256) file found accepted large).same_definition false font)))
+    pub other_s_named : (font : ℤ) → name_place (stating s found.post file) font ≡ name_place file font
+    other_s_named font =
+        rw (accepted, other_s_same) (ap named_by (sym ((same_history (s / 256) (s % 256) file found accepted large).same_definition false font)))
 
     -- nor its bytes,
-    pub other-s-spelled : (font : ℤ) → name_of (stating s found.post file) font ≡ name_of file font
-    other-s-spelled font =
+    pub other_s_spelled : (font : ℤ) → name_of (stating s found.post file) font ≡ name_of file font
+    other_s_spelled font =
         let changed = stating s found.post file in
-        let same = (same-history (s / 256) (s % 256) file found accepted large).same_definition false font in
-        rw (accepted, other-s-same)
-        (named_bytes changed (history changed) (accepted_trace changed found other-s-same) false font
+        let same = (same_history (s / 256) (s % 256) file found accepted large).same_definition false font in
+        rw (accepted, other_s_same)
+        (named_bytes changed (history changed) (accepted_trace changed found other_s_same) false font
         ∙ ap name_in (sym same)
         ∙ sym (named_bytes file (history file) (accepted_trace file found accepted) false font))
 
     -- nor how a page is placed (rule 9.8)
-    pub other-s-placed : (table : List ℕ) (resolution page room : ℕ)
+    pub other_s_placed : (table : List ℕ) (resolution page room : ℕ)
         → placed_page (stating s found.post file) table resolution page room ≡ placed_page file table resolution page room
-    other-s-placed table resolution page room =
-        rw (accepted, other-s-same)
-        (sym (same_placed (same-history (s / 256) (s % 256) file found accepted large) table resolution page room found.pages))
+    other_s_placed table resolution page room =
+        rw (accepted, other_s_same)
+        (sym (same_placed (same_history (s / 256) (s % 256) file found accepted large) table resolution page room found.pages))
 
   -- the check with any s: the same answer, or 10 at post where s is below the depth that is reached (rules 3.8, 9.2)
-  pub other-s-judged : judged (stating s found.post file) ≡ refuse_if (ltb s found.depth) wrong_postamble found.post (given found)
-  other-s-judged =
+  pub other_s_judged : judged (stating s found.post file) ≡ refuse_if (ltb s found.depth) wrong_postamble found.post (given found)
+  other_s_judged =
       ⊎_elim
-      (λ (h : s < found.depth). rw (lt-ltb s found.depth h) (refused-so (s / 256) (s % 256) file found accepted (omega (arith, h, two_bytes s))))
-      (λ (h : found.depth ≤ s). rw (le-ltb s found.depth h) (other-s-same h))
+      (λ (h : s < found.depth). rw (lt-ltb s found.depth h) (refused_so (s / 256) (s % 256) file found accepted (omega (arith, h, two_bytes s))))
+      (λ (h : found.depth ≤ s). rw (le-ltb s found.depth h) (other_s_same h))
       (less_or_not s found.depth)
 
 -- s of an accepted file is not below the depth that its commands reach, else the file with its own s would be refused (rule 3.8)
@@ -163,7 +163,7 @@ stated_not_below file found accepted =
     itself = ap (λ (l : List ℕ). set l (at + 1) low) (set-get_or file at 0) ∙ set-get_or file (at + 1) 0
 
     contradiction : stated high low < found.depth → ⊥
-    contradiction below = refused_given (sym (ap judged itself) ∙ refused-so high low file found accepted below) accepted
+    contradiction below = refused_given (sym (ap judged itself) ∙ refused_so high low file found accepted below) accepted
 
 -- ---- the contracts
 
@@ -175,12 +175,12 @@ accepted_states_enough κs lent r x post found says = stated_not_below lent.now 
 -- check_file, of a file that it accepts and of one with another s: the same answer, or 10 at post where that s is below the depth
 module _ (κs κs' : Lfts 1) (lent changed : _) (r r' : FileChecked) (x y : _) (post : check-file.Post κs (lent, tt) r x) (post' : check-file.Post κs' (changed, tt) r' y) where
   module _ (found : Summary) (says : file_answer r ≡ given found) (s : ℕ) (only-s : changed.now ≡ stating s found.post lent.now) where
-    pub other-s-checked : file_answer r' ≡ refuse_if (ltb s found.depth) wrong_postamble found.post (given found)
-    other-s-checked = post'.0 ∙ ap judged only-s ∙ other-s-judged s lent.now found (sym post.0 ∙ says)
+    pub other_s_checked : file_answer r' ≡ refuse_if (ltb s found.depth) wrong_postamble found.post (given found)
+    other_s_checked = post'.0 ∙ ap judged only-s ∙ other_s_judged s lent.now found (sym post.0 ∙ says)
 
     -- too large is no fault: the answer is that of the right s
-    pub larger-s-same-answer : found.depth ≤ s → r' ≡ r
-    larger-s-same-answer h = file_one_to_one r' r (post'.0 ∙ ap judged only-s ∙ other-s-same s lent.now found (sym post.0 ∙ says) h ∙ sym says)
+    pub larger_s_same_answer : found.depth ≤ s → r' ≡ r
+    larger_s_same_answer h = file_one_to_one r' r (post'.0 ∙ ap judged only-s ∙ other_s_same s lent.now found (sym post.0 ∙ says) h ∙ sym says)
 
 -- font_name, of a file that is accepted and of one with another s that is not too small: the same bytes, number and place
 pub larger_s_same_name : (κs κs' : Lfts 3) (lent changed : _) (font : ℤ) (number place number' place' : _) (r r' : _) (x y : _)
@@ -191,8 +191,8 @@ pub larger_s_same_name : (κs κs' : Lfts 3) (lent changed : _) (font : ℤ) (nu
 larger_s_same_name κs κs' lent changed font number place number' place' r r' x y p q found accepted s enough only-s =
     let told =
     name_one_to_one _ _ _ _ _ _
-    (q.1.1.0 ∙ ap (λ (file : List ℕ). name_place file font) only-s ∙ other-s-named s lent.now found accepted enough font ∙ sym p.1.1.0) in
-    (q.0 ∙ ap (λ (file : List ℕ). name_of file font) only-s ∙ other-s-spelled s lent.now found accepted enough font ∙ sym p.0, told.0, told.1)
+    (q.1.1.0 ∙ ap (λ (file : List ℕ). name_place file font) only-s ∙ other_s_named s lent.now found accepted enough font ∙ sym p.1.1.0) in
+    (q.0 ∙ ap (λ (file : List ℕ). name_of file font) only-s ∙ other_s_spelled s lent.now found accepted enough font ∙ sym p.0, told.0, told.1)
 
 -- place_page, of a file that is accepted and of one with another s that is not too small: the same answer and the same bytes
 pub larger_s_same_page : (κs κs' : Lfts 3) (a b x y : Arguments) (r r' : Placed) → place-page.Post κs a r x → place-page.Post κs' b r' y
@@ -201,6 +201,6 @@ pub larger_s_same_page : (κs κs' : Lfts 3) (a b x y : Arguments) (r r' : Place
     → table b ≡ table a → resolution b ≡ resolution a → page b ≡ page a → area b ≡ area a
     → (r' ≡ r) × (area y ≡ area x)
 larger_s_same_page κs κs' a b x y r r' p q found accepted s enough only-s tables resolutions pages areas =
-    let placed = other-s-placed s (file a) found accepted enough (table a) (resolution a) (page a) (length (area a)) in
+    let placed = other_s_placed s (file a) found accepted enough (table a) (resolution a) (page a) (length (area a)) in
     let same : meant b ≡ meant a = rw (only-s, tables, resolutions, pages, areas) placed in
     (placed_one_to_one r' r (q.0 ∙ ap placed_counts same ∙ sym p.0), q.1.0 ∙ ap₂ area_after areas same ∙ sym p.1.0)

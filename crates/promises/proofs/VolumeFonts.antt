@@ -66,12 +66,12 @@ tally_more f g m (suc n) off on same h = by (eqb n m) refl (tally_more f g m n o
 
 module _ {past : List Command} {c : Command} (allowed : Allowed past c) (after : Bool) (defining : defines after (stage past) (kind_of_command c) ≡ true) where
   -- a command that defines a font keeps a definition's rules
-  its-rules : Right past c
-  its-rules = right allowed (defines_kind after (stage past) c.opcode defining)
+  its_rules : Right past c
+  its_rules = right allowed (defines_kind after (stage past) c.opcode defining)
 
   -- it stands before post, or after it
-  its-time : is_after_post (stage past) ≡ after
-  its-time = by after (is_after_post (stage past)) ((and-eq-true_iff (is (kind_of_command c) Define) _).0 defining).1
+  its_time : is_after_post (stage past) ≡ after
+  its_time = by after (is_after_post (stage past)) ((and-eq-true_iff (is (kind_of_command c) Define) _).0 defining).1
     where
       by : (x y : Bool) → cond x y (not y) ≡ true → y ≡ x
       by true y e = e
@@ -79,12 +79,12 @@ module _ {past : List Command} {c : Command} (allowed : Allowed past c) (after :
       by false false e = refl
 
   -- its font is a new one
-  new-font : definition_of after (font_number c) past ≡ none
-  new-font = by after its-time
+  new_font : definition_of after (font_number c) past ≡ none
+  new_font = by after its_time
     where
       by : (x : Bool) → is_after_post (stage past) ≡ x → definition_of x (font_number c) past ≡ none
-      by true t = (its-rules.late t).0
-      by false t = (its-rules.early t).0
+      by true t = (its_rules.late t).0
+      by false t = (its_rules.early t).0
 
 -- the test whether a font is defined
 abbrev has : Bool → List Command → ℕ → Bool
@@ -103,9 +103,9 @@ counted after bound enough (and_one {past = past} {c = c} kept allowed) = by (de
         → cond defining (font_count after past + 1) (font_count after past)
         ≡ tally (λ n. is_defined (cond (defining && same_number (font_number c) (pos n)) (stands (place past) c) (definition_of after (pos n) past))) bound
     by true e before =
-        let (sign, small, named) = lawful_in (font_number c) (its-rules allowed after e).number in
+        let (sign, small, named) = lawful_in (font_number c) (its_rules allowed after e).number in
         let m = nat_abs (font_number c) in
-        let off : has after past m ≡ false = ap is_defined (ap (λ (z : ℤ). definition_of after z past) named ∙ new-font allowed after e) in
+        let off : has after past m ≡ false = ap is_defined (ap (λ (z : ℤ). definition_of after z past) named ∙ new_font allowed after e) in
         let found : Bool → ℕ → Bool = λ t n. is_defined (cond t (stands (place past) c) (definition_of after (pos n) past)) in
         let on : found (same_number (font_number c) (pos m)) m ≡ true = ap (λ (t : Bool). found t m) (ap (same_number (font_number c)) named ∙ same_number_refl (font_number c)) in
         let others : (n : ℕ) → (n ≡ m → ⊥) → found (same_number (font_number c) (pos n)) n ≡ has after past n =
@@ -133,13 +133,13 @@ agreed (and_one {past = past} {c = c} kept allowed) number {at} {d} e =
         → cond (late && same) (stands (place past) c) (definition_of true number past) ≡ stands at d
         → (definition_of true number past ≡ stands at d → says (definition_of false number past) (body d) ≡ true)
         → says (cond (early && same) (stands (place past) c) (definition_of false number past)) (body d) ≡ true
-    by true l true e same s q before = absurd (true≢false (sym (its-time allowed true l) ∙ its-time allowed false e))
+    by true l true e same s q before = absurd (true≢false (sym (its_time allowed true l) ∙ its_time allowed false e))
     by true l false e true s q before =
         let this : c ≡ d = cc in
-        rw (← this, ← (same_number_true (font_number c) number s)) ((its-rules allowed true l).late (its-time allowed true l)).1
+        rw (← this, ← (same_number_true (font_number c) number s)) ((its_rules allowed true l).late (its_time allowed true l)).1
     by true l false e false s q before = before q
     by false l true e true s q before =
-        let not_yet : definition_of false number past ≡ none = rw (← (same_number_true (font_number c) number s)) (new-font allowed false e) in
+        let not_yet : definition_of false number past ≡ none = rw (← (same_number_true (font_number c) number s)) (new_font allowed false e) in
         absurd (false≢true (rw not_yet at (before q)))
     by false l true e false s q before = before q
     by false l false e same s q before = before q
@@ -153,7 +153,7 @@ lawfully (and_one {past = past} {c = c} kept allowed) number t =
     by : (defining : Bool) → defines false (stage past) (kind_of_command c) ≡ defining → (same : Bool) → same_number (font_number c) number ≡ same
         → is_defined (cond (defining && same) (stands (place past) c) (definition_of false number past)) ≡ true
         → (is_defined (definition_of false number past) ≡ true → lawful_font number ≡ true) → lawful_font number ≡ true
-    by true e true s t before = ap lawful_font (sym (same_number_true (font_number c) number s)) ∙ (its-rules allowed false e).number
+    by true e true s t before = ap lawful_font (sym (same_number_true (font_number c) number s)) ∙ (its_rules allowed false e).number
     by true e false s t before = before t
     by false e same s t before = before t
 
@@ -193,7 +193,7 @@ few_fonts (and_one {past = past} {c = c} kept allowed) = by (defines false (stag
   where
     by : (defining : Bool) → defines false (stage past) (kind_of_command c) ≡ defining → font_count false past ≤ 64
         → cond defining (font_count false past + 1) (font_count false past) ≤ 64
-    by true e h = omega (arith, ((its-rules allowed false e).early (its-time allowed false e)).1)
+    by true e h = omega (arith, ((its_rules allowed false e).early (its_time allowed false e)).1)
     by false e h = h
 
 size_in_range : (size : ℕ) → lawful_size size ≡ true → (1 ≤ size) × (size ≤ 134217727)
@@ -203,37 +203,37 @@ size_in_range size e = let both = (and-eq-true_iff (leb 1 size) (leb size 134217
 
 module _ {cs : List Command} (keeps : Keeps cs) {past : List Command} {c : Command} (there : StandsAmong cs past c) where
   -- a font number has one byte at most and no sign (rule 3.5)
-  pub number-in-range : kind_of_command c ≡ Define → (n : ℕ) × (n ≤ 255) × (font_number c ≡ pos n)
-  number-in-range k = let (sign, small, named) = lawful_in (font_number c) (right (kept_there keeps there).1 k).number in (nat_abs (font_number c), omega (arith, small), sym named)
+  pub number_in_range : kind_of_command c ≡ Define → (n : ℕ) × (n ≤ 255) × (font_number c ≡ pos n)
+  number_in_range k = let (sign, small, named) = lawful_in (font_number c) (right (kept_there keeps there).1 k).number in (nat_abs (font_number c), omega (arith, small), sym named)
 
   -- there are no more than 64 fonts (rule 3.5)
-  pub fonts-at-most-64 : font_count false (c ∷ past) ≤ 64
-  fonts-at-most-64 = few_fonts (and_one (kept_there keeps there).0 (kept_there keeps there).1)
+  pub fonts_at_most_64 : font_count false (c ∷ past) ≤ 64
+  fonts_at_most_64 = few_fonts (and_one (kept_there keeps there).0 (kept_there keeps there).1)
 
   -- a font's scale is in range (rules 1.5, 3.5)
-  pub scale-in-range : kind_of_command c ≡ Define → (1 ≤ font_scale (body c)) × (font_scale (body c) ≤ 134217727)
-  scale-in-range k = size_in_range (font_scale (body c)) (right (kept_there keeps there).1 k).scale
+  pub scale_in_range : kind_of_command c ≡ Define → (1 ≤ font_scale (body c)) × (font_scale (body c) ≤ 134217727)
+  scale_in_range k = size_in_range (font_scale (body c)) (right (kept_there keeps there).1 k).scale
 
   -- so is its design size (rules 1.5, 3.5)
-  pub design-size-in-range : kind_of_command c ≡ Define → (1 ≤ font_design_size (body c)) × (font_design_size (body c) ≤ 134217727)
-  design-size-in-range k = size_in_range (font_design_size (body c)) (right (kept_there keeps there).1 k).size
+  pub design_size_in_range : kind_of_command c ≡ Define → (1 ≤ font_design_size (body c)) × (font_design_size (body c) ≤ 134217727)
+  design_size_in_range k = size_in_range (font_design_size (body c)) (right (kept_there keeps there).1 k).size
 
   -- after post too a number is defined once (rule 3.5)
-  pub defined-once-after-post : kind_of_command c ≡ Define → is_after_post (stage past) ≡ true → definition_of true (font_number c) past ≡ none
-  defined-once-after-post k late = ((right (kept_there keeps there).1 k).late late).0
+  pub defined_once_after_post : kind_of_command c ≡ Define → is_after_post (stage past) ≡ true → definition_of true (font_number c) past ≡ none
+  defined_once_after_post k late = ((right (kept_there keeps there).1 k).late late).0
 
   -- what is defined after post was defined before it, and says the same (rule 3.5)
-  pub defined-before-post : (number : ℤ) (at : ℕ) (d : Command) → definition_of true number past ≡ stands at d
+  pub defined_before_post : (number : ℤ) (at : ℕ) (d : Command) → definition_of true number past ≡ stands at d
       → (at_first : ℕ) × (first : Command) × (definition_of false number past ≡ stands at_first first) × (body first ≡ body d)
-  defined-before-post number at d e =
+  defined_before_post number at d e =
       let says_so = agreed (kept_there keeps there).0 number e in
       let (at_first, first, q) = is_there _ (says_there (definition_of false number past) (body d) says_so) in
       (at_first, first, q, same_true (body first) (body d) (rw q at says_so))
 
   -- and the other way: up to post_post no font is left out (rule 3.5)
-  pub defined-after-post : kind_of_command c ≡ PostPost → (number : ℤ) (at : ℕ) (d : Command) → definition_of false number past ≡ stands at d
+  pub defined_after_post : kind_of_command c ≡ PostPost → (number : ℤ) (at : ℕ) (d : Command) → definition_of false number past ≡ stands at d
       → (at_again : ℕ) × (again : Command) × (definition_of true number past ≡ stands at_again again) × (body again ≡ body d)
-  defined-after-post k number at d e =
+  defined_after_post k number at d e =
       let (kept, allowed) = kept_there keeps there in
       let as_many : font_count true past ≡ font_count false past = eqb-true _ _ (not-false _ (rw k at allowed.definition)) in
       let (at_again, again, q) = is_there _ (none_left_out kept 256 (omega arith) as_many number (ap is_defined e)) in

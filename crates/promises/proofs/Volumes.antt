@@ -27,7 +27,7 @@ use Rattle.list.specs.Lawful.{fillers, Follows, ends, goes, Keeps, Lawful}
 use Rattle.volume.specs.OfList.{up_to_last, past_of}
 use Rattle.volume.specs.Starred.{M}
 use Rattle.list.proofs.Arms.{on_kinds, is_kind}
-use Rattle.list.proofs.FaultLaws.{all-kept}
+use Rattle.list.proofs.FaultLaws.{all_kept}
 use Rattle.list.proofs.AtStages.{first_pre, compared, does_lawfully}
 use Rattle.promises.specs.Standing.{StandsAfter, first, later, StandsAmong, list_of_m}
 use Rattle.rewritten.proofs.Defining.{holds, right}
@@ -58,9 +58,9 @@ EndsSo bytes = (front : List ℕ) × (bytes ≡ front ++ four)
 ends_so : (byte : ℕ) {bytes : List ℕ} → EndsSo bytes → EndsSo (byte ∷ bytes)
 ends_so byte (front, e) = (byte ∷ front, ap (λ (l : List ℕ). byte ∷ l) e)
 
-after_all : (before : List ℕ) {bytes : List ℕ} → EndsSo bytes → EndsSo (before ++ bytes)
-after_all [] e = e
-after_all (byte ∷ before) e = ends_so byte (after_all before e)
+after_all_lem : (before : List ℕ) {bytes : List ℕ} → EndsSo bytes → EndsSo (before ++ bytes)
+after_all_lem [] e = e
+after_all_lem (byte ∷ before) e = ends_so byte (after_all_lem before e)
 
 fillers_end : (n : ℕ) → EndsSo (written (fillers (suc (suc (suc (suc n))))))
 fillers_end zero = ([], refl)
@@ -69,8 +69,8 @@ fillers_end (suc n) = ends_so 223 (fillers_end n)
 list_ends : {past cs : List Command} → Follows past cs → EndsSo (written cs)
 list_ends (ends {c = c} n w allowed last enough) =
     let more : suc (suc (suc (suc (n - 4)))) ≡ n = omega arith in
-    ends_so c.opcode (after_all c.params (subst (λ (m : ℕ). EndsSo (written (fillers m))) more (fillers_end (n - 4))))
-list_ends (goes {c = c} w allowed not_last follows) = ends_so c.opcode (after_all c.params (list_ends follows))
+    ends_so c.opcode (after_all_lem c.params (subst (λ (m : ℕ). EndsSo (written (fillers m))) more (fillers_end (n - 4))))
+list_ends (goes {c = c} w allowed not_last follows) = ends_so c.opcode (after_all_lem c.params (list_ends follows))
 
 -- the last four bytes of a lawful file (rule 3.10)
 pub ends_with_four_223 : (file : List ℕ) → Lawful file → drop (length file - 4) file ≡ 223 ∷ 223 ∷ 223 ∷ 223 ∷ []
@@ -195,45 +195,45 @@ module _ {cs : List Command} (keeps : Keeps cs) {past : List Command} {c : Comma
   kept_there = standing_kept no_more keeps there
 
   -- nothing stands before pre, so there is one only (rule 3.2)
-  pub pre-once : kind_of_command c ≡ Pre → past ≡ []
-  pre-once k = only_pre kept_there.0 kept_there.1 k
+  pub pre_once : kind_of_command c ≡ Pre → past ≡ []
+  pre_once k = only_pre kept_there.0 kept_there.1 k
 
   -- p of bop is the place of the bop before, or −1 (rule 3.7)
-  pub bop-points-back : kind_of_command c ≡ Bop → signed_in bop_pointer c.params ≡ last_bop past
-  bop-points-back k = same_number_true _ _ (holds _ (rw k at kept_there.1.pointer))
+  pub bop_points_back : kind_of_command c ≡ Bop → signed_in bop_pointer c.params ≡ last_bop past
+  bop_points_back k = same_number_true _ _ (holds _ (rw k at kept_there.1.pointer))
 
   -- p of post is the place of the last bop (rule 3.7)
-  pub post-points : kind_of_command c ≡ Post → signed_in post_pointer c.params ≡ last_bop past
-  post-points k = same_number_true _ _ (holds _ (rw k at kept_there.1.pointer))
+  pub post_points : kind_of_command c ≡ Post → signed_in post_pointer c.params ≡ last_bop past
+  post_points k = same_number_true _ _ (holds _ (rw k at kept_there.1.pointer))
 
   -- q of post_post is the place of post (rule 3.7)
-  pub post-post-points : kind_of_command c ≡ PostPost → signed_in end_pointer c.params ≡ pos (post_place past)
-  post-post-points k = same_number_true _ _ (not-false _ (rw k at kept_there.1.pointer))
+  pub post_post_points : kind_of_command c ≡ PostPost → signed_in end_pointer c.params ≡ pos (post_place past)
+  post_post_points k = same_number_true _ _ (not-false _ (rw k at kept_there.1.pointer))
 
   -- what is selected has a definition before it (rule 3.6)
-  pub selected-is-defined : kind_of_command c ≡ Select → (at : ℕ) × (d : Command) × (definition_of false (selected_font c.opcode c.params) past ≡ stands at d)
-  selected-is-defined k = is_there _ (holds _ (rw k at kept_there.1.font))
+  pub selected_is_defined : kind_of_command c ≡ Select → (at : ℕ) × (d : Command) × (definition_of false (selected_font c.opcode c.params) past ≡ stands at d)
+  selected_is_defined k = is_there _ (holds _ (rw k at kept_there.1.font))
 
   -- a number that is defined before post was not defined until then (rule 3.5)
-  pub defined-once : kind_of_command c ≡ Define → is_after_post (stage past) ≡ false → definition_of false (font_number c) past ≡ none
-  defined-once k early = ((right kept_there.1 k).early early).0
+  pub defined_once : kind_of_command c ≡ Define → is_after_post (stage past) ≡ false → definition_of false (font_number c) past ≡ none
+  defined_once k early = ((right kept_there.1 k).early early).0
 
   -- at eop all levels are popped (rule 3.4)
-  pub depth-0-at-eop : kind_of_command c ≡ Eop → depth past ≡ 0
-  depth-0-at-eop k = let right : wrong_at_depth Eop (depth past) ≡ false = rw k at kept_there.1.depth_right in omega (arith, ltb-false 0 (depth past) right)
+  pub depth_0_at_eop : kind_of_command c ≡ Eop → depth past ≡ 0
+  depth_0_at_eop k = let right : wrong_at_depth Eop (depth past) ≡ false = rw k at kept_there.1.depth_right in omega (arith, ltb-false 0 (depth past) right)
 
   -- the depth, before and after each command (rule 3.4)
-  pub depth-at-most-100 : (depth past ≤ 100) × (depth (c ∷ past) ≤ 100)
-  depth-at-most-100 = let (kept, allowed) = kept_there in (deep kept, deep (and_one kept allowed))
+  pub depth_at_most_100 : (depth past ≤ 100) × (depth (c ∷ past) ≤ 100)
+  depth_at_most_100 = let (kept, allowed) = kept_there in (deep kept, deep (and_one kept allowed))
 
   -- what post says of the list before it: s is not below the depth that was reached, the rest is the list's own (rule 3.8)
-  pub post-repeats : kind_of_command c ≡ Post
+  pub post_repeats : kind_of_command c ≡ Post
       → (unsigned_in post_pages c.params ≡ pages past)
       × (greatest past ≤ unsigned_in post_depth c.params)
       × (unsigned_in post_num c.params ≡ num past)
       × (unsigned_in post_den c.params ≡ den past)
       × (unsigned_in post_mag c.params ≡ mag past)
-  post-repeats k = repeats kept_there.1 k
+  post_repeats k = repeats kept_there.1 k
 
 -- ---- the printed example
 
@@ -241,11 +241,11 @@ module _ {cs : List Command} (keeps : Keeps cs) {past : List Command} {c : Comma
 pub M_list : Keeps list_of_m × (written list_of_m ≡ M)
 unfolding unsigned_at kind_of lengths fixed_length inner_length size_of
 M_list = (
-  goes (record { defined = lit< tt; exact = refl }) (all-kept _ _ refl) refl
-      (goes (record { defined = lit< tt; exact = refl }) (all-kept _ _ refl) refl
-      (goes (record { defined = lit< tt; exact = refl }) (all-kept _ _ refl) refl
-      (goes (record { defined = lit< tt; exact = refl }) (all-kept _ _ refl) refl
-      (ends 4 (record { defined = lit< tt; exact = refl }) (all-kept _ _ refl) refl (omega arith))))),
+  goes (record { defined = lit< tt; exact = refl }) (all_kept _ _ refl) refl
+      (goes (record { defined = lit< tt; exact = refl }) (all_kept _ _ refl) refl
+      (goes (record { defined = lit< tt; exact = refl }) (all_kept _ _ refl) refl
+      (goes (record { defined = lit< tt; exact = refl }) (all_kept _ _ refl) refl
+      (ends 4 (record { defined = lit< tt; exact = refl }) (all_kept _ _ refl) refl (omega arith))))),
   refl,
 )
 

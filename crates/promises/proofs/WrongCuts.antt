@@ -7,7 +7,7 @@ use contract.Lifetimes.{Lfts}
 use lib.ListN.{length, drop, get_or, replicate}
 use Rattle.refusals.specs.Numbers.{wrong_pages}
 use Rattle.refusals.specs.Answer.{Answer, refused, given}
-use Rattle.refusals.proofs.Answer.{given-not-refused}
+use Rattle.refusals.proofs.Answer.{given_not_refused}
 use Rattle.numbers.specs.Bytes.{unsigned_at, bytes_of}
 use Rattle.commands.specs.Kinds.{kind_of}
 use Rattle.commands.specs.Lengths.{lengths, fixed_length, inner_length, size_of}
@@ -45,21 +45,21 @@ module _ (κs : Lfts 3) (file pages area : _) (is : IsSmallest file.now pages.no
   same = cc (is.file_is, is.list_is, ap length is.area_is)
 
   -- invented counts: a hundred bytes, and no other number
-  pub not-invented-bytes : r ≡ PagesCut.Bytes 100
-  not-invented-bytes = cut_one_to_one r (PagesCut.Bytes 100) (post.0 ∙ ap bytes_cut same ∙ smallest_cut)
+  pub not_invented_bytes : r ≡ PagesCut.Bytes 100
+  not_invented_bytes = cut_one_to_one r (PagesCut.Bytes 100) (post.0 ∙ ap bytes_cut same ∙ smallest_cut)
 
   -- refusing every list: this one must be taken
-  pub not-refusing-every-list : NotCut r → ⊥
-  not-refusing-every-list refuses = subst NotCut not-invented-bytes refuses
+  pub not_refusing_every_list : NotCut r → ⊥
+  not_refusing_every_list refuses = subst NotCut not_invented_bytes refuses
 
   -- each of the bytes
-  pub file-as-worked : x.1.1.0.now ≡ M
-  file-as-worked = post.1.0 ∙ ap₂ cut_area is.area_is same ∙ smallest_area
+  pub file_as_worked : x.1.1.0.now ≡ M
+  file_as_worked = post.1.0 ∙ ap₂ cut_area is.area_is same ∙ smallest_area
 
   -- writing nothing: the zeros cannot stay
-  pub not-writing-no-byte : x.1.1.0.now ≡ area.now → ⊥
-  not-writing-no-byte stays =
-      let first : ◌≡◌ {A = ℕ} 247 0 = ap (λ (l : List ℕ). get_or l 0 0) (sym file-as-worked ∙ stays ∙ is.area_is) in omega (arith, first)
+  pub not_writing_no_byte : x.1.1.0.now ≡ area.now → ⊥
+  not_writing_no_byte stays =
+      let first : ◌≡◌ {A = ℕ} 247 0 = ap (λ (l : List ℕ). get_or l 0 0) (sym file_as_worked ∙ stays ∙ is.area_is) in omega (arith, first)
 
 -- one constant answer: this list and the empty one have not the same
 pub not_one_constant_cut : (κs κs' : Lfts 3) (file pages none area : _) (r : PagesCut) (x y : _) → IsSmallest file.now pages.now area.now → none.now ≡ []
@@ -68,7 +68,7 @@ not_one_constant_cut κs κs' file pages none area r x y is empty p q =
     let other : cut_pages file.now none.now (length area.now) ≡ cut_pages M [] 100 = cc (is.file_is, empty, ap length is.area_is) in
     let told : ◌≡◌ {A = Answer ℕ} (given 100) (refused wrong_pages 0) =
     sym (p.0 ∙ ap bytes_cut (same κs file pages area is r x p) ∙ smallest_cut) ∙ q.0 ∙ ap bytes_cut other ∙ no_page_cut in
-    given-not-refused 100 wrong_pages 0 told
+    given_not_refused 100 wrong_pages 0 told
 
 -- ---- a file of three pages
 
@@ -86,26 +86,26 @@ module _ (κs : Lfts 3) (file pages area : _) (page : ℕ) (is : IsOneOfThree fi
   worked = cc (is.file_is, is.list_is, is.room_is, cut)
 
   -- so many bytes it answers (rule 9.10)
-  bytes-of-page : r ≡ PagesCut.Bytes (length new)
-  bytes-of-page = cut_one_to_one r (PagesCut.Bytes (length new)) (post.0 ∙ ap bytes_cut worked)
+  bytes_of_page : r ≡ PagesCut.Bytes (length new)
+  bytes_of_page = cut_one_to_one r (PagesCut.Bytes (length new)) (post.0 ∙ ap bytes_cut worked)
 
   -- and these it leaves in the area (rule 9.1)
-  area-of-page : x.1.1.0.now ≡ new ++ drop (length new) area.now
-  area-of-page = post.1.0 ∙ ap (cut_area area.now) worked
+  area_of_page : x.1.1.0.now ≡ new ++ drop (length new) area.now
+  area_of_page = post.1.0 ∙ ap (cut_area area.now) worked
 
 module _ (κs : Lfts 3) (file pages area : _) (is : IsOneOfThree file.now pages.now area.now 2) (r : PagesCut) (x : _) (post : cut-pages.Post κs (file, (pages, (area, tt))) r x) where
   -- answering the old file's number of bytes: page 2 alone has 188 (rule 9.10)
-  pub not-counting-the-file : r ≡ PagesCut.Bytes 188
-  not-counting-the-file = bytes-of-page κs file pages area 2 is cut_to2 page_2_cut r x post
+  pub not_counting_the_file : r ≡ PagesCut.Bytes 188
+  not_counting_the_file = bytes_of_page κs file pages area 2 is cut_to2 page_2_cut r x post
 
   -- each of the bytes, and behind them what stood there (rules 9.1, 12.5)
-  pub page-2-as-worked : x.1.1.0.now ≡ cut_to2 ++ drop 188 area.now
-  page-2-as-worked = area-of-page κs file pages area 2 is cut_to2 page_2_cut r x post
+  pub page_2_as_worked : x.1.1.0.now ≡ cut_to2 ++ drop 188 area.now
+  page_2_as_worked = area_of_page κs file pages area 2 is cut_to2 page_2_cut r x post
 
   -- copying the file: behind the preamble stands a definition, and no nop (rule 12.2)
-  pub not-copying-the-file : x.1.1.0.now ≡ file.now → ⊥
-  not-copying-the-file copied =
-      let byte18 : ◌≡◌ {A = ℕ} 243 138 = ap (λ (l : List ℕ). get_or l 18 0) (sym page-2-as-worked ∙ copied ∙ is.file_is) in omega (arith, byte18)
+  pub not_copying_the_file : x.1.1.0.now ≡ file.now → ⊥
+  not_copying_the_file copied =
+      let byte18 : ◌≡◌ {A = ℕ} 243 138 = ap (λ (l : List ℕ). get_or l 18 0) (sym page_2_as_worked ∙ copied ∙ is.file_is) in omega (arith, byte18)
 
 -- not looking at the list: page 1 alone and page 2 alone are not the same bytes, for their counts differ (rule 12.3)
 pub not_one_page_for_all : (κs κs' : Lfts 3) (file first second area : _) (r s : PagesCut) (x y : _)
@@ -115,5 +115,5 @@ pub not_one_page_for_all : (κs κs' : Lfts 3) (file first second area : _) (r s
 not_one_page_for_all κs κs' file first second area r s x y one two p q same_area =
     let count : ◌≡◌ {A = ℕ} 11 12 =
     ap (λ (l : List ℕ). get_or l 58 0)
-    (sym (area-of-page κs file first area 1 one cut_to1 page_1_cut r x p) ∙ same_area ∙ page-2-as-worked κs' file second area two s y q) in
+    (sym (area_of_page κs file first area 1 one cut_to1 page_1_cut r x p) ∙ same_area ∙ page_2_as_worked κs' file second area two s y q) in
     omega (arith, count)

@@ -7,7 +7,7 @@ use contract.Lifetimes.{Lfts}
 use lib.ListN.{length, get_or, replicate}
 use Rattle.refusals.specs.Numbers.{named_record}
 use Rattle.refusals.specs.Answer.{Answer, refused, given}
-use Rattle.refusals.proofs.Answer.{given-same}
+use Rattle.refusals.proofs.Answer.{given_same}
 use Rattle.numbers.specs.Bytes.{unsigned_at}
 use Rattle.widths.specs.Table.{record_in, checked_from}
 use Rattle.converting.specs.Converting.{unnamed_from, widen_table, narrow_table, widened_area, narrowed_area}
@@ -44,22 +44,22 @@ module _ (κs : Lfts 2) (old area : _) (is : IsOldOne old.now area.now) (r : Tab
   widened_same = ap₂ widen_table is.old_is (ap length is.area_is)
 
   -- invented counts: one record, and no other number
-  pub not-invented-widened : r ≡ TableMade.Records 1
-  not-invented-widened = made_one_to_one r (TableMade.Records 1) (post.0 ∙ widened_same ∙ old_widened)
+  pub not_invented_widened : r ≡ TableMade.Records 1
+  not_invented_widened = made_one_to_one r (TableMade.Records 1) (post.0 ∙ widened_same ∙ old_widened)
 
   -- refusing every table: this one must be taken
-  pub not-refusing-every-old-table : NotMade r → ⊥
-  not-refusing-every-old-table refuses = subst NotMade not-invented-widened refuses
+  pub not_refusing_every_old_table : NotMade r → ⊥
+  not_refusing_every_old_table refuses = subst NotMade not_invented_widened refuses
 
   -- the bytes of the record in the new form, each as worked by hand
-  pub widened-as-worked : x.1.0.now ≡ any_table
-  widened-as-worked =
+  pub widened_as_worked : x.1.0.now ≡ any_table
+  widened_as_worked =
       post.1.0 ∙ ap₂ (λ (t e : List ℕ). widened_area t e (widen_table old.now (length area.now))) is.old_is is.area_is ∙ ap (widened_area spliced_table (replicate 32 7)) (widened_same ∙ old_widened)
 
   -- writing nothing: the sevens cannot stay
-  pub not-writing-no-new-record : x.1.0.now ≡ area.now → ⊥
-  not-writing-no-new-record stays =
-      let first : ◌≡◌ {A = ℕ} 0 7 = ap (λ (l : List ℕ). get_or l 0 0) (sym widened-as-worked ∙ stays ∙ is.area_is) in omega (arith, first)
+  pub not_writing_no_new_record : x.1.0.now ≡ area.now → ⊥
+  not_writing_no_new_record stays =
+      let first : ◌≡◌ {A = ℕ} 0 7 = ap (λ (l : List ℕ). get_or l 0 0) (sym widened_as_worked ∙ stays ∙ is.area_is) in omega (arith, first)
 
 -- one constant answer: this table and the empty one have not the same
 pub not_one_constant_form : (κs κs' : Lfts 2) (old none area : _) (r : TableMade) (x y : _) → IsOldOne old.now area.now → none.now ≡ []
@@ -67,31 +67,31 @@ pub not_one_constant_form : (κs κs' : Lfts 2) (old none area : _) (r : TableMa
 not_one_constant_form κs κs' old none area r x y is empty p q =
     let told : ◌≡◌ {A = Answer ℕ} (given 1) (given 0) =
     sym (p.0 ∙ widened_same κs old area is r x p ∙ old_widened) ∙ q.0 ∙ ap₂ widen_table empty (ap length is.area_is) ∙ none_widened in
-    absurd (omega (arith, given-same 1 0 told))
+    absurd (omega (arith, given_same 1 0 told))
 
 -- ---- narrow_table
 
 module _ (κs : Lfts 2) (table area : _) (is : IsNewOne table.now area.now) (r : TableMade) (x : _) (post : narrow-table.Post κs (table, (area, tt)) r x) where
-  narrowed-same : narrow_table table.now (length area.now) ≡ narrow_table any_table 16
-  narrowed-same = ap₂ narrow_table is.table_is (ap length is.area_is)
+  narrowed_same : narrow_table table.now (length area.now) ≡ narrow_table any_table 16
+  narrowed_same = ap₂ narrow_table is.table_is (ap length is.area_is)
 
   -- one record, and no other number
-  pub not-invented-narrowed : r ≡ TableMade.Records 1
-  not-invented-narrowed = made_one_to_one r (TableMade.Records 1) (post.0 ∙ narrowed-same ∙ new_narrowed)
+  pub not_invented_narrowed : r ≡ TableMade.Records 1
+  not_invented_narrowed = made_one_to_one r (TableMade.Records 1) (post.0 ∙ narrowed_same ∙ new_narrowed)
 
   -- this table must be taken
-  pub not-refusing-every-new-table : NotMade r → ⊥
-  not-refusing-every-new-table refuses = subst NotMade not-invented-narrowed refuses
+  pub not_refusing_every_new_table : NotMade r → ⊥
+  not_refusing_every_new_table refuses = subst NotMade not_invented_narrowed refuses
 
   -- the bytes of the record in the old form, each as worked by hand
-  pub narrowed-as-worked : x.1.0.now ≡ spliced_table
-  narrowed-as-worked =
-      post.1.0 ∙ ap₂ (λ (t e : List ℕ). narrowed_area t e (narrow_table table.now (length area.now))) is.table_is is.area_is ∙ ap (narrowed_area any_table (replicate 16 7)) (narrowed-same ∙ new_narrowed)
+  pub narrowed_as_worked : x.1.0.now ≡ spliced_table
+  narrowed_as_worked =
+      post.1.0 ∙ ap₂ (λ (t e : List ℕ). narrowed_area t e (narrow_table table.now (length area.now))) is.table_is is.area_is ∙ ap (narrowed_area any_table (replicate 16 7)) (narrowed_same ∙ new_narrowed)
 
   -- the sevens cannot stay
-  pub not-writing-no-old-record : x.1.0.now ≡ area.now → ⊥
-  not-writing-no-old-record stays =
-      let first : ◌≡◌ {A = ℕ} 0 7 = ap (λ (l : List ℕ). get_or l 0 0) (sym narrowed-as-worked ∙ stays ∙ is.area_is) in omega (arith, first)
+  pub not_writing_no_old_record : x.1.0.now ≡ area.now → ⊥
+  not_writing_no_old_record stays =
+      let first : ◌≡◌ {A = ℕ} 0 7 = ap (λ (l : List ℕ). get_or l 0 0) (sym narrowed_as_worked ∙ stays ∙ is.area_is) in omega (arith, first)
 
 -- losing names: a table of names is refused with 24, and before the area is judged; so one constant answer is shut out too
 pub not_losing_names : (κs : Lfts 2) (table area : _) (r : TableMade) (x : _) → IsNamed table.now area.now → narrow-table.Post κs (table, (area, tt)) r x → r ≡ TableMade.Refused named_record 0

@@ -7,7 +7,7 @@ use contract.Lifetimes.{Lfts}
 use lib.ListN.{length, drop, replicate, get_or, drop_of_length-le}
 use Rattle.refusals.specs.Numbers.{file_ends}
 use Rattle.refusals.specs.Answer.{Answer, refused, given, and_then}
-use Rattle.refusals.proofs.Answer.{given-not-refused}
+use Rattle.refusals.proofs.Answer.{given_not_refused}
 use Rattle.volume.specs.declared.Summary.{Summary}
 use Rattle.list.specs.Lawful.{Lawful}
 use Rattle.volume.specs.Judged.{judged}
@@ -24,7 +24,7 @@ use Rattle.reader.specs.Answers.{Accepts, Refuses}
 use Rattle.reader.proofs.check_file.Reads as check-file
 use Rattle.reader.proofs.place_page.Reads as place-page
 use Rattle.promises.proofs.OneToOne.{file_one_to_one, placed_one_to_one}
-use Rattle.promises.proofs.StatedDepth.{other-s-judged}
+use Rattle.promises.proofs.StatedDepth.{other_s_judged}
 use Rattle.promises.specs.StatedDepth.{stating}
 use Rattle.promises.specs.Calls.{Arguments, file, table, resolution, page, area, meant, IsPrinted}
 
@@ -44,25 +44,25 @@ not_refusing_all κs file r x m p = p.1.1 (subst Lawful (sym m) (accepts_lawful 
 -- accepting all: the empty file must be refused
 pub not_accepting_all : (κs : Lfts 1) → (file : _) → (r : FileChecked) → (x : _) → file.now ≡ [] → check-file.Post κs (file, tt) r x → Accepts r → ⊥
 not_accepting_all κs file (FileChecked.Accepted pages fonts depth post) x m p a =
-    given-not-refused _ file_ends 0 (p.0 ∙ ap judged m ∙ empty_refused)
+    given_not_refused _ file_ends 0 (p.0 ∙ ap judged m ∙ empty_refused)
 not_accepting_all κs file (FileChecked.Refused number place) x m p a = a
 
 -- one constant answer: M and the empty file have not the same
 pub not_constant : (κs κs' : Lfts 1) → (file empty : _) → (r : FileChecked) → (x y : _) → file.now ≡ M → empty.now ≡ []
     → check-file.Post κs (file, tt) r x → check-file.Post κs' (empty, tt) r y → ⊥
-not_constant κs κs' file empty r x y m e p q = given-not-refused one_page file_ends 0 (sym M_accepted ∙ ap judged (sym m) ∙ sym p.0 ∙ q.0 ∙ ap judged e ∙ empty_refused)
+not_constant κs κs' file empty r x y m e p q = given_not_refused one_page file_ends 0 (sym M_accepted ∙ ap judged (sym m) ∙ sym p.0 ∙ q.0 ∙ ap judged e ∙ empty_refused)
 
 -- asking that s is the depth, or reporting s: M with s 1 is accepted, and its depth is 0 all the same
 pub not_by_the_stated_depth : (κs : Lfts 1) → (file : _) → (r : FileChecked) → (x : _) → file.now ≡ stating 1 61 M → check-file.Post κs (file, tt) r x
     → r ≡ FileChecked.Accepted 1 0 0 61
-not_by_the_stated_depth κs file r x m p = file_one_to_one r (FileChecked.Accepted 1 0 0 61) (p.0 ∙ ap judged m ∙ other-s-judged 1 M one_page M_accepted)
+not_by_the_stated_depth κs file r x m p = file_one_to_one r (FileChecked.Accepted 1 0 0 61) (p.0 ∙ ap judged m ∙ other_s_judged 1 M one_page M_accepted)
 
 -- ---- the placing of a page
 
 -- what the contract says of it, and of the empty file
 example_placed : (a : Arguments) → IsPrinted a → meant a ≡ given printed
 example_placed a is =
-    let same : meant a ≡ placed_page example [] 300 1 40 = cc (is.file_is, is.table_is, is.resolution-is, is.page-is, is.room_is) in
+    let same : meant a ≡ placed_page example [] 300 1 40 = cc (is.file_is, is.table_is, is.resolution_is, is.page_is, is.room_is) in
     same ∙ printed_placed
 
 empty_not_placed : (a : Arguments) → file a ≡ [] → meant a ≡ refused file_ends 0
@@ -73,16 +73,16 @@ empty_not_placed a empty =
 module _ (κs : Lfts 3) (a x : Arguments) (is : IsPrinted a) where
   module _ (r : Placed) (post : place-page.Post κs a r x) where
     -- invented counts: two records, no missing character and no special, and no other
-    pub not-invented-counts : r ≡ Placed.Records 2 0 0
-    not-invented-counts = placed_one_to_one r (Placed.Records 2 0 0) (post.0 ∙ ap placed_counts (example_placed a is))
+    pub not_invented_counts : r ≡ Placed.Records 2 0 0
+    not_invented_counts = placed_one_to_one r (Placed.Records 2 0 0) (post.0 ∙ ap placed_counts (example_placed a is))
 
     -- refusing every page: this one must be placed
-    pub not-refusing-every-page : Refuses r → ⊥
-    not-refusing-every-page refuses = subst Refuses not-invented-counts refuses
+    pub not_refusing_every_page : Refuses r → ⊥
+    not_refusing_every_page refuses = subst Refuses not_invented_counts refuses
 
     -- the area's forty bytes, each as printed
-    pub area-as-printed : area x ≡ printed_bytes
-    area-as-printed =
+    pub area_as_printed : area x ≡ printed_bytes
+    area_as_printed =
         let written = all_bytes printed.placements in
         post.1.0
         ∙ ap (area_after (area a)) (example_placed a is)
@@ -91,24 +91,24 @@ module _ (κs : Lfts 3) (a x : Arguments) (is : IsPrinted a) where
         ∙ printed_bytes_lem
 
     -- writing nothing: forty zero bytes cannot stay
-    pub not-writing-nothing : area a ≡ replicate 40 0 → area x ≡ area a → ⊥
-    not-writing-nothing zeros stays =
-        let first : ◌≡◌ {A = ℕ} 2 0 = ap (λ (l : List ℕ). get_or l 0 0) (sym area-as-printed ∙ stays ∙ zeros) in omega (arith, first)
+    pub not_writing_nothing : area a ≡ replicate 40 0 → area x ≡ area a → ⊥
+    not_writing_nothing zeros stays =
+        let first : ◌≡◌ {A = ℕ} 2 0 = ap (λ (l : List ℕ). get_or l 0 0) (sym area_as_printed ∙ stays ∙ zeros) in omega (arith, first)
 
     -- writing the first record only: the second twenty bytes cannot stay
-    pub not-only-the-first-record : area a ≡ replicate 40 0 → drop 20 (area x) ≡ drop 20 (area a) → ⊥
-    not-only-the-first-record zeros stays =
-        let first : ◌≡◌ {A = ℕ} 2 0 = ap (λ (l : List ℕ). get_or l 0 0) (ap (drop 20) (sym area-as-printed) ∙ stays ∙ ap (drop 20) zeros) in
+    pub not_only_the_first_record : area a ≡ replicate 40 0 → drop 20 (area x) ≡ drop 20 (area a) → ⊥
+    not_only_the_first_record zeros stays =
+        let first : ◌≡◌ {A = ℕ} 2 0 = ap (λ (l : List ℕ). get_or l 0 0) (ap (drop 20) (sym area_as_printed) ∙ stays ∙ ap (drop 20) zeros) in
         omega (arith, first)
 
   -- stopping after a first command: the example's first command makes no record, its first rule one, and both are too few
-  pub not-only-the-first-command : (records missing specials : ℕ) → records ≤ 1 → place-page.Post κs a (Placed.Records records missing specials) x → ⊥
-  not-only-the-first-command records missing specials few post =
-      let many : records ≡ 2 = cc (not-invented-counts (Placed.Records records missing specials) post) in omega (arith, many, few)
+  pub not_only_the_first_command : (records missing specials : ℕ) → records ≤ 1 → place-page.Post κs a (Placed.Records records missing specials) x → ⊥
+  not_only_the_first_command records missing specials few post =
+      let many : records ≡ 2 = cc (not_invented_counts (Placed.Records records missing specials) post) in omega (arith, many, few)
 
 -- one constant answer: the printed example and the empty file have not the same
 pub not_one_constant : (κs κs' : Lfts 3) (a b x y : Arguments) (r : Placed) → IsPrinted a → file b ≡ []
     → place-page.Post κs a r x → place-page.Post κs' b r y → ⊥
 not_one_constant κs κs' a b x y r is empty p q =
-    given-not-refused (counts_of printed) file_ends 0
+    given_not_refused (counts_of printed) file_ends 0
     (sym (ap placed_counts (example_placed a is)) ∙ sym p.0 ∙ q.0 ∙ ap placed_counts (empty_not_placed b empty))

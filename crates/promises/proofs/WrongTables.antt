@@ -7,7 +7,7 @@ use contract.Lifetimes.{Lfts}
 use lib.ListN.{length, get_or, replicate}
 use Rattle.refusals.specs.Numbers.{font_ends}
 use Rattle.refusals.specs.Answer.{Answer, refused, given}
-use Rattle.refusals.proofs.Answer.{given-not-refused}
+use Rattle.refusals.proofs.Answer.{given_not_refused}
 use Rattle.numbers.specs.Bytes.{unsigned_at, bytes_of}
 use Rattle.packed.specs.Commands.{form_of, fixed_bytes, counted_bytes}
 use Rattle.packed.specs.Packets.{code_in, width_in, escapement_in}
@@ -48,21 +48,21 @@ module _ (κs : Lfts 2) (pk : _) (scale : ℕ) (area : _) (is : IsXi pk.now scal
   same = cc (is.pk_is, is.scale_is, ap length is.area_is)
 
   -- invented counts: one record, and no other number
-  pub not-invented-records : r ≡ TableMade.Records 1
-  not-invented-records = made_one_to_one r (TableMade.Records 1) (post.0 ∙ ap records_made same ∙ xi_made)
+  pub not_invented_records : r ≡ TableMade.Records 1
+  not_invented_records = made_one_to_one r (TableMade.Records 1) (post.0 ∙ ap records_made same ∙ xi_made)
 
   -- refusing every font: this one must be taken
-  pub not-refusing-every-font : NotMade r → ⊥
-  not-refusing-every-font refuses = subst NotMade not-invented-records refuses
+  pub not_refusing_every_font : NotMade r → ⊥
+  not_refusing_every_font refuses = subst NotMade not_invented_records refuses
 
   -- the bytes of the record, each as worked by hand
-  pub record-as-worked : x.1.1.0.now ≡ record_for (4 ∷ 0 ∷ 0 ∷ 25 ∷ 0 ∷ 9 ∷ 199 ∷ 28 ∷ [])
-  record-as-worked = post.1.0 ∙ ap₂ table_area is.area_is same ∙ xi_area
+  pub record_as_worked : x.1.1.0.now ≡ record_for (4 ∷ 0 ∷ 0 ∷ 25 ∷ 0 ∷ 9 ∷ 199 ∷ 28 ∷ [])
+  record_as_worked = post.1.0 ∙ ap₂ table_area is.area_is same ∙ xi_area
 
   -- writing nothing: the zeros cannot stay
-  pub not-writing-no-record : x.1.1.0.now ≡ area.now → ⊥
-  not-writing-no-record stays =
-      let first : ◌≡◌ {A = ℕ} 1 0 = ap (λ (l : List ℕ). get_or l 0 0) (sym record-as-worked ∙ stays ∙ is.area_is) in omega (arith, first)
+  pub not_writing_no_record : x.1.1.0.now ≡ area.now → ⊥
+  not_writing_no_record stays =
+      let first : ◌≡◌ {A = ℕ} 1 0 = ap (λ (l : List ℕ). get_or l 0 0) (sym record_as_worked ∙ stays ∙ is.area_is) in omega (arith, first)
 
 -- one constant answer: this font and the empty file have not the same
 pub not_one_constant_table : (κs κs' : Lfts 2) (pk none : _) (scale : ℕ) (area : _) (r : TableMade) (x y : _) → IsXi pk.now scale area.now → none.now ≡ []
@@ -71,4 +71,4 @@ not_one_constant_table κs κs' pk none scale area r x y is empty p q =
     let other : table_made none.now scale (length area.now) ≡ table_made [] 655360 width_record_size = cc (empty, is.scale_is, ap length is.area_is) in
     let told : ◌≡◌ {A = Answer ℕ} (given 1) (refused font_ends 0) =
     sym (p.0 ∙ ap records_made (same κs pk scale area is r x p) ∙ xi_made) ∙ q.0 ∙ ap records_made other ∙ empty_refused in
-    given-not-refused 1 font_ends 0 told
+    given_not_refused 1 font_ends 0 told

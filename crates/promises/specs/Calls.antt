@@ -46,8 +46,8 @@ module _ (a : Arguments) where
   meant = placed_page file table resolution page (length area)
 
   -- K, by the units of the file's preamble (rule 5.2)
-  abbrev pub unitHere : Answer Ratio
-  unitHere = unit_of (num (history file)) (den (history file)) (mag (history file)) resolution
+  abbrev pub unit_here : Answer Ratio
+  unit_here = unit_of (num (history file)) (den (history file)) (mag (history file)) resolution
 
   -- the page's own commands (rule 8.2)
   abbrev pub own : List Located
@@ -59,22 +59,22 @@ module _ (a : Arguments) where
     pub unit : Ratio
     pub rows : ℕ
     pub accepted : judged file ≡ given found
-    pub unit-is : unitHere ≡ given unit
+    pub unit_is : unit_here ≡ given unit
     pub table_is : checked_table table ≡ given rows
     pub there : page_outside page found.pages ≡ false
 
   -- what the page is placed by: K, D, the table, the file's commands and the page's number (rule 8.3)
-  abbrev pub groundsSetting : Grounds → Setting
-  groundsSetting g = setting_of file table g.unit resolution g.rows page
+  abbrev pub grounds_setting : Grounds → Setting
+  grounds_setting g = setting_of file table g.unit resolution g.rows page
 
   -- the page's own commands, each with the font that is current at it; at first there is none (rules 7.1, 7.10)
-  abbrev pub seenBy : Grounds → List Seen
-  seenBy g = with_fonts (groundsSetting g) unselected own
+  abbrev pub seen_by : Grounds → List Seen
+  seen_by g = with_fonts (grounds_setting g) unselected own
 
   -- the call is for the printed example, with an area that just holds its records
   pub record IsPrinted : Type 0 where
     pub file_is : file ≡ example
     pub table_is : table ≡ []
-    pub resolution-is : resolution ≡ 300
-    pub page-is : page ≡ 1
+    pub resolution_is : resolution ≡ 300
+    pub page_is : page ≡ 1
     pub room_is : length area ≡ 40

@@ -26,8 +26,8 @@ right_same depth = le-leb depth depth (omega arith)
 
 module _ (n : List Command) (c : Command) where
   -- a bop
-  pub bop-allowed : kind_of_command c ≡ Bop → is_at_start (stage n) ≡ false → may_stand (stage n) Bop ≡ true → signed_in bop_pointer c.params ≡ last_bop n → Allowed n c
-  bop-allowed k begun stand points =
+  pub bop_allowed : kind_of_command c ≡ Bop → is_at_start (stage n) ≡ false → may_stand (stage n) Bop ≡ true → signed_in bop_pointer c.params ≡ last_bop n → Allowed n c
+  bop_allowed k begun stand points =
       record {
         preamble = rw begun;
         standing = rw (k, stand);
@@ -39,9 +39,9 @@ module _ (n : List Command) (c : Command) where
       }
 
   -- a post that is lawful
-  post-lawful : kind_of_command c ≡ Post → is_at_start (stage n) ≡ false → may_stand (stage n) Post ≡ true → signed_in post_pointer c.params ≡ last_bop n
+  post_lawful : kind_of_command c ≡ Post → is_at_start (stage n) ≡ false → may_stand (stage n) Post ≡ true → signed_in post_pointer c.params ≡ last_bop n
       → lawful_postamble (num n) (den n) (mag n) (greatest n) (pages n) c.params ≡ true → Allowed n c
-  post-lawful k begun stand points lawful =
+  post_lawful k begun stand points lawful =
       record {
         preamble = rw begun;
         standing = rw (k, stand);
@@ -53,12 +53,12 @@ module _ (n : List Command) (c : Command) where
       }
 
   -- a post that repeats the numbers of the list
-  pub post-allowed : kind_of_command c ≡ Post → stage n ≡ BetweenPages → signed_in post_pointer c.params ≡ last_bop n
+  pub post_allowed : kind_of_command c ≡ Post → stage n ≡ BetweenPages → signed_in post_pointer c.params ≡ last_bop n
       → unsigned_in post_num c.params ≡ num n → unsigned_in post_den c.params ≡ den n → unsigned_in post_mag c.params ≡ mag n
       → unsigned_in post_depth c.params ≡ greatest n → unsigned_in post_pages c.params ≡ pages n → Allowed n c
-  post-allowed k at points e1 e2 e3 e4 e5 =
+  post_allowed k at points e1 e2 e3 e4 e5 =
       let right : right_depth (unsigned_in post_depth c.params) (greatest n) ≡ true = ap (λ (s : ℕ). right_depth s (greatest n)) e4 ∙ right_same (greatest n) in
-      post-lawful k (rw at) (rw at) points
+      post_lawful k (rw at) (rw at) points
       (rw (
         eq-eqb (unsigned_in post_num c.params) (num n) e1,
         eq-eqb (unsigned_in post_den c.params) (den n) e2,
@@ -68,9 +68,9 @@ module _ (n : List Command) (c : Command) where
       ))
 
   -- a post_post
-  pub end-allowed : kind_of_command c ≡ PostPost → stage n ≡ AfterPost → font_count true n ≡ font_count false n → signed_in end_pointer c.params ≡ pos (post_place n)
+  pub end_allowed : kind_of_command c ≡ PostPost → stage n ≡ AfterPost → font_count true n ≡ font_count false n → signed_in end_pointer c.params ≡ pos (post_place n)
       → unsigned_in end_identification c.params ≡ 2 → Allowed n c
-  end-allowed k at as_many points i =
+  end_allowed k at as_many points i =
       record {
         preamble = rw at;
         standing = rw (at, k);
@@ -83,11 +83,11 @@ module _ (n : List Command) (c : Command) where
 
   module _ (past : List Command) (allowed : Allowed past c) where
     -- a definition after post
-    pub again-allowed : kind_of_command c ≡ Define → stage past ≡ AfterPost → stage n ≡ AfterPost
+    pub again_allowed : kind_of_command c ≡ Define → stage past ≡ AfterPost → stage n ≡ AfterPost
         → is_defined (definition_of true (font_number c) n) ≡ is_defined (definition_of true (font_number c) past)
         → (is_defined (definition_of false (font_number c) past) ≡ true → unplaced (definition_of false (font_number c) n) ≡ unplaced (definition_of false (font_number c) past))
         → Allowed n c
-    again-allowed k was at late early =
+    again_allowed k was at late early =
         record {
           preamble = rw at;
           standing = rw (at, k);
@@ -112,16 +112,16 @@ module _ (n : List Command) (c : Command) where
             rw (r.number, r.scale, r.size, at, fresh, said)
 
     -- one of a page's own commands, or its eop
-    pub own-allowed : is_a Bop c ≡ false → is_a Define c ≡ false → is_a Post c ≡ false → is_a PostPost c ≡ false → stage past ≡ OnPage → stage n ≡ OnPage
+    pub own_allowed : is_a Bop c ≡ false → is_a Define c ≡ false → is_a Post c ≡ false → is_a PostPost c ≡ false → stage past ≡ OnPage → stage n ≡ OnPage
         → depth n ≡ depth past → selected n ≡ selected past
         → ((number : ℤ) → is_defined (definition_of false number past) ≡ true → is_defined (definition_of false number n) ≡ true)
         → Allowed n c
-    own-allowed no_bop no-define no_post no_end was at deep chosen fonts =
+    own_allowed no_bop no_define no_post no_end was at deep chosen fonts =
         record {
           preamble = rw at;
           standing = ap (λ (there : Stage). not (may_stand there (kind_of_command c))) (at ∙ sym was) ∙ allowed.standing;
           depth_right = rw deep allowed.depth_right;
-          definition = rw (no-define, no_end);
+          definition = rw (no_define, no_end);
           font = rw chosen (by (is_a Select c) (is_a SetCharacter c || is_a PutCharacter c) allowed.font (fonts (selected_font c.opcode c.params)));
           pointer = rw (no_bop, no_post, no_end);
           postamble = rw (no_post, no_end);
@@ -143,9 +143,9 @@ module _ (n : List Command) (c : Command) where
 
 module _ {past : List Command} {c : Command} (allowed : Allowed past c) where
   -- post repeats num, den, mag, and has the number of pages
-  pub post-old : kind_of_command c ≡ Post
+  pub post_old : kind_of_command c ≡ Post
       → (unsigned_in post_num c.params ≡ num past) × (unsigned_in post_den c.params ≡ den past) × (unsigned_in post_mag c.params ≡ mag past) × (unsigned_in post_pages c.params ≡ pages past)
-  post-old k =
+  post_old k =
       let rules : lawful_postamble (num past) (den past) (mag past) (greatest past) (pages past) c.params ≡ true = holds _ (rw k at allowed.postamble) in
       let from-num = (and-eq-true_iff (eqb (unsigned_in post_num c.params) (num past)) _).0 rules in
       let from-den = (and-eq-true_iff (eqb (unsigned_in post_den c.params) (den past)) _).0 from-num.1 in
@@ -154,8 +154,8 @@ module _ {past : List Command} {c : Command} (allowed : Allowed past c) where
       (eqb-true _ _ from-num.0, eqb-true _ _ from-den.0, eqb-true _ _ from-mag.0, eqb-true _ _ from-depth.1)
 
   -- post_post stands after post, no font is left out, and its identification is 2
-  pub end-old : kind_of_command c ≡ PostPost → (stage past ≡ AfterPost) × (font_count true past ≡ font_count false past) × (unsigned_in end_identification c.params ≡ 2)
-  end-old k = (
+  pub end_old : kind_of_command c ≡ PostPost → (stage past ≡ AfterPost) × (font_count true past ≡ font_count false past) × (unsigned_in end_identification c.params ≡ 2)
+  end_old k = (
     by (stage past) (not-false (may_stand (stage past) PostPost) (rw k at allowed.standing)) begun,
     eqb-true _ _ (not-false _ (rw k at allowed.definition)),
     eqb-true _ _ (not-false _ (rw k at allowed.postamble)),

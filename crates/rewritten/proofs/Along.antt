@@ -27,11 +27,11 @@ use Rattle.rewritten.specs.OldWords.{new_number, deepest_on}
 use Rattle.cutting.specs.CutList.{opening, mended, cut_after}
 use Rattle.rewritten.specs.Unplaced.{unplaced}
 use Rattle.rewritten.proofs.Unwinding.{Sound, start, more}
-use Rattle.cutting.proofs.Turning.{Outside, Inner, Turn, starts, idles, defines_early, begins, within, finishes, posts, idles_late, defines_again, ends, turn_of_lem}
+use Rattle.cutting.proofs.Turning.{Outside, Inner, Turn, starts, idles, defines_early, begins, within, finishes, posts, idles_late, defines_again, ends, turn_of}
 use Rattle.rewritten.proofs.Opening.{defined_unplaced, inner_stage}
 use Rattle.rewritten.proofs.SoundLaws.{eop_depth, depth_outside, deepest_there}
-use Rattle.rewritten.proofs.Mending.{bop-length, bop-points, bop-whole, post_length, post-points, post-same, post-depth, post-pages, post-whole}
-use Rattle.rewritten.proofs.Allowing.{bop-allowed, post-allowed, again-allowed, own-allowed, post-old}
+use Rattle.rewritten.proofs.Mending.{bop_length, bop_points, bop_whole, post_length, post_points, post_same, post_depth_lem, post_pages_lem, post_whole}
+use Rattle.rewritten.proofs.Allowing.{bop_allowed, post_allowed, again_allowed, own_allowed, post_old}
 
 -- ---- new numbers
 
@@ -41,8 +41,8 @@ number_more chosen page = rw (add-one page)
 
 -- a chosen page has a number
 pub number_positive : (chosen : ℕ → Bool) (page : ℕ) → chosen 0 ≡ false → chosen page ≡ true → 0 < new_number chosen page
-number_positive chosen zero not-zero t = absurd (true≢false (sym t ∙ not-zero))
-number_positive chosen (suc page) not-zero t = rw t (omega arith)
+number_positive chosen zero not_zero t = absurd (true≢false (sym t ∙ not_zero))
+number_positive chosen (suc page) not_zero t = rw t (omega arith)
 
 -- no page gets a higher number
 pub number_most : (chosen : ℕ → Bool) (page : ℕ) → new_number chosen page ≤ page
@@ -99,29 +99,29 @@ pub record Needs (first : List Command) (chosen : ℕ → Bool) (past : List Com
 -- ---- the needs of one command less
 
 module _ {first : List Command} {chosen : ℕ → Bool} {past : List Command} {c : Command} (allowed : Allowed past c) (needs : Needs first chosen (c ∷ past)) where
-  late-down : Turn (stage past) (kind_of_command c) → is_after_post (stage past) ≡ true → 0 < new_number chosen (pages past)
-  late-down (starts at k) t = absurd (false≢true (rw at at t))
-  late-down (idles out k) t = absurd (false≢true (sym out.early ∙ t))
-  late-down (defines_early out k) t = absurd (false≢true (sym out.early ∙ t))
-  late-down (begins out k) t = absurd (false≢true (sym out.early ∙ t))
-  late-down (within at inner) t = absurd (false≢true (rw at at t))
-  late-down (finishes at k) t = absurd (false≢true (rw at at t))
-  late-down (posts at k) t = absurd (false≢true (rw at at t))
-  late-down (idles_late at k) t = rw k at (needs.some (rw (k, at)))
-  late-down (defines_again at k) t = rw k at (needs.some (rw (k, at)))
-  late-down (ends at k) t = rw k at (needs.some (rw k))
+  late_down : Turn (stage past) (kind_of_command c) → is_after_post (stage past) ≡ true → 0 < new_number chosen (pages past)
+  late_down (starts at k) t = absurd (false≢true (rw at at t))
+  late_down (idles out k) t = absurd (false≢true (sym out.early ∙ t))
+  late_down (defines_early out k) t = absurd (false≢true (sym out.early ∙ t))
+  late_down (begins out k) t = absurd (false≢true (sym out.early ∙ t))
+  late_down (within at inner) t = absurd (false≢true (rw at at t))
+  late_down (finishes at k) t = absurd (false≢true (rw at at t))
+  late_down (posts at k) t = absurd (false≢true (rw at at t))
+  late_down (idles_late at k) t = rw k at (needs.some (rw (k, at)))
+  late_down (defines_again at k) t = rw k at (needs.some (rw (k, at)))
+  late_down (ends at k) t = rw k at (needs.some (rw k))
 
-  units-down : Turn (stage past) (kind_of_command c) → is_at_start (stage past) ≡ false → (field : UnsignedField) → unit_in field first ≡ unit_in field past
-  units-down (starts at k) t field = absurd (true≢false (rw at at t))
-  units-down (idles out k) t field = rw k at (needs.units (rw k out.begun) field)
-  units-down (defines_early out k) t field = rw k at (needs.units (rw k out.begun) field)
-  units-down (begins out k) t field = rw k at (needs.units (rw k) field)
-  units-down (within at inner) t field = rw inner.no_pre at (needs.units (rw (inner_stage (kind_of_command c) inner (stage past)) t) field)
-  units-down (finishes at k) t field = rw k at (needs.units (rw k) field)
-  units-down (posts at k) t field = rw k at (needs.units (rw k) field)
-  units-down (idles_late at k) t field = rw k at (needs.units (rw k t) field)
-  units-down (defines_again at k) t field = rw k at (needs.units (rw k t) field)
-  units-down (ends at k) t field = rw k at (needs.units (rw k) field)
+  units_down : Turn (stage past) (kind_of_command c) → is_at_start (stage past) ≡ false → (field : UnsignedField) → unit_in field first ≡ unit_in field past
+  units_down (starts at k) t field = absurd (true≢false (rw at at t))
+  units_down (idles out k) t field = rw k at (needs.units (rw k out.begun) field)
+  units_down (defines_early out k) t field = rw k at (needs.units (rw k out.begun) field)
+  units_down (begins out k) t field = rw k at (needs.units (rw k) field)
+  units_down (within at inner) t field = rw inner.no_pre at (needs.units (rw (inner_stage (kind_of_command c) inner (stage past)) t) field)
+  units_down (finishes at k) t field = rw k at (needs.units (rw k) field)
+  units_down (posts at k) t field = rw k at (needs.units (rw k) field)
+  units_down (idles_late at k) t field = rw k at (needs.units (rw k t) field)
+  units_down (defines_again at k) t field = rw k at (needs.units (rw k t) field)
+  units_down (ends at k) t field = rw k at (needs.units (rw k) field)
 
   covers_down : (number : ℤ) → is_defined (definition_of false number past) ≡ true → unplaced (definition_of false number first) ≡ unplaced (definition_of false number past)
   covers_down number t = by (defines false (stage past) (kind_of_command c)) refl (same_number (font_number c) number) refl (needs.covers number)
@@ -145,14 +145,14 @@ module _ {first : List Command} {chosen : ℕ → Bool} {past : List Command} {c
       by false d same s covers = covers t
 
   -- all of them
-  pub needs-down : Needs first chosen past
-  needs-down =
+  pub needs_down : Needs first chosen past
+  needs_down =
       record {
         room = omega (arith, needs.room);
         few = count (is_a Bop c) needs.few;
-        some = late-down (turn_of_lem allowed);
+        some = late_down (turn_of allowed);
         covers = covers_down;
-        units = units-down (turn_of_lem allowed);
+        units = units_down (turn_of allowed);
       }
     where
       count : (t : Bool) → cond t (pages past + 1) (pages past) < 65536 → pages past < 65536
@@ -201,7 +201,7 @@ module _ {first : List Command} {chosen : ℕ → Bool} {past n : List Command} 
       → depth_after (kind_of_command c) (depth n) ≡ cond (open_here chosen (c ∷ past)) (depth (c ∷ past)) 0
       → (open_here chosen (c ∷ past) ≡ true → cond (is_a Bop c) false (cond (is_a Select c) true (selected n)) ≡ selected (c ∷ past))
       → Along first chosen (c ∷ past) (d ∷ n)
-  keeps d same long sound no_pre no-define at count deep select =
+  keeps d same long sound no_pre no_define at count deep select =
       record {
         sound = sound;
         stage_is = rw same at;
@@ -209,12 +209,12 @@ module _ {first : List Command} {chosen : ℕ → Bool} {past n : List Command} 
         depth_is = rw same deep;
         greatest_is = rw same (ap₂ max a.greatest_is deep);
         selected_is = rw same select;
-        early_same = λ number. rw (same, no-define) (a.early_same number);
-        early_count = rw (same, no-define) a.early_count;
-        late_same = λ number. rw (same, no-define) (a.late_same number);
-        late_count = rw (same, no-define) a.late_count;
+        early_same = λ number. rw (same, no_define) (a.early_same number);
+        early_count = rw (same, no_define) a.early_count;
+        late_same = λ number. rw (same, no_define) (a.late_same number);
+        late_count = rw (same, no_define) a.late_count;
         units = λ field. rw (same, no_pre) (a.units field);
-        short = rw (no_pre, no-define) (omega (arith, a.short, long));
+        short = rw (no_pre, no_define) (omega (arith, a.short, long));
       }
 
 -- ---- one command more
@@ -229,36 +229,36 @@ module _ (first : List Command) (chosen : ℕ → Bool) (none-zero : chosen 0 �
 
   -- what must hold before it
   fewer : Needs first chosen past
-  fewer = needs-down allowed needs
+  fewer = needs_down allowed needs
 
   module _ (a : Along first chosen past new) where
     -- places fit
-    new-short : place new < 2 ^ 31
-    new-short = omega (arith, a.short, needs.room)
+    new_short : place new < 2 ^ 31
+    new_short = omega (arith, a.short, needs.room)
 
     -- ---- outside pages
 
     module _ (out : Outside (stage past)) where
-      outside-stage : stage new ≡ cond (ltb 0 (pages new)) BetweenPages BeforePages
-      outside-stage = rw (out.early, out.closed) at a.stage_is
+      outside_stage : stage new ≡ cond (ltb 0 (pages new)) BetweenPages BeforePages
+      outside_stage = rw (out.early, out.closed) at a.stage_is
 
-      outside-flat : depth new ≡ 0
-      outside-flat = rw out.closed at a.depth_is
+      outside_flat : depth new ≡ 0
+      outside_flat = rw out.closed at a.depth_is
 
-      may-begin : (some : Bool) (at : Stage) → at ≡ cond some BetweenPages BeforePages → (is_at_start at ≡ false) × (may_stand at Bop ≡ true)
-      may-begin true at e = (rw e, rw e)
-      may-begin false at e = (rw e, rw e)
+      may_begin : (some : Bool) (at : Stage) → at ≡ cond some BetweenPages BeforePages → (is_at_start at ≡ false) × (may_stand at Bop ≡ true)
+      may_begin true at e = (rw e, rw e)
+      may_begin false at e = (rw e, rw e)
 
       -- a bop
-      on-bop : (k : kind_of_command c ≡ Bop) (t : Bool) → chosen (pages past + 1) ≡ t → Along first chosen (c ∷ past) next
-      on-bop k true t =
-          let (begun, stand) = may-begin (ltb 0 (pages new)) (stage new) outside-stage in
+      on_bop : (k : kind_of_command c ≡ Bop) (t : Bool) → chosen (pages past + 1) ≡ t → Along first chosen (c ∷ past) next
+      on_bop k true t =
+          let (begun, stand) = may_begin (ltb 0 (pages new)) (stage new) outside_stage in
           subst (Along first chosen (c ∷ past)) (sym (rw (k, t)))
-          (keeps a (mended new c) refl (bop-length new c w k)
-          (more a.sound (bop-whole new c w k) (bop-allowed new (mended new c) k begun stand (bop-points new c w k new-short)) (rw k))
+          (keeps a (mended new c) refl (bop_length new c w k)
+          (more a.sound (bop_whole new c w k) (bop_allowed new (mended new c) k begun stand (bop_points new c w k new_short)) (rw k))
           (rw k) (rw k) (rw (k, t)) (rw k (ap (λ (n : ℕ). n + 1) a.pages_is ∙ sym (number_more chosen (pages past) ∙ rw t)))
-          (rw (k, t) (outside-flat ∙ sym (depth_outside old out.closed))) (λ _. rw k))
-      on-bop k false t =
+          (rw (k, t) (outside_flat ∙ sym (depth_outside old out.closed))) (λ _. rw k))
+      on_bop k false t =
           subst (Along first chosen (c ∷ past)) (sym (rw (k, t)))
           (goes a (rw (k, t, out.early, out.closed)) (rw k (number_more chosen (pages past) ∙ rw t)) (rw (k, t, out.closed)) (λ o. absurd (false≢true (rw (k, t) at o))) (rw k))
 
@@ -269,54 +269,54 @@ module _ (first : List Command) (chosen : ℕ → Bool) (none-zero : chosen 0 �
         there : stage new ≡ OnPage
         there = rw (at, t) at a.stage_is
 
-        as-deep : depth new ≡ depth past
-        as-deep = rw (at, t) at a.depth_is
+        as_deep : depth new ≡ depth past
+        as_deep = rw (at, t) at a.depth_is
 
-        as-selected : selected new ≡ selected past
-        as-selected = a.selected_is (rw (at, t))
+        as_selected : selected new ≡ selected past
+        as_selected = a.selected_is (rw (at, t))
 
-        fonts-there : (number : ℤ) → is_defined (definition_of false number past) ≡ true → is_defined (definition_of false number new) ≡ true
-        fonts-there number d =
+        fonts_there : (number : ℤ) → is_defined (definition_of false number past) ≡ true → is_defined (definition_of false number new) ≡ true
+        fonts_there number d =
             ap is_defined (a.early_same number) ∙ defined_unplaced (definition_of false number first) (definition_of false number past) (fewer.covers number d) ∙ d
 
-        some-chosen : ltb 0 (pages new) ≡ true
-        some-chosen = lt-ltb 0 (pages new) (omega (arith, a.pages_is, number_positive chosen (pages past) none-zero t))
+        some_chosen : ltb 0 (pages new) ≡ true
+        some_chosen = lt-ltb 0 (pages new) (omega (arith, a.pages_is, number_positive chosen (pages past) none-zero t))
 
-        own-sound : is_a Bop c ≡ false → is_a Define c ≡ false → is_a Post c ≡ false → Sound (c ∷ new)
-        own-sound no_bop no-define no_post =
-            more a.sound w (own-allowed new c past allowed no_bop no-define no_post not_last at there as-deep as-selected fonts-there) not_last
+        own_sound : is_a Bop c ≡ false → is_a Define c ≡ false → is_a Post c ≡ false → Sound (c ∷ new)
+        own_sound no_bop no_define no_post =
+            more a.sound w (own_allowed new c past allowed no_bop no_define no_post not_last at there as_deep as_selected fonts_there) not_last
 
       -- one of its own commands
-      on-inner : Inner (kind_of_command c) → (t : Bool) → chosen (pages past) ≡ t → (define : Bool) → is_a Define c ≡ define → Along first chosen (c ∷ past) next
-      on-inner inner false t define d =
+      on_inner : Inner (kind_of_command c) → (t : Bool) → chosen (pages past) ≡ t → (define : Bool) → is_a Define c ≡ define → Along first chosen (c ∷ past) next
+      on_inner inner false t define d =
           let still = inner_stage (kind_of_command c) inner (stage past) in
           subst (Along first chosen (c ∷ past)) (sym (rw (inner.no_bop, at, t)))
           (goes a (rw (still, inner.no_bop)) (rw inner.no_bop) (rw (still, inner.no_bop, at, t))
           (λ o. absurd (false≢true (rw (still, inner.no_bop, at, t) at o))) (rw at (and_false (is_a Define c))))
-      on-inner inner true t true d =
+      on_inner inner true t true d =
           let k : kind_of_command c ≡ Define = is_kind (kind_of_command c) Define d in
           subst (Along first chosen (c ∷ past)) (sym (rw (k, at, t)))
           (goes a (rw k) (rw k) (rw k) (λ o. (rw k at o, rw k)) (rw (k, at)))
-      on-inner inner true t false d =
+      on_inner inner true t false d =
           let still = inner_stage (kind_of_command c) inner (stage past) in
           let as-old : new_stage (chosen (pages (c ∷ past))) (ltb 0 (cond (is_a Bop c) (pages new + 1) (pages new))) (stage (c ∷ past)) ≡ OnPage =
           rw (still, inner.no_bop, at, t) in
           subst (Along first chosen (c ∷ past)) (sym (rw (inner.no_bop, at, t, d, inner.no_post, inner.no_end)))
-          (keeps a c refl refl (own-sound t inner.no_bop d inner.no_post) inner.no_pre d
+          (keeps a c refl refl (own_sound t inner.no_bop d inner.no_post) inner.no_pre d
           (inner_stage (kind_of_command c) inner (stage new) ∙ there t ∙ sym as-old)
           (rw inner.no_bop a.pages_is)
-          (rw (still, inner.no_bop, at, t) (ap (depth_after (kind_of_command c)) (as-deep t)))
-          (λ _. rw (inner.no_bop, as-selected t)))
+          (rw (still, inner.no_bop, at, t) (ap (depth_after (kind_of_command c)) (as_deep t)))
+          (λ _. rw (inner.no_bop, as_selected t)))
 
       -- its eop
-      on-eop : kind_of_command c ≡ Eop → (t : Bool) → chosen (pages past) ≡ t → Along first chosen (c ∷ past) next
-      on-eop k false t =
+      on_eop : kind_of_command c ≡ Eop → (t : Bool) → chosen (pages past) ≡ t → Along first chosen (c ∷ past) next
+      on_eop k false t =
           subst (Along first chosen (c ∷ past)) (sym (rw (k, at, t)))
           (goes a (rw (k, at, t)) (rw k) (rw (k, at, t)) (λ o. absurd (false≢true (rw k at o))) (rw k))
-      on-eop k true t =
+      on_eop k true t =
           subst (Along first chosen (c ∷ past)) (sym (rw (k, at, t)))
-          (keeps a c refl refl (own-sound t (rw k) (rw k) (rw k)) (rw k) (rw k) (rw (k, some-chosen t)) (rw k a.pages_is)
-          (rw k (as-deep t ∙ eop_depth allowed k)) (λ o. absurd (false≢true (rw k at o))))
+          (keeps a c refl refl (own_sound t (rw k) (rw k) (rw k)) (rw k) (rw k) (rw (k, some_chosen t)) (rw k a.pages_is)
+          (rw k (as_deep t ∙ eop_depth allowed k)) (λ o. absurd (false≢true (rw k at o))))
 
     -- ---- post
 
@@ -327,27 +327,27 @@ module _ (first : List Command) (chosen : ℕ → Bool) (none-zero : chosen 0 �
         let there : stage new ≡ BetweenPages = rw (at, positive) at a.stage_is in
         let few : pages new < 65536 = omega (arith, a.pages_is, number_most chosen (pages past), fewer.few) in
         let flat : greatest new < 65536 = omega (arith, deepest_there a.sound) in
-        let (e1, e2, e3, e4) = post-old allowed k in
+        let (e1, e2, e3, e4) = post_old allowed k in
         let unit : (field : UnsignedField) → unit_in field past ≡ unit_in field new = λ field. sym (a.units field ∙ fewer.units (rw at) field) in
         subst (Along first chosen (c ∷ past)) (sym (rw (k, at)))
         (keeps a (mended new c) refl (post_length new c w k)
-        (more a.sound (post-whole new c w k)
-        (post-allowed new (mended new c) k there (post-points new c w k new-short)
-        (post-same new c w k post_num (omega arith) (omega arith) ∙ e1 ∙ unit pre_num)
-        (post-same new c w k post_den (omega arith) (omega arith) ∙ e2 ∙ unit pre_den)
-        (post-same new c w k post_mag (omega arith) (omega arith) ∙ e3 ∙ unit pre_mag)
-        (post-depth new c w k flat) (post-pages new c w k few))
+        (more a.sound (post_whole new c w k)
+        (post_allowed new (mended new c) k there (post_points new c w k new_short)
+        (post_same new c w k post_num (omega arith) (omega arith) ∙ e1 ∙ unit pre_num)
+        (post_same new c w k post_den (omega arith) (omega arith) ∙ e2 ∙ unit pre_den)
+        (post_same new c w k post_mag (omega arith) (omega arith) ∙ e3 ∙ unit pre_mag)
+        (post_depth_lem new c w k flat) (post_pages_lem new c w k few))
         not_last)
         (rw k) (rw k) (rw k) (rw k a.pages_is) (rw k (rw at at a.depth_is)) (λ o. absurd (false≢true (rw k at o))))
 
     -- ---- a definition after post
 
-    on-again : stage past ≡ AfterPost → kind_of_command c ≡ Define → Along first chosen (c ∷ past) next
-    on-again at k =
+    on_again : stage past ≡ AfterPost → kind_of_command c ≡ Define → Along first chosen (c ∷ past) next
+    on_again at k =
         let there : stage new ≡ AfterPost = rw at at a.stage_is in
         subst (Along first chosen (c ∷ past)) (sym (rw (k, at)))
         (record {
-          sound = more a.sound w (again-allowed new c past allowed k at there
+          sound = more a.sound w (again_allowed new c past allowed k at there
               (defined_unplaced (definition_of true (font_number c) new) (definition_of true (font_number c) past) (a.late_same (font_number c)))
               (λ d. ap unplaced (a.early_same (font_number c)) ∙ fewer.covers (font_number c) d)) not_last;
           stage_is = rw k a.stage_is;
@@ -380,14 +380,14 @@ module _ (first : List Command) (chosen : ℕ → Bool) (none-zero : chosen 0 �
     one_more (defines_early out k) =
         subst (Along first chosen (c ∷ past)) (sym (rw (k, out.closed, out.early)))
         (goes a (rw k) (rw k) (rw k) (λ o. (rw k at o, rw k)) (rw (k, out.early)))
-    one_more (begins out k) = on-bop out k (chosen (pages past + 1)) refl
-    one_more (within at inner) = on-inner at inner (chosen (pages past)) refl (is_a Define c) refl
-    one_more (finishes at k) = on-eop at k (chosen (pages past)) refl
+    one_more (begins out k) = on_bop out k (chosen (pages past + 1)) refl
+    one_more (within at inner) = on_inner at inner (chosen (pages past)) refl (is_a Define c) refl
+    one_more (finishes at k) = on_eop at k (chosen (pages past)) refl
     one_more (posts at k) = on_post at k
     one_more (idles_late at k) =
         subst (Along first chosen (c ∷ past)) (sym (rw (k, at)))
         (goes a (rw k) (rw k) (rw k) (λ o. (rw k at o, rw k)) (rw k))
-    one_more (defines_again at k) = on-again at k
+    one_more (defines_again at k) = on_again at k
     one_more (ends at k) = absurd (true≢false (rw k at not_last))
 
 -- the new list goes along with the old one
@@ -409,4 +409,4 @@ along first chosen none-zero f start needs =
       short = omega arith;
     }
 along first chosen none-zero f (more sound w allowed not_last) needs =
-    one_more first chosen none-zero sound w allowed not_last needs (along first chosen none-zero f sound (needs-down allowed needs)) (turn_of_lem allowed)
+    one_more first chosen none-zero sound w allowed not_last needs (along first chosen none-zero f sound (needs_down allowed needs)) (turn_of allowed)

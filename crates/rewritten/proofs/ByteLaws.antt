@@ -14,9 +14,9 @@ use Rattle.numbers.proofs.Radix.{less_or_not}
 use Rattle.list.specs.Past.{stage, is_after_post, pages}
 use Rattle.cutting.specs.CutList.{onto}
 use Rattle.rewritten.proofs.Unwinding.{Sound, start, more}
-use Rattle.cutting.proofs.Turning.{Turn, starts, idles, defines_early, begins, within, finishes, posts, idles_late, defines_again, ends, turn_of_lem}
+use Rattle.cutting.proofs.Turning.{Turn, starts, idles, defines_early, begins, within, finishes, posts, idles_late, defines_again, ends, turn_of}
 use Rattle.rewritten.proofs.Opening.{inner_stage}
-use Rattle.rewritten.proofs.Allowing.{post-old}
+use Rattle.rewritten.proofs.Allowing.{post_old}
 
 -- a byte at each place; past the end a 0
 abbrev Everywhere : List ℕ → Type 0
@@ -43,7 +43,7 @@ bytes_of (c ∷ past) cs b =
 
 few_there : {past : List Command} → Sound past → AllBytes past → is_after_post (stage past) ≡ true → pages past < 65536
 few_there start b t = omega arith
-few_there (more {past = past} {c = c} sound w allowed not_last) (also here before) t = by (turn_of_lem allowed) (few_there sound before)
+few_there (more {past = past} {c = c} sound w allowed not_last) (also here before) t = by (turn_of allowed) (few_there sound before)
   where
     by : Turn (stage past) (kind_of_command c) → (is_after_post (stage past) ≡ true → pages past < 65536) → pages (c ∷ past) < 65536
     by (starts at k) earlier = absurd (false≢true (rw k at t))
@@ -52,7 +52,7 @@ few_there (more {past = past} {c = c} sound w allowed not_last) (also here befor
     by (begins out k) earlier = absurd (false≢true (rw k at t))
     by (within at inner) earlier = absurd (false≢true (rw (inner_stage (kind_of_command c) inner (stage past), at) at t))
     by (finishes at k) earlier = absurd (false≢true (rw k at t))
-    by (posts at k) earlier = rw k (omega (arith, (post-old allowed k).3, unsigned_below c.params 26 2 (λ i h. here (26 + i))))
+    by (posts at k) earlier = rw k (omega (arith, (post_old allowed k).3, unsigned_below c.params 26 2 (λ i h. here (26 + i))))
     by (idles_late at k) earlier = rw k (earlier (rw at))
     by (defines_again at k) earlier = rw k (earlier (rw at))
     by (ends at k) earlier = absurd (true≢false (rw k at not_last))

@@ -20,10 +20,10 @@ use Rattle.list.proofs.Arms.{is_kind}
 use Rattle.rewritten.specs.OldWords.{new_number, deepest_on}
 use Rattle.cutting.specs.CutList.{opening, mended, cut_after, cut_past, fillers_at, onto, cut_list}
 use Rattle.rewritten.specs.Unplaced.{unplaced}
-use Rattle.rewritten.proofs.Unwinding.{Closed, list-keeps, list-judged, list_length, written-history}
+use Rattle.rewritten.proofs.Unwinding.{Closed, list_keeps, list_judged, list_length, written_history}
 use Rattle.rewritten.proofs.Opening.{Opens, opens}
-use Rattle.rewritten.proofs.Mending.{end-length, end-points, end_same, end_whole}
-use Rattle.rewritten.proofs.Allowing.{end-allowed, end-old}
+use Rattle.rewritten.proofs.Mending.{end_length, end_points, end_same, end_whole}
+use Rattle.rewritten.proofs.Allowing.{end_allowed, end_old}
 use Rattle.rewritten.proofs.Along.{Along, First, Needs, along, opening_more}
 
 -- the opening is no longer than the list
@@ -45,8 +45,8 @@ module _ (chosen : ℕ → Bool) (none-zero : chosen 0 ≡ false) (past : List C
   k = is_kind (kind_of_command c) PostPost closed.last
 
   -- the old list is after post
-  pub old-end : stage past ≡ AfterPost
-  old-end = (end-old closed.allowed k).0
+  pub old_end : stage past ≡ AfterPost
+  old_end = (end_old closed.allowed k).0
 
   o : Opens past (opening past)
   o = opens closed.sound
@@ -59,7 +59,7 @@ module _ (chosen : ℕ → Bool) (none-zero : chosen 0 ≡ false) (past : List C
   as_first =
       record {
         sound = o.sound;
-        stage_is = rw old-end at o.stage_is;
+        stage_is = rw old_end at o.stage_is;
         no_pages = o.no_pages;
         flat = o.flat;
         flat_always = o.flat_always;
@@ -68,8 +68,8 @@ module _ (chosen : ℕ → Bool) (none-zero : chosen 0 ≡ false) (past : List C
       }
 
   -- and what the new list needs of the old one holds
-  pub as-needed : Needs (opening past) chosen past
-  as-needed =
+  pub as_needed : Needs (opening past) chosen past
+  as_needed =
       record {
         room = omega (arith, opening_short past, fits);
         few = few;
@@ -80,94 +80,94 @@ module _ (chosen : ℕ → Bool) (none-zero : chosen 0 ≡ false) (past : List C
 
   -- the new list goes along with the old one to the end
   pub to_end : Along (opening past) chosen past new
-  to_end = along (opening past) chosen none-zero as_first closed.sound as-needed
+  to_end = along (opening past) chosen none-zero as_first closed.sound as_needed
 
-  new-short : place new ≤ place past
-  new-short = omega (arith, to_end.short)
+  new_short : place new ≤ place past
+  new_short = omega (arith, to_end.short)
 
   below : place new < 2 ^ 31
-  below = omega (arith, new-short, fits)
+  below = omega (arith, new_short, fits)
 
   -- the new list is after post too
-  pub new-end : stage new ≡ AfterPost
-  new-end = rw old-end at to_end.stage_is
+  pub new_end_lem : stage new ≡ AfterPost
+  new_end_lem = rw old_end at to_end.stage_is
 
   -- with its post_post
-  cut-closed : Closed new (mended new c)
-  cut-closed =
-      let (was, as_many, i) = end-old closed.allowed k in
+  cut_closed : Closed new (mended new c)
+  cut_closed =
+      let (was, as_many, i) = end_old closed.allowed k in
       record {
         sound = to_end.sound;
         is_whole = end_whole new c closed.is_whole k;
-        allowed = end-allowed new (mended new c) k new-end (to_end.late_count ∙ as_many ∙ sym (to_end.early_count ∙ o.count))
-            (end-points new c closed.is_whole k below) (end_same new c closed.is_whole k ∙ i);
+        allowed = end_allowed new (mended new c) k new_end_lem (to_end.late_count ∙ as_many ∙ sym (to_end.early_count ∙ o.count))
+            (end_points new c closed.is_whole k below) (end_same new c closed.is_whole k ∙ i);
         last = closed.last;
       }
 
   -- the whole new list
-  pub cut-is : cut_past chosen (c ∷ past) ≡ mended new c ∷ new
-  cut-is = rw (k, old-end)
+  pub cut_is : cut_past chosen (c ∷ past) ≡ mended new c ∷ new
+  cut_is = rw (k, old_end)
 
   -- it is no longer, up to post_post
   pub cut_short : place (mended new c ∷ new) ≤ place (c ∷ past)
-  cut_short = omega (arith, new-short, end-length new c closed.is_whole k)
+  cut_short = omega (arith, new_short, end_length new c closed.is_whole k)
 
   abbrev count : ℕ
   count = fillers_at (place (mended new c ∷ new))
 
   list_is : cut_list chosen (c ∷ past) ≡ onto (mended new c ∷ new) (fillers count)
-  list_is = ap (λ (l : List Command). onto l (fillers (fillers_at (place l)))) cut-is
+  list_is = ap (λ (l : List Command). onto l (fillers (fillers_at (place l)))) cut_is
 
   enough : 4 ≤ count
   enough = (fillers_four (place (mended new c ∷ new))).0
 
-  short-enough : place (mended new c ∷ new) + count ≤ longest_file
-  short-enough = fillers_fit (place (mended new c ∷ new)) (omega (arith, cut_short, fits))
+  short_enough : place (mended new c ∷ new) + count ≤ longest_file
+  short_enough = fillers_fit (place (mended new c ∷ new)) (omega (arith, cut_short, fits))
 
   -- the new list keeps the rules
   cut_keeps : Keeps (cut_list chosen (c ∷ past))
-  cut_keeps = rw list_is (list-keeps new (mended new c) cut-closed count enough)
+  cut_keeps = rw list_is (list_keeps new (mended new c) cut_closed count enough)
 
   -- its bytes are a multiple of four, at most 16,777,216
-  pub cut-length : (length (written (cut_list chosen (c ∷ past))) % 4 ≡ 0) × (length (written (cut_list chosen (c ∷ past))) ≤ longest_file)
-  cut-length =
-      let long = ap (λ (l : List Command). length (written l)) list_is ∙ list_length new (mended new c) cut-closed count enough in
-      (ap (λ (n : ℕ). n % 4) long ∙ (fillers_four (place (mended new c ∷ new))).2, omega (arith, long, short-enough))
+  pub cut_length : (length (written (cut_list chosen (c ∷ past))) % 4 ≡ 0) × (length (written (cut_list chosen (c ∷ past))) ≤ longest_file)
+  cut_length =
+      let long = ap (λ (l : List Command). length (written l)) list_is ∙ list_length new (mended new c) cut_closed count enough in
+      (ap (λ (n : ℕ). n % 4) long ∙ (fillers_four (place (mended new c ∷ new))).2, omega (arith, long, short_enough))
 
   -- the new file is lawful
-  pub cut-lawful : Lawful (written (cut_list chosen (c ∷ past)))
-  cut-lawful = (cut-length.1, (cut_list chosen (c ∷ past), cut_keeps, refl))
+  pub cut_lawful : Lawful (written (cut_list chosen (c ∷ past)))
+  cut_lawful = (cut_length.1, (cut_list chosen (c ∷ past), cut_keeps, refl))
 
   -- it is accepted with its own counts
-  pub cut-judged : judged (written (cut_list chosen (c ∷ past))) ≡ given (summary (cut_past chosen (c ∷ past)))
-  cut-judged = rw (list_is, cut-is) (list-judged new (mended new c) cut-closed count enough short-enough)
+  pub cut_judged : judged (written (cut_list chosen (c ∷ past))) ≡ given (summary (cut_past chosen (c ∷ past)))
+  cut_judged = rw (list_is, cut_is) (list_judged new (mended new c) cut_closed count enough short_enough)
 
   -- its commands are the new list's
-  pub cut-history : history (written (cut_list chosen (c ∷ past))) ≡ cut_past chosen (c ∷ past)
-  cut-history = rw (list_is, cut-is) (written-history new (mended new c) cut-closed count enough short-enough)
+  pub cut_history : history (written (cut_list chosen (c ∷ past))) ≡ cut_past chosen (c ∷ past)
+  cut_history = rw (list_is, cut_is) (written_history new (mended new c) cut_closed count enough short_enough)
 
   -- as many pages as are chosen
-  pub cut-pages : pages (cut_past chosen (c ∷ past)) ≡ new_number chosen (pages past)
-  cut-pages = rw cut-is (rw k to_end.pages_is)
+  pub cut_pages_kept : pages (cut_past chosen (c ∷ past)) ≡ new_number chosen (pages past)
+  cut_pages_kept = rw cut_is (rw k to_end.pages_is)
 
   -- as many fonts as before
-  pub cut-fonts : font_count false (cut_past chosen (c ∷ past)) ≡ font_count false (c ∷ past)
-  cut-fonts = rw cut-is (rw k (to_end.early_count ∙ o.count))
+  pub cut_fonts : font_count false (cut_past chosen (c ∷ past)) ≡ font_count false (c ∷ past)
+  cut_fonts = rw cut_is (rw k (to_end.early_count ∙ o.count))
 
   -- the greatest depth of the chosen pages
-  pub cut-depth : greatest (cut_past chosen (c ∷ past)) ≡ deepest_on chosen (c ∷ past)
-  cut-depth = rw cut-is (rw k (ap₂ max to_end.greatest_is (rw old-end at to_end.depth_is)))
+  pub cut_depth : greatest (cut_past chosen (c ∷ past)) ≡ deepest_on chosen (c ∷ past)
+  cut_depth = rw cut_is (rw k (ap₂ max to_end.greatest_is (rw old_end at to_end.depth_is)))
 
   -- the fonts are the same
-  pub cut-definitions : (number : ℤ) → unplaced (definition_of false number (cut_past chosen (c ∷ past))) ≡ unplaced (definition_of false number (c ∷ past))
-  cut-definitions number = rw cut-is (rw k (ap unplaced (to_end.early_same number) ∙ o.fonts number))
+  pub cut_definitions : (number : ℤ) → unplaced (definition_of false number (cut_past chosen (c ∷ past))) ≡ unplaced (definition_of false number (c ∷ past))
+  cut_definitions number = rw cut_is (rw k (ap unplaced (to_end.early_same number) ∙ o.fonts number))
 
   -- num, den and mag are the same
-  pub cut-units : (field : UnsignedField) → unit_in field (cut_past chosen (c ∷ past)) ≡ unit_in field (c ∷ past)
-  cut-units field = rw cut-is (rw k (to_end.units field ∙ o.units field))
+  pub cut_units : (field : UnsignedField) → unit_in field (cut_past chosen (c ∷ past)) ≡ unit_in field (c ∷ past)
+  cut_units field = rw cut_is (rw k (to_end.units field ∙ o.units field))
 
   -- up to three bytes longer than a file of those commands and n 223s
-  pub cut-longer : (n : ℕ) → 4 ≤ n → length (written (cut_list chosen (c ∷ past))) ≤ place (c ∷ past) + n + 3
-  cut-longer n h =
-      let long = ap (λ (l : List Command). length (written l)) list_is ∙ list_length new (mended new c) cut-closed count enough in
+  pub cut_longer : (n : ℕ) → 4 ≤ n → length (written (cut_list chosen (c ∷ past))) ≤ place (c ∷ past) + n + 3
+  cut_longer n h =
+      let long = ap (λ (l : List Command). length (written l)) list_is ∙ list_length new (mended new c) cut_closed count enough in
       omega (arith, long, cut_short, (fillers_four (place (mended new c ∷ new))).1)

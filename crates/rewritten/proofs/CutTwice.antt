@@ -15,13 +15,13 @@ use Rattle.list.specs.Rules.{is_at_start, Allowed}
 use Rattle.list.proofs.Arms.{is_kind}
 use Rattle.list.proofs.FontTables.{defines_kind}
 use Rattle.cutting.specs.CutList.{opening, stays, mended, cut_after, cut_past}
-use Rattle.cutting.proofs.Turning.{Turn, starts, idles, defines_early, begins, within, finishes, posts, idles_late, defines_again, ends, turn_of_lem}
+use Rattle.cutting.proofs.Turning.{Turn, starts, idles, defines_early, begins, within, finishes, posts, idles_late, defines_again, ends, turn_of}
 use Rattle.rewritten.specs.OldWords.{new_number}
 use Rattle.rewritten.proofs.Unwinding.{Sound, start, more, Closed}
 use Rattle.rewritten.proofs.Opening.{opens}
 use Rattle.rewritten.proofs.Mending.{mended_again}
-use Rattle.rewritten.proofs.Along.{Along, First, Needs, needs-down, along, number_positive}
-use Rattle.rewritten.proofs.CutKeeps.{as_first, as-needed, to_end, new-end, cut-is}
+use Rattle.rewritten.proofs.Along.{Along, First, Needs, needs_down, along, number_positive}
+use Rattle.rewritten.proofs.CutKeeps.{as_first, as_needed, to_end, new_end_lem, cut_is}
 
 -- ---- the opening opens itself, and nothing of it stays
 
@@ -70,32 +70,32 @@ module _ (whole : ℕ → Bool) (total : ℕ) (all : (page : ℕ) → 1 ≤ page
       (stayed : stays chosen past c ≡ true) where
     -- on a page
     module _ (at : stage past ≡ OnPage) (no_bop : is_a Bop c ≡ false) where
-      is-chosen : (chosen (pages past) ≡ true) × (not (is_a Define c) ≡ true)
-      is-chosen = (and-eq-true_iff (chosen (pages past)) (not (is_a Define c))).0 (rw (no_bop, at) at stayed)
+      is_chosen : (chosen (pages past) ≡ true) × (not (is_a Define c) ≡ true)
+      is_chosen = (and-eq-true_iff (chosen (pages past)) (not (is_a Define c))).0 (rw (no_bop, at) at stayed)
 
       on_page : stage n ≡ OnPage
-      on_page = rw (at, is-chosen.0) at a.stage_is
+      on_page = rw (at, is_chosen.0) at a.stage_is
 
-      page-stays : whole (pages n) ≡ true
-      page-stays = all (pages n) (omega (arith, a.pages_is, number_positive chosen (pages past) none-zero is-chosen.0)) (rw no_bop at few)
+      page_stays : whole (pages n) ≡ true
+      page_stays = all (pages n) (omega (arith, a.pages_is, number_positive chosen (pages past) none-zero is_chosen.0)) (rw no_bop at few)
 
-      no-define : is_a Define c ≡ false
-      no-define = by (is_a Define c) is-chosen.1
+      no_define : is_a Define c ≡ false
+      no_define = by (is_a Define c) is_chosen.1
         where
           by : (t : Bool) → not t ≡ true → t ≡ false
           by true e = sym e
           by false e = refl
 
-      page-remains : is_a Pre c ≡ false → Remains whole n c
-      page-remains no_pre = record { no_pre = no_pre; no_definition = rw no-define; again = rw (no_bop, on_page, page-stays, no-define) }
+      page_remains : is_a Pre c ≡ false → Remains whole n c
+      page_remains no_pre = record { no_pre = no_pre; no_definition = rw no_define; again = rw (no_bop, on_page, page_stays, no_define) }
 
     remains : Turn (stage past) (kind_of_command c) → Remains whole n c
     remains (starts at k) = absurd (false≢true (rw (k, at) at stayed))
     remains (idles out k) = absurd (false≢true (rw (k, out.closed, out.early) at stayed))
     remains (defines_early out k) = absurd (false≢true (rw (k, out.closed, out.early) at stayed))
     remains (begins out k) = record { no_pre = rw k; no_definition = rw k; again = rw k (all (pages n + 1) (omega arith) (rw k at few)) }
-    remains (within at inner) = page-remains at inner.no_bop inner.no_pre
-    remains (finishes at k) = page-remains at (rw k) (rw k)
+    remains (within at inner) = page_remains at inner.no_bop inner.no_pre
+    remains (finishes at k) = page_remains at (rw k) (rw k)
     remains (posts at k) = record { no_pre = rw k; no_definition = rw k; again = rw (k, between (ltb 0 (pages n)) (stage n) (rw at at a.stage_is)) }
     remains (idles_late at k) = absurd (false≢true (rw (k, at) at stayed))
     remains (defines_again at k) =
@@ -120,15 +120,15 @@ module _ (whole : ℕ → Bool) (total : ℕ) (all : (page : ℕ) → 1 ≤ page
 
   one_more : (past n : List Command) (c : Command) → Whole c → Allowed past c → Along first chosen past n → (t : Bool) → stays chosen past c ≡ t
       → pages (cond t (mended n c ∷ n) n) ≤ total → (pages n ≤ total → Same n) → Same (cond t (mended n c ∷ n) n)
-  one_more past n c w allowed a true t few before = same_more n c w (remains past n c a few t (turn_of_lem allowed)) (before (fewer n (is_a Bop c) few))
+  one_more past n c w allowed a true t few before = same_more n c w (remains past n c a few t (turn_of allowed)) (before (fewer n (is_a Bop c) few))
   one_more past n c w allowed a false t few before = before few
 
   all_same : First first → Same first → {past : List Command} → Sound past → Needs first chosen past → pages (cut_after first chosen past) ≤ total
       → Same (cut_after first chosen past)
   all_same f same start needs few = same
   all_same f same (more {past = past} {c = c} sound w allowed not_last) needs few =
-      one_more past (cut_after first chosen past) c w allowed (along first chosen none-zero f sound (needs-down allowed needs)) (stays chosen past c) refl few
-      (all_same f same sound (needs-down allowed needs))
+      one_more past (cut_after first chosen past) c w allowed (along first chosen none-zero f sound (needs_down allowed needs)) (stays chosen past c) refl few
+      (all_same f same sound (needs_down allowed needs))
 
 -- ---- so it is of a whole list
 
@@ -147,16 +147,16 @@ module _ (chosen : ℕ → Bool) (none-zero : chosen 0 ≡ false) (past : List C
   before_end : Same whole total all first chosen none-zero n
   before_end =
       all_same whole total all first chosen none-zero (as_first chosen none-zero past c closed few some fits) (opens_itself whole first closed.sound) closed.sound
-      (as-needed chosen none-zero past c closed few some fits) (omega (arith, (to_end chosen none-zero past c closed few some fits).pages_is))
+      (as_needed chosen none-zero past c closed few some fits) (omega (arith, (to_end chosen none-zero past c closed few some fits).pages_is))
 
-  with-end : Same whole total all first chosen none-zero (mended n c ∷ n)
-  with-end =
+  with_end : Same whole total all first chosen none-zero (mended n c ∷ n)
+  with_end =
       let k : kind_of_command c ≡ PostPost = is_kind (kind_of_command c) PostPost closed.last in
       same_more whole total all first chosen none-zero n c closed.is_whole
-      (record { no_pre = rw k; no_definition = rw k; again = rw (k, new-end chosen none-zero past c closed few some fits) }) before_end
+      (record { no_pre = rw k; no_definition = rw k; again = rw (k, new_end_lem chosen none-zero past c closed few some fits) }) before_end
 
   -- all pages of the list of chosen pages are that list
   pub cut_twice : cut_past whole (cut_past chosen (c ∷ past)) ≡ cut_past chosen (c ∷ past)
   cut_twice =
-      let is = cut-is chosen none-zero past c closed few some fits in
-      ap (cut_past whole) is ∙ ap (λ (l : List Command). cut_after l whole (mended n c ∷ n)) with-end.0 ∙ with-end.1 ∙ sym is
+      let is = cut_is chosen none-zero past c closed few some fits in
+      ap (cut_past whole) is ∙ ap (λ (l : List Command). cut_after l whole (mended n c ∷ n)) with_end.0 ∙ with_end.1 ∙ sym is

@@ -58,8 +58,8 @@ held_stays field n params held =
     ∙ ap (λ (l : List ℕ). take field.at params ++ l) (take-append-drop field.size (drop field.at params)) ∙ take-append-drop field.at params
 
 module _ (field : UnsignedField) (n : ℕ) (params : List ℕ) (inside : field.at + field.size ≤ length params) where
-  before-size : length (take field.at params) ≡ field.at
-  before-size = length-take-le field.at params (omega arith)
+  before_size : length (take field.at params) ≡ field.at
+  before_size = length-take-le field.at params (omega arith)
 
   abbrev after : List ℕ
   after = drop (field.at + field.size) params
@@ -68,7 +68,7 @@ module _ (field : UnsignedField) (n : ℕ) (params : List ℕ) (inside : field.a
   own = bytes_of field.size n
 
   from_field : drop field.at (with_unsigned field n params) ≡ own ++ after
-  from_field = drop_at (take field.at params) (own ++ after) field.at before-size
+  from_field = drop_at (take field.at params) (own ++ after) field.at before_size
 
   -- with another number in a field parameters are as many as before
   pub with_length : length (with_unsigned field n params) ≡ length params
@@ -76,26 +76,26 @@ module _ (field : UnsignedField) (n : ℕ) (params : List ℕ) (inside : field.a
       omega (
         arith,
         length-append (take field.at params) (own ++ after),
-        before-size,
+        before_size,
         length-append own after,
         length_bytes field.size n,
         length-drop (field.at + field.size) params,
       )
 
   -- it is there
-  pub with-held : Held field n (with_unsigned field n params)
-  with-held = ap (take field.size) from_field ∙ take_at own after field.size (length_bytes field.size n)
+  pub with_held : Held field n (with_unsigned field n params)
+  with_held = ap (take field.size) from_field ∙ take_at own after field.size (length_bytes field.size n)
 
   -- what stands before it stays
-  pub with-before : (from count : ℕ) → from + count ≤ field.at → part from count (with_unsigned field n params) ≡ part from count params
-  with-before from count h =
-      part_front (take field.at params) (own ++ after) from count (omega (arith, before-size))
-      ∙ sym (part_front (take field.at params) (drop field.at params) from count (omega (arith, before-size)))
+  pub with_before : (from count : ℕ) → from + count ≤ field.at → part from count (with_unsigned field n params) ≡ part from count params
+  with_before from count h =
+      part_front (take field.at params) (own ++ after) from count (omega (arith, before_size))
+      ∙ sym (part_front (take field.at params) (drop field.at params) from count (omega (arith, before_size)))
       ∙ ap (part from count) (take-append-drop field.at params)
 
   -- so does what stands behind it
-  pub with-after : (from count : ℕ) → field.at + field.size ≤ from → part from count (with_unsigned field n params) ≡ part from count params
-  with-after from count h =
+  pub with_after : (from count : ℕ) → field.at + field.size ≤ from → part from count (with_unsigned field n params) ≡ part from count params
+  with_after from count h =
       let rest = from - (field.at + field.size) in
       let sum : field.at + field.size + rest ≡ from = omega arith in
       let behind : drop (field.at + field.size) (with_unsigned field n params) ≡ after =

@@ -63,8 +63,8 @@ font_unplaced number one other e = plain one ∙ ap (font_by number) e ∙ sym (
 module _ (setting : Setting) (volume : List Command) (page : ℕ)
     (fonts : (number : ℤ) → unplaced (definition_of false number volume) ≡ unplaced (definition_of false number setting.volume)) where
   -- the same but for a volume with the same fonts, and the page's number
-  abbrev pub renumberedSetting : Setting
-  renumberedSetting = record { ruler = setting.ruler; look = setting.look; volume = volume; page = page }
+  abbrev pub renumbered_setting : Setting
+  renumbered_setting = record { ruler = setting.ruler; look = setting.look; volume = volume; page = page }
 
   -- where h or v would leave its range both say so
   unless : (t : Bool) (o other : Outcome) → o ≡ outcome_on page other → cond t leaves_range o ≡ outcome_on page (cond t leaves_range other)
@@ -72,33 +72,33 @@ module _ (setting : Setting) (volume : List Command) (page : ℕ)
   unless false o other e = e
 
   module _ (s : State) where
-    rules : (height width : ℤ) → rule_added renumberedSetting s height width ≡ added_on page (rule_added setting s height width)
+    rules : (height width : ℤ) → rule_added renumbered_setting s height width ≡ added_on page (rule_added setting s height width)
     rules height width = by (is_visible height width)
       where
-        ruleOn : ℕ → Added
-        ruleOn number = placed (rule_record number s.level (rounded_up setting.ruler.k height) (rounded_up setting.ruler.k width))
+        rule_on : ℕ → Added
+        rule_on number = placed (rule_record number s.level (rounded_up setting.ruler.k height) (rounded_up setting.ruler.k width))
 
-        by : (t : Bool) → cond t (ruleOn page) nothing ≡ added_on page (cond t (ruleOn setting.page) nothing)
+        by : (t : Bool) → cond t (rule_on page) nothing ≡ added_on page (cond t (rule_on setting.page) nothing)
         by true = refl
         by false = refl
 
-    puts : (code : ℤ) (l : LookUp) → put_character renumberedSetting s code l ≡ outcome_on page (put_character setting s code l)
+    puts : (code : ℤ) (l : LookUp) → put_character renumbered_setting s code l ≡ outcome_on page (put_character setting s code l)
     puts code absent = refl
     puts code (found m) = refl
 
-    sets : (code : ℤ) (l : LookUp) → set_character renumberedSetting s code l ≡ outcome_on page (set_character setting s code l)
+    sets : (code : ℤ) (l : LookUp) → set_character renumbered_setting s code l ≡ outcome_on page (set_character setting s code l)
     sets code absent = refl
     sets code (found m) = unless (leaves (s.level.h +ℤ scaled_by s.font.scale m.width)) _ _ refl
 
-    moves : (direction : Direction) (params : List ℕ) → plain_move direction renumberedSetting s params ≡ outcome_on page (plain_move direction setting s params)
+    moves : (direction : Direction) (params : List ℕ) → plain_move direction renumbered_setting s params ≡ outcome_on page (plain_move direction setting s params)
     moves direction params = unless (leaves ((spot_of direction s.level).position +ℤ distance params)) _ _ refl
 
-    register-moves : (register : Register) (params : List ℕ)
-        → register_move register renumberedSetting s params ≡ outcome_on page (register_move register setting s params)
-    register-moves register params =
+    register_moves : (register : Register) (params : List ℕ)
+        → register_move register renumbered_setting s params ≡ outcome_on page (register_move register setting s params)
+    register_moves register params =
         unless (leaves ((spot_of (direction_of register) s.level).position +ℤ distance_or (register_of register s.level) params)) _ _ refl
 
-    by_kind : (c : Command) (k : Kind) → after_kind k renumberedSetting s c ≡ outcome_on page (after_kind k setting s c)
+    by_kind : (c : Command) (k : Kind) → after_kind k renumbered_setting s c ≡ outcome_on page (after_kind k setting s c)
     by_kind c Kind.SetCharacter = sets (character_code c.opcode c.params) (setting.look s.font (character_code c.opcode c.params))
     by_kind c Kind.SetRule =
         let width = rule_width c.params in
@@ -112,11 +112,11 @@ module _ (setting : Setting) (volume : List Command) (page : ℕ)
     by_kind c Kind.Push = refl
     by_kind c Kind.Pop = refl
     by_kind c Kind.Right = moves Direction.Sideways c.params
-    by_kind c Kind.W = register-moves Register.W c.params
-    by_kind c Kind.X = register-moves Register.X c.params
+    by_kind c Kind.W = register_moves Register.W c.params
+    by_kind c Kind.X = register_moves Register.X c.params
     by_kind c Kind.Down = moves Direction.Down c.params
-    by_kind c Kind.Y = register-moves Register.Y c.params
-    by_kind c Kind.Z = register-moves Register.Z c.params
+    by_kind c Kind.Y = register_moves Register.Y c.params
+    by_kind c Kind.Z = register_moves Register.Z c.params
     by_kind c Kind.Select =
         let number = selected_font c.opcode c.params in
         ap (λ (f : Font). continues (record { level = s.level; saved = s.saved; font = f }) nothing)
@@ -136,36 +136,36 @@ module _ (setting : Setting) (volume : List Command) (page : ℕ)
     then_same (refused number place) = refl
     then_same (given p) = refl
 
-    then-renumbered : (added : Added) (x : Answer Contents)
+    then_renumbered : (added : Added) (x : Answer Contents)
         → and_then (renumbered page moved x) (λ p. given (adding (added_on page added) p)) ≡ renumbered page moved (and_then x (λ p. given (adding added p)))
-    then-renumbered added (refused number place) = refl
-    then-renumbered nothing (given p) = refl
-    then-renumbered (placed r) (given p) = refl
-    then-renumbered missing (given p) = refl
-    then-renumbered special (given p) = refl
+    then_renumbered added (refused number place) = refl
+    then_renumbered nothing (given p) = refl
+    then_renumbered (placed r) (given p) = refl
+    then_renumbered missing (given p) = refl
+    then_renumbered special (given p) = refl
 
-    on-renumbered : (at : ℕ) (o other : Outcome) (next later : State → Answer Contents) → o ≡ outcome_on page other
+    on_renumbered : (at : ℕ) (o other : Outcome) (next later : State → Answer Contents) → o ≡ outcome_on page other
         → ((s : State) → next s ≡ renumbered page moved (later s))
         → on_outcome (moved at) o next ≡ renumbered page moved (on_outcome at other later)
-    on-renumbered at o leaves_range next later e same = ap (λ (x : Outcome). on_outcome (moved at) x next) e
-    on-renumbered at o (continues s added) next later e same =
+    on_renumbered at o leaves_range next later e same = ap (λ (x : Outcome). on_outcome (moved at) x next) e
+    on_renumbered at o (continues s added) next later e same =
         ap (λ (x : Outcome). on_outcome (moved at) x next) e
         ∙ ap (λ (x : Answer Contents). and_then x (λ p. given (adding (added_on page added) p))) (same s)
-        ∙ then-renumbered added (later s)
+        ∙ then_renumbered added (later s)
 
     -- the page places the same, renumbered
-    pub places-renumbered : (s : State) (cs : List Located) → placing renumberedSetting s (moved_commands moved cs) ≡ renumbered page moved (placing setting s cs)
+    pub places_renumbered : (s : State) (cs : List Located) → placing renumbered_setting s (moved_commands moved cs) ≡ renumbered page moved (placing setting s cs)
     unfolding placing after
-    places-renumbered s [] = refl
-    places-renumbered s (c ∷ rest) = by (is_a Kind.Define c.command) refl (λ next. places-renumbered next rest)
+    places_renumbered s [] = refl
+    places_renumbered s (c ∷ rest) = by (is_a Kind.Define c.command) refl (λ next. places_renumbered next rest)
       where
         by : (t : Bool) → is_a Kind.Define c.command ≡ t
-            → ((next : State) → placing renumberedSetting next (moved_commands moved rest) ≡ renumbered page moved (placing setting next rest))
-            → placing renumberedSetting s (cond t (moved_commands moved rest) (record { at = moved c.at; command = c.command } ∷ moved_commands moved rest))
+            → ((next : State) → placing renumbered_setting next (moved_commands moved rest) ≡ renumbered page moved (placing setting next rest))
+            → placing renumbered_setting s (cond t (moved_commands moved rest) (record { at = moved c.at; command = c.command } ∷ moved_commands moved rest))
             ≡ renumbered page moved (on_outcome c.at (after setting s c.command) (λ next. placing setting next rest))
         by true e later =
             later s
             ∙ ap (renumbered page moved) (sym (then_same (placing setting s rest)))
             ∙ ap (λ (o : Outcome). renumbered page moved (on_outcome c.at o (λ next. placing setting next rest))) (sym (define_quiet setting s c.command e))
         by false e later =
-            on-renumbered c.at (after renumberedSetting s c.command) (after setting s c.command) _ _ (by_kind s c.command (kind_of_command c.command)) later
+            on_renumbered c.at (after renumbered_setting s c.command) (after setting s c.command) _ _ (by_kind s c.command (kind_of_command c.command)) later

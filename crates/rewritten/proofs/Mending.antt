@@ -23,7 +23,7 @@ use Rattle.list.proofs.Arms.{is_kind}
 use Rattle.volume.proofs.Bounds.{post_small}
 use Rattle.cutting.specs.CutList.{with_signed, with_unsigned, mended_params, mended}
 use Rattle.rewritten.proofs.SoundLaws.{last_bop_fits}
-use Rattle.rewritten.proofs.FieldLaws.{part, same_part, Held, held_reads, held_stays, with_length, with-held, with-before, with-after}
+use Rattle.rewritten.proofs.FieldLaws.{part, same_part, Held, held_reads, held_stays, with_length, with_held, with_before, with_after}
 
 -- ---- pointers
 
@@ -53,42 +53,42 @@ module _ (params : List ℕ) (long : length params ≡ 28) (z : ℤ) (s t : ℕ)
   abbrev counted : List ℕ
   counted = with_unsigned post_pages t deepened
 
-  pointed-size : length pointed ≡ 28
-  pointed-size = with_length (plainly post_pointer) (to_twos (256 ^ 4) z) params (omega arith) ∙ long
+  pointed_size : length pointed ≡ 28
+  pointed_size = with_length (plainly post_pointer) (to_twos (256 ^ 4) z) params (omega arith) ∙ long
 
-  deepened-size : length deepened ≡ 28
-  deepened-size = with_length post_depth s pointed (omega (arith, pointed-size)) ∙ pointed-size
+  deepened_size : length deepened ≡ 28
+  deepened_size = with_length post_depth s pointed (omega (arith, pointed_size)) ∙ pointed_size
 
-  counted-size : length counted ≡ 28
-  counted-size = with_length post_pages t deepened (omega (arith, deepened-size)) ∙ deepened-size
+  counted_size : length counted ≡ 28
+  counted_size = with_length post_pages t deepened (omega (arith, deepened_size)) ∙ deepened_size
 
   -- what stands before s, after both were written
-  early-part : (from count : ℕ) → from + count ≤ 24 → part from count counted ≡ part from count pointed
-  early-part from count h =
-      with-before post_pages t deepened (omega (arith, deepened-size)) from count (omega arith)
-      ∙ with-before post_depth s pointed (omega (arith, pointed-size)) from count h
+  early_part : (from count : ℕ) → from + count ≤ 24 → part from count counted ≡ part from count pointed
+  early_part from count h =
+      with_before post_pages t deepened (omega (arith, deepened_size)) from count (omega arith)
+      ∙ with_before post_depth s pointed (omega (arith, pointed_size)) from count h
 
-  pointer-there : Points post_pointer z counted
-  pointer-there = early-part 0 4 (omega arith) ∙ with-held (plainly post_pointer) (to_twos (256 ^ 4) z) params (omega arith)
+  pointer_there : Points post_pointer z counted
+  pointer_there = early_part 0 4 (omega arith) ∙ with_held (plainly post_pointer) (to_twos (256 ^ 4) z) params (omega arith)
 
-  depth-there : Held post_depth s counted
-  depth-there =
-      with-before post_pages t deepened (omega (arith, deepened-size)) 24 2 (omega arith) ∙ with-held post_depth s pointed (omega (arith, pointed-size))
+  depth_there : Held post_depth s counted
+  depth_there =
+      with_before post_pages t deepened (omega (arith, deepened_size)) 24 2 (omega arith) ∙ with_held post_depth s pointed (omega (arith, pointed_size))
 
-  pages-there : Held post_pages t counted
-  pages-there = with-held post_pages t deepened (omega (arith, deepened-size))
+  pages_there : Held post_pages t counted
+  pages_there = with_held post_pages t deepened (omega (arith, deepened_size))
 
-  middle-same : (field : UnsignedField) → 4 ≤ field.at → field.at + field.size ≤ 24 → unsigned_in field counted ≡ unsigned_in field params
-  middle-same field low high =
+  middle_same : (field : UnsignedField) → 4 ≤ field.at → field.at + field.size ≤ 24 → unsigned_in field counted ≡ unsigned_in field params
+  middle_same field low high =
       same_part counted params field.at field.size
-      (early-part field.at field.size high
-      ∙ with-after (plainly post_pointer) (to_twos (256 ^ 4) z) params (omega arith) field.at field.size low)
+      (early_part field.at field.size high
+      ∙ with_after (plainly post_pointer) (to_twos (256 ^ 4) z) params (omega arith) field.at field.size low)
 
   once_more : with_unsigned post_pages t (with_unsigned post_depth s (with_signed post_pointer z counted)) ≡ counted
   once_more =
-      ap (λ (l : List ℕ). with_unsigned post_pages t (with_unsigned post_depth s l)) (held_stays (plainly post_pointer) (to_twos (256 ^ 4) z) counted pointer-there)
-      ∙ ap (with_unsigned post_pages t) (held_stays post_depth s counted depth-there)
-      ∙ held_stays post_pages t counted pages-there
+      ap (λ (l : List ℕ). with_unsigned post_pages t (with_unsigned post_depth s l)) (held_stays (plainly post_pointer) (to_twos (256 ^ 4) z) counted pointer_there)
+      ∙ ap (with_unsigned post_pages t) (held_stays post_depth s counted depth_there)
+      ∙ held_stays post_pages t counted pages_there
 
 -- ---- a command for the commands before it
 
@@ -97,20 +97,20 @@ module _ (before : List Command) (c : Command) (w : Whole c) where
   params = mended_params before c
 
   -- a command of a kind without a length inside stays whole if it stays as long
-  as-whole : {k : Kind} → kind_of_command c ≡ k → has_inner k ≡ false → length params ≡ length c.params → Whole (mended before c)
+  as_whole : {k : Kind} → kind_of_command c ≡ k → has_inner k ≡ false → length params ≡ length c.params → Whole (mended before c)
   unfolding size_of
-  as-whole k plain long =
+  as_whole k plain long =
       record {
         defined = w.defined;
         exact = long ∙ w.exact ∙ ap (λ (n : ℕ). fixed_length c.opcode + n) (inner_none c.opcode c.params k plain ∙ sym (inner_none c.opcode params k plain));
       }
 
   module _ (short : place before < 2 ^ 31) where
-    abbrev bop-there : up (last_bop before) < 2 ^ 31
-    bop-there = omega (arith, (last_bop_fits before).0)
+    abbrev bop_there : up (last_bop before) < 2 ^ 31
+    bop_there = omega (arith, (last_bop_fits before).0)
 
-    abbrev bop-low : dn (last_bop before) ≤ 1
-    bop-low = (last_bop_fits before).1
+    abbrev bop_low : dn (last_bop before) ≤ 1
+    bop_low = (last_bop_fits before).1
 
   -- ---- bop
 
@@ -119,90 +119,90 @@ module _ (before : List Command) (c : Command) (w : Whole c) where
     bop_inside = omega (arith, whole_plain c w k refl)
 
     -- a bop has as many bytes as before
-    pub bop-length : length params ≡ length c.params
-    bop-length = rw k (with_length (plainly bop_pointer) (to_twos (256 ^ 4) (last_bop before)) c.params bop_inside)
+    pub bop_length : length params ≡ length c.params
+    bop_length = rw k (with_length (plainly bop_pointer) (to_twos (256 ^ 4) (last_bop before)) c.params bop_inside)
 
-    bop-held : Points bop_pointer (last_bop before) params
-    bop-held = rw k (with-held (plainly bop_pointer) (to_twos (256 ^ 4) (last_bop before)) c.params bop_inside)
+    bop_held : Points bop_pointer (last_bop before) params
+    bop_held = rw k (with_held (plainly bop_pointer) (to_twos (256 ^ 4) (last_bop before)) c.params bop_inside)
 
     -- it holds the place of the bop before
-    pub bop-points : place before < 2 ^ 31 → signed_in bop_pointer params ≡ last_bop before
-    bop-points short = points_reads 40 (last_bop before) params (bop-there short) (bop-low short) bop-held
+    pub bop_points : place before < 2 ^ 31 → signed_in bop_pointer params ≡ last_bop before
+    bop_points short = points_reads 40 (last_bop before) params (bop_there short) (bop_low short) bop_held
 
     -- it is whole
-    pub bop-whole : Whole (mended before c)
-    bop-whole = as-whole k refl bop-length
+    pub bop_whole : Whole (mended before c)
+    bop_whole = as_whole k refl bop_length
 
-    bop-again : mended before (mended before c) ≡ mended before c
-    bop-again = ap (λ (l : List ℕ). record { opcode = c.opcode; params = l }) (rw k (held_stays (plainly bop_pointer) (to_twos (256 ^ 4) (last_bop before)) _ (rw k at bop-held)))
+    bop_again : mended before (mended before c) ≡ mended before c
+    bop_again = ap (λ (l : List ℕ). record { opcode = c.opcode; params = l }) (rw k (held_stays (plainly bop_pointer) (to_twos (256 ^ 4) (last_bop before)) _ (rw k at bop_held)))
 
   -- ---- post
 
   module _ (k : kind_of_command c ≡ Post) where
-    post-size : length c.params ≡ 28
-    post-size = whole_plain c w k refl
+    post_size : length c.params ≡ 28
+    post_size = whole_plain c w k refl
 
     -- a post has as many bytes as before
     pub post_length : length params ≡ length c.params
-    post_length = rw k (counted-size c.params post-size (last_bop before) (greatest before) (pages before) ∙ sym post-size)
+    post_length = rw k (counted_size c.params post_size (last_bop before) (greatest before) (pages before) ∙ sym post_size)
 
     -- it holds the place of the last bop
-    pub post-points : place before < 2 ^ 31 → signed_in post_pointer params ≡ last_bop before
-    post-points short =
-        points_reads 0 (last_bop before) params (bop-there short) (bop-low short) (rw k (pointer-there c.params post-size (last_bop before) (greatest before) (pages before)))
+    pub post_points : place before < 2 ^ 31 → signed_in post_pointer params ≡ last_bop before
+    post_points short =
+        points_reads 0 (last_bop before) params (bop_there short) (bop_low short) (rw k (pointer_there c.params post_size (last_bop before) (greatest before) (pages before)))
 
     -- what stands between the pointer and s stays
-    pub post-same : (field : UnsignedField) → 4 ≤ field.at → field.at + field.size ≤ 24 → unsigned_in field params ≡ unsigned_in field c.params
-    post-same field low high = rw k (middle-same c.params post-size (last_bop before) (greatest before) (pages before) field low high)
+    pub post_same : (field : UnsignedField) → 4 ≤ field.at → field.at + field.size ≤ 24 → unsigned_in field params ≡ unsigned_in field c.params
+    post_same field low high = rw k (middle_same c.params post_size (last_bop before) (greatest before) (pages before) field low high)
 
     -- s is the greatest depth
-    pub post-depth : greatest before < 65536 → unsigned_in post_depth params ≡ greatest before
-    post-depth flat =
-        held_reads post_depth (greatest before) params (omega arith) (rw k (depth-there c.params post-size (last_bop before) (greatest before) (pages before)))
+    pub post_depth_lem : greatest before < 65536 → unsigned_in post_depth params ≡ greatest before
+    post_depth_lem flat =
+        held_reads post_depth (greatest before) params (omega arith) (rw k (depth_there c.params post_size (last_bop before) (greatest before) (pages before)))
 
     -- t is the number of pages
-    pub post-pages : pages before < 65536 → unsigned_in post_pages params ≡ pages before
-    post-pages few =
-        held_reads post_pages (pages before) params (omega arith) (rw k (pages-there c.params post-size (last_bop before) (greatest before) (pages before)))
+    pub post_pages_lem : pages before < 65536 → unsigned_in post_pages params ≡ pages before
+    post_pages_lem few =
+        held_reads post_pages (pages before) params (omega arith) (rw k (pages_there c.params post_size (last_bop before) (greatest before) (pages before)))
 
     -- it is whole
-    pub post-whole : Whole (mended before c)
-    post-whole = as-whole k refl post_length
+    pub post_whole : Whole (mended before c)
+    post_whole = as_whole k refl post_length
 
-    post-again : mended before (mended before c) ≡ mended before c
-    post-again =
-        ap (λ (l : List ℕ). record { opcode = c.opcode; params = l }) (rw k (once_more c.params post-size (last_bop before) (greatest before) (pages before)))
+    post_again : mended before (mended before c) ≡ mended before c
+    post_again =
+        ap (λ (l : List ℕ). record { opcode = c.opcode; params = l }) (rw k (once_more c.params post_size (last_bop before) (greatest before) (pages before)))
 
   -- ---- post_post
 
   module _ (k : kind_of_command c ≡ PostPost) where
-    end-inside : 4 ≤ length c.params
-    end-inside = omega (arith, whole_plain c w k refl)
+    end_inside : 4 ≤ length c.params
+    end_inside = omega (arith, whole_plain c w k refl)
 
     -- a post_post has as many bytes as before
-    pub end-length : length params ≡ length c.params
-    end-length = rw k (with_length (plainly end_pointer) (to_twos (256 ^ 4) (pos (post_place before))) c.params end-inside)
+    pub end_length : length params ≡ length c.params
+    end_length = rw k (with_length (plainly end_pointer) (to_twos (256 ^ 4) (pos (post_place before))) c.params end_inside)
 
-    end-held : Points end_pointer (pos (post_place before)) params
-    end-held = rw k (with-held (plainly end_pointer) (to_twos (256 ^ 4) (pos (post_place before))) c.params end-inside)
+    end_held : Points end_pointer (pos (post_place before)) params
+    end_held = rw k (with_held (plainly end_pointer) (to_twos (256 ^ 4) (pos (post_place before))) c.params end_inside)
 
     -- it holds the place of post
-    pub end-points : place before < 2 ^ 31 → signed_in end_pointer params ≡ pos (post_place before)
-    end-points short = points_reads 0 (pos (post_place before)) params (omega (arith, post_small before)) (omega arith) end-held
+    pub end_points : place before < 2 ^ 31 → signed_in end_pointer params ≡ pos (post_place before)
+    end_points short = points_reads 0 (pos (post_place before)) params (omega (arith, post_small before)) (omega arith) end_held
 
     -- the identification stays
     pub end_same : unsigned_in end_identification params ≡ unsigned_in end_identification c.params
     end_same =
         rw k
         (same_part (with_signed end_pointer (pos (post_place before)) c.params) c.params 4 1
-        (with-after (plainly end_pointer) (to_twos (256 ^ 4) (pos (post_place before))) c.params end-inside 4 1 (omega arith)))
+        (with_after (plainly end_pointer) (to_twos (256 ^ 4) (pos (post_place before))) c.params end_inside 4 1 (omega arith)))
 
     -- it is whole
     pub end_whole : Whole (mended before c)
-    end_whole = as-whole k refl end-length
+    end_whole = as_whole k refl end_length
 
-    end-again : mended before (mended before c) ≡ mended before c
-    end-again = ap (λ (l : List ℕ). record { opcode = c.opcode; params = l }) (rw k (held_stays (plainly end_pointer) (to_twos (256 ^ 4) (pos (post_place before))) _ (rw k at end-held)))
+    end_again : mended before (mended before c) ≡ mended before c
+    end_again = ap (λ (l : List ℕ). record { opcode = c.opcode; params = l }) (rw k (held_stays (plainly end_pointer) (to_twos (256 ^ 4) (pos (post_place before))) _ (rw k at end_held)))
 
 -- a command without a pointer stays as it is
 pub unmended : (before : List Command) (c : Command) → is_a Bop c ≡ false → is_a Post c ≡ false → is_a PostPost c ≡ false → mended before c ≡ c
@@ -213,7 +213,7 @@ pub mended_again : (before : List Command) (c : Command) → Whole c → mended 
 mended_again before c w = by (is_a Bop c) refl (is_a Post c) refl (is_a PostPost c) refl
   where
     by : (bop : Bool) → is_a Bop c ≡ bop → (post : Bool) → is_a Post c ≡ post → (end : Bool) → is_a PostPost c ≡ end → mended before (mended before c) ≡ mended before c
-    by true b post p end e = bop-again before c w (is_kind (kind_of_command c) Bop b)
-    by false b true p end e = post-again before c w (is_kind (kind_of_command c) Post p)
-    by false b false p true e = end-again before c w (is_kind (kind_of_command c) PostPost e)
+    by true b post p end e = bop_again before c w (is_kind (kind_of_command c) Bop b)
+    by false b true p end e = post_again before c w (is_kind (kind_of_command c) Post p)
+    by false b false p true e = end_again before c w (is_kind (kind_of_command c) PostPost e)
     by false b false p false e = unmended before (mended before c) b p e

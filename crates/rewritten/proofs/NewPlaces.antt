@@ -18,8 +18,8 @@ use Rattle.rewritten.proofs.Likeness.{moved_commands}
 
 module _ (first : List Command) (chosen : ℕ → Bool) where
   -- the newest command's is behind what is made of those before it
-  pub newest-place : (past : List Command) (c : Command) → new_place_after first chosen (c ∷ past) (place past) ≡ place (cut_after first chosen past)
-  newest-place past c = rw (eq-eqb (place past) (place past) refl)
+  pub newest_place : (past : List Command) (c : Command) → new_place_after first chosen (c ∷ past) (place past) ≡ place (cut_after first chosen past)
+  newest_place past c = rw (eq-eqb (place past) (place past) refl)
 
   -- one command more changes no place of those before it
   pub place_kept : (past : List Command) (c : Command) (at : ℕ) → at < place past → new_place_after first chosen (c ∷ past) at ≡ new_place_after first chosen past at
@@ -31,10 +31,10 @@ module _ (first : List Command) (chosen : ℕ → Bool) where
   behind (d ∷ later) past c = omega (arith, behind later past c)
 
   -- so a command's new place is behind what is made of those before it, whatever follows it
-  pub place-there : (later past : List Command) (c : Command)
+  pub place_there : (later past : List Command) (c : Command)
       → new_place_after first chosen (later ++ (c ∷ past)) (place past) ≡ place (cut_after first chosen past)
-  place-there [] past c = newest-place past c
-  place-there (d ∷ later) past c = place_kept (later ++ (c ∷ past)) d (place past) (behind later past c) ∙ place-there later past c
+  place_there [] past c = newest_place past c
+  place_there (d ∷ later) past c = place_kept (later ++ (c ∷ past)) d (place past) (behind later past c) ∙ place_there later past c
 
 -- ---- a page's commands at other places
 
@@ -60,8 +60,8 @@ module _ (moved : ℕ → ℕ) where
       by false false e = ap (λ (x : List Located). here ∷ x) e
 
   -- a definition more is left out
-  pub moved-define : (cs : List Located) (l : Located) → is_a Define l.command ≡ true → moved_commands moved (cs ++ (l ∷ [])) ≡ moved_commands moved cs
-  moved-define cs l e = more cs l ∙ rw e
+  pub moved_define : (cs : List Located) (l : Located) → is_a Define l.command ≡ true → moved_commands moved (cs ++ (l ∷ [])) ≡ moved_commands moved cs
+  moved_define cs l e = more cs l ∙ rw e
 
   -- another command more is moved too
   pub moved_plain : (cs : List Located) (l : Located) → is_a Define l.command ≡ false
@@ -82,7 +82,7 @@ module _ (page : ℕ) (moved other : ℕ → ℕ) where
           → moved_commands moved (cond on (page_of page past ++ (here ∷ [])) (page_of page past))
           ≡ moved_commands other (cond on (page_of page past ++ (here ∷ [])) (page_of page past))
       by false define d before = before
-      by true true d before = moved-define moved (page_of page past) here d ∙ before ∙ sym (moved-define other (page_of page past) here d)
+      by true true d before = moved_define moved (page_of page past) here d ∙ before ∙ sym (moved_define other (page_of page past) here d)
       by true false d before =
           moved_plain moved (page_of page past) here d
           ∙ ap₂ (λ (x : List Located) (at : ℕ). x ++ (record { at = at; command = c } ∷ [])) before (same (place past) (omega arith))

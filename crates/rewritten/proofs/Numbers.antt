@@ -15,27 +15,27 @@ use Rattle.rewritten.proofs.Along.{number_positive}
 
 module _ (chosen : ℕ → Bool) where
   -- one page more has no lower number
-  number-grows : (page : ℕ) → new_number chosen page ≤ new_number chosen (suc page)
-  number-grows page = by (chosen (suc page))
+  number_grows : (page : ℕ) → new_number chosen page ≤ new_number chosen (suc page)
+  number_grows page = by (chosen (suc page))
     where
       by : (t : Bool) → new_number chosen page ≤ cond t (new_number chosen page + 1) (new_number chosen page)
       by true = omega arith
       by false = omega arith
 
   -- nor have more pages
-  pub number-le : (p q : ℕ) → p ≤ q → new_number chosen p ≤ new_number chosen q
-  number-le p zero h = let e : p ≡ 0 = omega arith in rw e (omega arith)
-  number-le p (suc q) h =
-      ⊎_elim (λ l. omega (arith, number-le p q (omega arith), number-grows q)) (λ (g : suc q ≤ p). let e : p ≡ suc q = omega arith in rw e (omega arith)) (less_or_not p (suc q))
+  pub number_le : (p q : ℕ) → p ≤ q → new_number chosen p ≤ new_number chosen q
+  number_le p zero h = let e : p ≡ 0 = omega arith in rw e (omega arith)
+  number_le p (suc q) h =
+      ⊎_elim (λ l. omega (arith, number_le p q (omega arith), number_grows q)) (λ (g : suc q ≤ p). let e : p ≡ suc q = omega arith in rw e (omega arith)) (less_or_not p (suc q))
 
   -- a chosen page has a higher one than the pages before it
   number_lt : (p q : ℕ) → p < q → chosen q ≡ true → new_number chosen p < new_number chosen q
   number_lt p zero h t = absurd (omega arith)
-  number_lt p (suc q) h t = rw t (omega (arith, number-le p q (omega arith)))
+  number_lt p (suc q) h t = rw t (omega (arith, number_le p q (omega arith)))
 
   -- chosen pages are told apart by their new numbers
-  pub number-tells : (p q : ℕ) → chosen p ≡ true → chosen q ≡ true → eqb (new_number chosen p) (new_number chosen q) ≡ eqb p q
-  number-tells p q s t = by (eqb p q) refl
+  pub number_tells : (p q : ℕ) → chosen p ≡ true → chosen q ≡ true → eqb (new_number chosen p) (new_number chosen q) ≡ eqb p q
+  number_tells p q s t = by (eqb p q) refl
     where
       by : (e : Bool) → eqb p q ≡ e → eqb (new_number chosen p) (new_number chosen q) ≡ e
       by true e = eq-eqb (new_number chosen p) (new_number chosen q) (ap (new_number chosen) (eqb-true p q e))
@@ -68,15 +68,15 @@ module _ (last : ℕ) (list : List ℕ) (right : wrong_list last list ≡ false)
       by false e = not-false (rises_from 0 last list) e
 
   -- its pages are pages of the file
-  pub in-range : (page : ℕ) → is_in list page ≡ true → (1 ≤ page) × (page ≤ last)
-  in-range page t = rises_in_lem 0 last list rising page t
+  pub in_range : (page : ℕ) → is_in list page ≡ true → (1 ≤ page) × (page ≤ last)
+  in_range page t = rises_in_lem 0 last list rising page t
 
   -- page 0 is none of them
-  pub not-zero : is_in list 0 ≡ false
-  not-zero = by (is_in list 0) refl
+  pub not_zero : is_in list 0 ≡ false
+  not_zero = by (is_in list 0) refl
     where
       by : (t : Bool) → is_in list 0 ≡ t → t ≡ false
-      by true e = absurd (omega (arith, (in-range 0 e).0))
+      by true e = absurd (omega (arith, (in_range 0 e).0))
       by false e = refl
 
   -- there is one at least
@@ -87,7 +87,7 @@ module _ (last : ℕ) (list : List ℕ) (right : wrong_list last list ≡ false)
       first [] e = absurd (true≢false (rw e at right))
       first (p ∷ rest) e =
           let there : is_in list p ≡ true = rw (e, eq-eqb p p refl) in
-          omega (arith, number_positive (is_in list) p not-zero there, number-le (is_in list) p last (in-range p there).1)
+          omega (arith, number_positive (is_in list) p not_zero there, number_le (is_in list) p last (in_range p there).1)
 
 -- ---- the pages keep their order
 
@@ -175,8 +175,8 @@ number_nth before last (f ∷ front) p list e =
 
 module _ (last : ℕ) (list : List ℕ) (right : wrong_list last list ≡ false) where
   -- as many as are chosen
-  pub all-counted : new_number (is_in list) last ≡ length list
-  all-counted = number_all 0 last list (rising last list right)
+  pub all_counted : new_number (is_in list) last ≡ length list
+  all_counted = number_all 0 last list (rising last list right)
 
   -- the n-th page of the list is the n-th of the new file
   pub nth_number : (front : List ℕ) (page : ℕ) (rest : List ℕ) → list ≡ front ++ (page ∷ rest) → (is_in list page ≡ true) × (new_number (is_in list) page ≡ length front + 1)

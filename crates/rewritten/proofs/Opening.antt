@@ -22,7 +22,7 @@ use Rattle.rewritten.proofs.Defining.{right}
 use Rattle.cutting.specs.CutList.{opening}
 use Rattle.rewritten.specs.Unplaced.{unplaced}
 use Rattle.rewritten.proofs.Unwinding.{Sound, start, more}
-use Rattle.cutting.proofs.Turning.{Inner, Turn, starts, idles, defines_early, begins, within, finishes, posts, idles_late, defines_again, ends, turn_of_lem}
+use Rattle.cutting.proofs.Turning.{Inner, Turn, starts, idles, defines_early, begins, within, finishes, posts, idles_late, defines_again, ends, turn_of}
 
 -- ---- definitions but for their places
 
@@ -79,39 +79,39 @@ module _ {past : List Command} {c : Command} (o : Opens past (opening past)) (pr
 -- one more definition
 module _ {past : List Command} {c : Command} (o : Opens past (opening past)) (w : Whole c) (allowed : Allowed past c) (k : kind_of_command c ≡ Define)
     (begun : is_at_start (stage past) ≡ false) (early : is_after_post (stage past) ≡ false) where
-  stage-there : stage (opening past) ≡ BeforePages
-  stage-there = rw begun at o.stage_is
+  stage_there : stage (opening past) ≡ BeforePages
+  stage_there = rw begun at o.stage_is
 
-  lawful-there : lawful_definition (opening past) c ≡ true
-  lawful-there =
+  lawful_there : lawful_definition (opening past) c ≡ true
+  lawful_there =
       let r = right allowed k in
       let new : is_defined (definition_of false (font_number c) (opening past)) ≡ false =
       defined_unplaced (definition_of false (font_number c) (opening past)) (definition_of false (font_number c) past) (o.fonts (font_number c)) ∙ ap is_defined (r.early early).0 in
       let few : ltb (font_count false (opening past)) 64 ≡ true = lt-ltb (font_count false (opening past)) 64 (omega (arith, o.count, (r.early early).1)) in
-      rw (r.number, r.scale, r.size, stage-there, new, few)
+      rw (r.number, r.scale, r.size, stage_there, new, few)
 
-  allowed-there : Allowed (opening past) c
-  allowed-there =
+  allowed_there : Allowed (opening past) c
+  allowed_there =
       record {
-        preamble = rw stage-there;
-        standing = rw (stage-there, k);
+        preamble = rw stage_there;
+        standing = rw (stage_there, k);
         depth_right = rw k;
-        definition = rw (k, lawful-there);
+        definition = rw (k, lawful_there);
         font = rw k;
         pointer = rw k;
         postamble = rw k;
       }
 
-  defines-one : Opens (c ∷ past) (opening (c ∷ past))
-  defines-one =
+  defines_one : Opens (c ∷ past) (opening (c ∷ past))
+  defines_one =
       rw (k, early)
       (record {
-        sound = more o.sound w allowed-there (rw k);
-        stage_is = rw (k, begun) stage-there;
-        fonts = λ number. rw (k, early, stage-there) (by (same_number (font_number c) number) number);
-        count = rw (k, early, stage-there) (ap (λ (n : ℕ). n + 1) o.count);
-        late = λ number. rw (k, stage-there) (o.late number);
-        late_count = rw (k, stage-there) o.late_count;
+        sound = more o.sound w allowed_there (rw k);
+        stage_is = rw (k, begun) stage_there;
+        fonts = λ number. rw (k, early, stage_there) (by (same_number (font_number c) number) number);
+        count = rw (k, early, stage_there) (ap (λ (n : ℕ). n + 1) o.count);
+        late = λ number. rw (k, stage_there) (o.late number);
+        late_count = rw (k, stage_there) o.late_count;
         units = λ field. rw k (o.units field);
         no_pages = rw k o.no_pages;
         flat = rw k o.flat;
@@ -127,16 +127,16 @@ module _ {past : List Command} {c : Command} (o : Opens past (opening past)) (w 
 -- the preamble
 module _ {past : List Command} {c : Command} (o : Opens past (opening past)) (w : Whole c) (allowed : Allowed past c) (at : stage past ≡ AtStart)
     (k : kind_of_command c ≡ Pre) where
-  start-there : stage (opening past) ≡ AtStart
-  start-there = rw at at o.stage_is
+  start_there : stage (opening past) ≡ AtStart
+  start_there = rw at at o.stage_is
 
-  begins-so : Opens (c ∷ past) (opening (c ∷ past))
-  begins-so =
+  begins_so : Opens (c ∷ past) (opening (c ∷ past))
+  begins_so =
       rw k
       (record {
         sound = more o.sound w (record {
-          preamble = rw (start-there, k, (first_pre past c allowed (rw at)).1);
-          standing = rw start-there;
+          preamble = rw (start_there, k, (first_pre past c allowed (rw at)).1);
+          standing = rw start_there;
           depth_right = rw k;
           definition = rw k;
           font = rw k;
@@ -175,18 +175,18 @@ opens start =
       flat = refl;
       flat_always = refl;
     }
-opens (more {past = past} {c = c} sound w allowed not_last) = by (turn_of_lem allowed) (opens sound)
+opens (more {past = past} {c = c} sound w allowed not_last) = by (turn_of allowed) (opens sound)
   where
     by : Turn (stage past) (kind_of_command c) → Opens past (opening past) → Opens (c ∷ past) (opening (c ∷ past))
     by (starts at k) o =
-        begins-so o w allowed at k
+        begins_so o w allowed at k
     by (idles out k) o = passes o (rw k) (rw k) out.begun (rw k out.begun)
-    by (defines_early out k) o = defines-one o w allowed k out.begun out.early
+    by (defines_early out k) o = defines_one o w allowed k out.begun out.early
     by (begins out k) o = passes o (rw k) (rw k) out.begun (rw k)
     by (within at inner) o = inside (is_a Define c) refl
       where
         inside : (t : Bool) → is_a Define c ≡ t → Opens (c ∷ past) (opening (c ∷ past))
-        inside true t = defines-one o w allowed (is_kind (kind_of_command c) Define t) (rw at) (rw at)
+        inside true t = defines_one o w allowed (is_kind (kind_of_command c) Define t) (rw at) (rw at)
         inside false t = passes o inner.no_pre (rw t) (rw at) (rw (inner_stage (kind_of_command c) inner (stage past), at))
     by (finishes at k) o = passes o (rw k) (rw k) (rw at) (rw k)
     by (posts at k) o = passes o (rw k) (rw k) (rw at) (rw k)

@@ -17,7 +17,7 @@ use Rattle.list.specs.Past.{is_a, stage, is_on_page, depth, greatest, pages, las
 use Rattle.list.specs.Rules.{wrong_at_depth, Allowed}
 use Rattle.list.proofs.Arms.{is_kind}
 use Rattle.rewritten.proofs.Unwinding.{Sound, start, more}
-use Rattle.cutting.proofs.Turning.{Turn, starts, idles, defines_early, begins, within, finishes, posts, idles_late, defines_again, ends, turn_of_lem}
+use Rattle.cutting.proofs.Turning.{Turn, starts, idles, defines_early, begins, within, finishes, posts, idles_late, defines_again, ends, turn_of}
 use Rattle.rewritten.proofs.Opening.{inner_stage}
 
 -- eop stands at depth 0
@@ -29,7 +29,7 @@ eop_depth {past} {c} allowed k =
 -- outside pages the depth is 0
 pub depth_outside : {past : List Command} → Sound past → is_on_page (stage past) ≡ false → depth past ≡ 0
 depth_outside start e = refl
-depth_outside (more {past = past} {c = c} sound w allowed not_last) e = by (turn_of_lem allowed) (depth_outside sound)
+depth_outside (more {past = past} {c = c} sound w allowed not_last) e = by (turn_of allowed) (depth_outside sound)
   where
     by : Turn (stage past) (kind_of_command c) → (is_on_page (stage past) ≡ false → depth past ≡ 0) → depth (c ∷ past) ≡ 0
     by (starts at k) before = rw k (before (rw at))
@@ -81,7 +81,7 @@ has_pages AfterEnd = true
 
 page_begun : {past : List Command} → Sound past → has_pages (stage past) ≡ true → 1 ≤ pages past
 page_begun start t = absurd (false≢true t)
-page_begun (more {past = past} {c = c} sound w allowed not_last) t = by (turn_of_lem allowed) (page_begun sound)
+page_begun (more {past = past} {c = c} sound w allowed not_last) t = by (turn_of allowed) (page_begun sound)
   where
     by : Turn (stage past) (kind_of_command c) → (has_pages (stage past) ≡ true → 1 ≤ pages past) → 1 ≤ pages (c ∷ past)
     by (starts at k) before = absurd (false≢true (rw k at t))

@@ -13,11 +13,11 @@ use Rattle.list.specs.Rules.{Allowed}
 use Rattle.turns.specs.Placing.{Located}
 use Rattle.page.specs.PageList.{is_on, page_of}
 use Rattle.cutting.specs.CutList.{opening, stays, mended, cut_after, cut_past}
-use Rattle.cutting.proofs.Turning.{Turn, starts, idles, defines_early, begins, within, finishes, posts, idles_late, defines_again, ends, turn_of_lem}
+use Rattle.cutting.proofs.Turning.{Turn, starts, idles, defines_early, begins, within, finishes, posts, idles_late, defines_again, ends, turn_of}
 use Rattle.rewritten.specs.OldWords.{new_place_after}
 use Rattle.rewritten.specs.SameCommand.{SameCommand}
 use Rattle.rewritten.proofs.Unwinding.{Sound, more, Closed}
-use Rattle.rewritten.proofs.NewPlaces.{place-there}
+use Rattle.rewritten.proofs.NewPlaces.{place_there}
 
 -- ---- in the old list
 
@@ -46,9 +46,9 @@ pub record Standing (page at : ℕ) (c : Command) (old : List Command) : Type 0 
 
 module _ (page at : ℕ) (c : Command) where
   -- with one command more
-  with-more : {past : List Command} {d : Command} → Allowed past d → (IsAmong at c (page_of page past) → Standing page at c past)
+  with_more : {past : List Command} {d : Command} → Allowed past d → (IsAmong at c (page_of page past) → Standing page at c past)
       → IsAmong at c (page_of page (d ∷ past)) → Standing page at c (d ∷ past)
-  with-more {past} {d} allowed deeper among = by (is_on page past d) refl among
+  with_more {past} {d} allowed deeper among = by (is_on page past d) refl among
     where
       here : Located
       here = record { at = place past; command = d }
@@ -81,19 +81,19 @@ module _ (page at : ℕ) (c : Command) where
       by false is-on there = further (deeper there)
 
   before_end : {past : List Command} → Sound past → IsAmong at c (page_of page past) → Standing page at c past
-  before_end (more sound w allowed not_last) among = with-more allowed (before_end sound) among
+  before_end (more sound w allowed not_last) among = with_more allowed (before_end sound) among
 
   -- so each of a page's commands stands in the whole list
   pub standing : {past : List Command} {end : Command} → Closed past end → IsAmong at c (page_of page (end ∷ past)) → Standing page at c (end ∷ past)
-  standing closed = with-more closed.allowed (before_end closed.sound)
+  standing closed = with_more closed.allowed (before_end closed.sound)
 
 -- ---- in the new list
 
 module _ (first : List Command) (chosen : ℕ → Bool) where
   -- the new list of more commands goes on from that of fewer
-  cut-goes-on : (later past : List Command) → (new_later : List Command) × (cut_after first chosen (later ++ past) ≡ new_later ++ cut_after first chosen past)
-  cut-goes-on [] past = ([], refl)
-  cut-goes-on (c ∷ later) past = by (stays chosen (later ++ past) c) (cut-goes-on later past)
+  cut_goes_on : (later past : List Command) → (new_later : List Command) × (cut_after first chosen (later ++ past) ≡ new_later ++ cut_after first chosen past)
+  cut_goes_on [] past = ([], refl)
+  cut_goes_on (c ∷ later) past = by (stays chosen (later ++ past) c) (cut_goes_on later past)
     where
       new : List Command
       new = cut_after first chosen (later ++ past)
@@ -104,9 +104,9 @@ module _ (first : List Command) (chosen : ℕ → Bool) where
       by false before = before
 
   -- a chosen page's command that is no definition is the next of the new list, as it is
-  cut-own : {page : ℕ} {before : List Command} {c : Command} → chosen page ≡ true → Allowed before c → is_on page before c ≡ true → is_a Define c ≡ false
+  cut_own : {page : ℕ} {before : List Command} {c : Command} → chosen page ≡ true → Allowed before c → is_on page before c ≡ true → is_a Define c ≡ false
       → cut_after first chosen (c ∷ before) ≡ c ∷ cut_after first chosen before
-  cut-own {page} {before} {c} this allowed on_page d = by (turn_of_lem allowed)
+  cut_own {page} {before} {c} this allowed on_page d = by (turn_of allowed)
     where
       on_some : (x y z : Bool) → (x && (y && not z)) ≡ true → (x ≡ true) × (y ≡ true) × (z ≡ false)
       on_some true true false e = (refl, refl, refl)
@@ -140,7 +140,7 @@ pub same_command : {page at : ℕ} {c : Command} (old new : List Command) (chose
     → Standing page at c old → SameCommand old new chosen at
 same_command {c = c} old new chosen new-list this plain s =
     let first = opening old in
-    let (new_later, goes_on) = cut-goes-on first chosen s.later (c ∷ s.before) in
+    let (new_later, goes_on) = cut_goes_on first chosen s.later (c ∷ s.before) in
     record {
       command = c;
       before = s.before;
@@ -150,6 +150,6 @@ same_command {c = c} old new chosen new-list this plain s =
       old_place = s.place_is;
       new_is =
           new-list ∙ ap (cut_after first chosen) s.is_list ∙ goes_on
-          ∙ ap (λ (l : List Command). new_later ++ l) (cut-own first chosen this s.allowed s.on_page plain);
-      new_place_is = ap₂ (new_place_after first chosen) s.is_list s.place_is ∙ place-there first chosen s.later s.before c;
+          ∙ ap (λ (l : List Command). new_later ++ l) (cut_own first chosen this s.allowed s.on_page plain);
+      new_place_is = ap₂ (new_place_after first chosen) s.is_list s.place_is ∙ place_there first chosen s.later s.before c;
     }

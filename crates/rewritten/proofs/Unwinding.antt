@@ -51,35 +51,35 @@ fillers_length zero = refl
 fillers_length (suc n) = ap suc (fillers_length n)
 
 module _ (past : List Command) (c : Command) (closed : Closed past c) (n : ℕ) (enough : 4 ≤ n) where
-  abbrev whole-list : List Command
-  whole-list = onto (c ∷ past) (fillers n)
+  abbrev whole_list : List Command
+  whole_list = onto (c ∷ past) (fillers n)
 
   -- it keeps the rules
-  pub list-keeps : Keeps whole-list
-  list-keeps = unwound closed.sound (ends n closed.is_whole closed.allowed closed.last enough)
+  pub list_keeps : Keeps whole_list
+  list_keeps = unwound closed.sound (ends n closed.is_whole closed.allowed closed.last enough)
 
   -- the newest first it is what it was
-  list-history : up_to_last [] whole-list ≡ c ∷ past
-  list-history = up_to closed.sound (c ∷ fillers n) ∙ rw closed.last
+  list_history : up_to_last [] whole_list ≡ c ∷ past
+  list_history = up_to closed.sound (c ∷ fillers n) ∙ rw closed.last
 
   -- its bytes
-  pub list_length : length (written whole-list) ≡ place (c ∷ past) + n
+  pub list_length : length (written whole_list) ≡ place (c ∷ past) + n
   list_length = written_length (c ∷ past) (fillers n) ∙ ap (λ (k : ℕ). place (c ∷ past) + k) (fillers_length n)
 
   module _ (short : place (c ∷ past) + n ≤ longest_file) where
     -- are a lawful file
-    list_lawful : Lawful (written whole-list)
-    list_lawful = (omega (arith, list_length), (whole-list, list-keeps, refl))
+    list_lawful : Lawful (written whole_list)
+    list_lawful = (omega (arith, list_length), (whole_list, list_keeps, refl))
 
     -- that is accepted with its own counts
-    pub list-judged : judged (written whole-list) ≡ given (summary (c ∷ past))
+    pub list_judged : judged (written whole_list) ≡ given (summary (c ∷ past))
     unfolding list_lawful
-    list-judged = lawful_counts (written whole-list) list_lawful ∙ ap (λ (l : List Command). given (summary l)) list-history
+    list_judged = lawful_counts (written whole_list) list_lawful ∙ ap (λ (l : List Command). given (summary l)) list_history
 
     -- and has this history
-    pub written-history : history (written whole-list) ≡ c ∷ past
+    pub written_history : history (written whole_list) ≡ c ∷ past
     unfolding list_lawful
-    written-history = lawful_history (written whole-list) list_lawful ∙ list-history
+    written_history = lawful_history (written whole_list) list_lawful ∙ list_history
 
 -- ---- from an accepted file to its commands, the newest first
 
@@ -138,7 +138,7 @@ old_commands file s e =
       past = past;
       end = end;
       closed = w.wound_closed;
-      is_history = lawful_history file lawful ∙ ap (up_to_last []) w.as_list ∙ list-history past end w.wound_closed w.fill w.enough_there;
+      is_history = lawful_history file lawful ∙ ap (up_to_last []) w.as_list ∙ list_history past end w.wound_closed w.fill w.enough_there;
       fits = omega (arith, long, w.enough_there, lawful.0);
       count = w.fill;
       enough = w.enough_there;

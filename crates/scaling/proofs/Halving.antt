@@ -57,29 +57,29 @@ module _ (scale z alpha : ℕ) where
 
 -- at every scale α divides 256, and α × z is at most 16 times the scale, since halving ends after four times
 module _ (scale : ℕ) where
-  settled-by : (times z alpha : ℕ) (more : Bool) → alpha * 2 ^ suc times ≡ 256 → alpha * z ≤ 16 * scale → Settled scale (halving times (z / 2) (alpha * 2))
+  settled_by : (times z alpha : ℕ) (more : Bool) → alpha * 2 ^ suc times ≡ 256 → alpha * z ≤ 16 * scale → Settled scale (halving times (z / 2) (alpha * 2))
       → Settled scale (cond more (halving times (z / 2) (alpha * 2)) (at z alpha))
-  settled-by times z alpha true full kept next = next
-  settled-by times z alpha false full kept next = record { times = suc times; full = full; kept = kept }
+  settled_by times z alpha true full kept next = next
+  settled_by times z alpha false full kept next = record { times = suc times; full = full; kept = kept }
 
-  settled-from : (times z alpha : ℕ) → alpha * 2 ^ times ≡ 256 → alpha * z ≤ 16 * scale → Settled scale (halving times z alpha)
+  settled_from : (times z alpha : ℕ) → alpha * 2 ^ times ≡ 256 → alpha * z ≤ 16 * scale → Settled scale (halving times z alpha)
   unfolding halving
-  settled-from zero z alpha full kept = record { times = zero; full = full; kept = kept }
-  settled-from (suc times) z alpha full kept =
-      settled-by times z alpha (leb 8388608 z) full kept
-      (settled-from times (z / 2) (alpha * 2) (doubled alpha times full) (omega (arith, kept, double_half alpha z)))
+  settled_from zero z alpha full kept = record { times = zero; full = full; kept = kept }
+  settled_from (suc times) z alpha full kept =
+      settled_by times z alpha (leb 8388608 z) full kept
+      (settled_from times (z / 2) (alpha * 2) (doubled alpha times full) (omega (arith, kept, double_half alpha z)))
 
   pub settled : Settled scale (halved scale)
-  settled = settled-from 4 scale 16 refl (omega arith)
+  settled = settled_from 4 scale 16 refl (omega arith)
 
 -- α is not 0 and at most 256
 module _ (times alpha : ℕ) (full : alpha * 2 ^ times ≡ 256) where
-  pub alpha-some : 1 ≤ alpha
-  alpha-some = by alpha full
+  pub alpha_some : 1 ≤ alpha
+  alpha_some = by alpha full
     where
       by : (n : ℕ) → n * 2 ^ times ≡ 256 → 1 ≤ n
       by zero e = absurd (omega (arith, zero-mul (2 ^ times)))
       by (suc n) e = omega arith
 
-  pub alpha-small : alpha ≤ 256
-  alpha-small = omega (arith, le-mul_of_pos_right alpha (pow_pos times))
+  pub alpha_small : alpha ≤ 256
+  alpha_small = omega (arith, le-mul_of_pos_right alpha (pow_pos times))

@@ -11,7 +11,7 @@ use Rattle.scaling.specs.declared.FixWord.{FixWord}
 use Rattle.scaling.specs.Scaling.{Halved, halving, halved, share, scaled_by}
 use Rattle.scaling.specs.Fractions.{LastBytes, fraction}
 use Rattle.scaling.specs.Steps.{sixteenfold_of, width_from}
-use Rattle.scaling.proofs.Halving.{Settled, settled, alpha-some}
+use Rattle.scaling.proofs.Halving.{Settled, settled, alpha_some}
 
 -- ---- one division
 
@@ -25,7 +25,7 @@ chain_is_one_division k w =
 share_by_sixteenfold : {scale : ℕ} {k : Halved} (w : FixWord) → Settled scale k → share k w ≡ fraction w * (k.alpha * k.z) / 16777216
 share_by_sixteenfold {scale} {k} w s =
     let beta = 2 ^ s.times in
-    let some : 1 ≤ k.alpha = alpha-some s.times k.alpha s.full in
+    let some : 1 ≤ k.alpha = alpha_some s.times k.alpha s.full in
     let exact : 256 / k.alpha ≡ beta = div-eq_of_eq-mul_right some (sym s.full) in
     let over : fraction w * k.z * k.alpha ≡ fraction w * (k.alpha * k.z) = mul_assoc (fraction w) k.z k.alpha ∙ ap (λ (n : ℕ). fraction w * n) (mul_comm k.z k.alpha) in
     let under : 65536 * beta * k.alpha ≡ 16777216 = mul_assoc 65536 beta k.alpha ∙ ap (λ (n : ℕ). 65536 * n) (mul_comm beta k.alpha ∙ s.full) in
@@ -36,16 +36,16 @@ share_by_sixteenfold {scale} {k} w s =
 
 module _ (scale : ℕ) where
   -- one product and one division give the width that the chain gives
-  pub one-division : (w : FixWord) → width_from (sixteenfold_of scale) w ≡ scaled_by scale w
+  pub one_division : (w : FixWord) → width_from (sixteenfold_of scale) w ≡ scaled_by scale w
   unfolding sixteenfold_of
-  one-division w =
+  one_division w =
       let k = halved scale in
       ap (λ (n : ℕ). cond (eqb w.b0 255) (pos n -ℤ pos (k.alpha * k.z)) (pos n)) (sym (share_by_sixteenfold w (settled scale)))
 
   -- the sixteenfold of a scale in its range has 31 bits at most
-  pub sixteenfold-small : scale ≤ 134217727 → sixteenfold_of scale < 2 ^ 31
+  pub sixteenfold_small : scale ≤ 134217727 → sixteenfold_of scale < 2 ^ 31
   unfolding sixteenfold_of
-  sixteenfold-small lawful = omega (arith, (settled scale).kept)
+  sixteenfold_small lawful = omega (arith, (settled scale).kept)
 
 -- without a font the scale is 0, and so is its sixteenfold
 pub sixteenfold_none : sixteenfold_of 0 ≡ 0

@@ -76,25 +76,25 @@ unmoved_by_register Z Down n l = refl
 
 module _ (k : Ratio) where
   -- a fresh level has them, whatever K is
-  pub rounds-zero : RoundsLevel k zero_kept
-  rounds-zero Sideways = sym (rounded_zero k)
-  rounds-zero Down = sym (rounded_zero k)
+  pub rounds_zero : RoundsLevel k zero_kept
+  rounds_zero Sideways = sym (rounded_zero k)
+  rounds_zero Down = sym (rounded_zero k)
 
   -- one that stands elsewhere in a direction has that one's new, and the other one's as it was
-  pub rounds-at : (direction : Direction) (spot : Spot) (l : KeptLevel) → RoundsLevel k l → RoundsLevel k (at_kept_spot direction (kept_spot k spot) l)
-  rounds-at Sideways spot l rounds Sideways = refl
-  rounds-at Sideways spot l rounds Down = rounds Down
-  rounds-at Down spot l rounds Sideways = rounds Sideways
-  rounds-at Down spot l rounds Down = refl
+  pub rounds_at : (direction : Direction) (spot : Spot) (l : KeptLevel) → RoundsLevel k l → RoundsLevel k (at_kept_spot direction (kept_spot k spot) l)
+  rounds_at Sideways spot l rounds Sideways = refl
+  rounds_at Sideways spot l rounds Down = rounds Down
+  rounds_at Down spot l rounds Sideways = rounds Sideways
+  rounds_at Down spot l rounds Down = refl
 
   -- one with another number in a register keeps them
-  pub rounds-register : (register : Register) (n : ℤ) (l : KeptLevel) → RoundsLevel k l → RoundsLevel k (kept_with_register register n l)
-  rounds-register register n l rounds direction = subst (Rounds k) (sym (unmoved_by_register register direction n l)) (rounds direction)
+  pub rounds_register : (register : Register) (n : ℤ) (l : KeptLevel) → RoundsLevel k l → RoundsLevel k (kept_with_register register n l)
+  rounds_register register n l rounds direction = subst (Rounds k) (sym (unmoved_by_register register direction n l)) (rounds direction)
 
   -- one more below the depth, where it was stored above the others
-  pub rounds-pushed : (depth : ℕ) (stack : List KeptLevel) (l : KeptLevel) → depth < length stack → RoundsBelow k depth stack → RoundsLevel k l
+  pub rounds_pushed : (depth : ℕ) (stack : List KeptLevel) (l : KeptLevel) → depth < length stack → RoundsBelow k depth stack → RoundsLevel k l
       → RoundsBelow k (depth + 1) (set stack depth l)
-  rounds-pushed depth stack l room below rounds place less = by (eqb depth place) refl
+  rounds_pushed depth stack l room below rounds place less = by (eqb depth place) refl
     where
       by : (t : Bool) → eqb depth place ≡ t → RoundsLevel k (get_or (set stack depth l) place zero_kept)
       by true e =
@@ -104,5 +104,5 @@ module _ (k : Ratio) where
           subst (RoundsLevel k) (sym (get_or-set_other stack depth place l zero_kept (λ same. eqb-false depth place e (sym same)))) (below place (omega (arith, eqb-false depth place e)))
 
   -- one less
-  pub rounds-popped : (depth : ℕ) (stack : List KeptLevel) → RoundsBelow k depth stack → RoundsBelow k (depth - 1) stack
-  rounds-popped depth stack below place less = below place (omega arith)
+  pub rounds_popped : (depth : ℕ) (stack : List KeptLevel) → RoundsBelow k depth stack → RoundsBelow k (depth - 1) stack
+  rounds_popped depth stack below place less = below place (omega arith)

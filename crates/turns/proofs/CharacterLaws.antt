@@ -23,7 +23,7 @@ use Rattle.turns.specs.Placing.{look_in}
 use Rattle.placements.specs.Steps.{InWords}
 use Rattle.turns.specs.Steps.{state_with, terms_setting, unless_left, CharacterAsks}
 use Rattle.placements.proofs.RecordWords.{of_bits, read_record}
-use Rattle.turns.proofs.TurnLaws.{did-unless, safe-unless, inside-unless}
+use Rattle.turns.proofs.TurnLaws.{did_unless, safe_unless, inside_unless}
 
 -- a turn and what is added are what the character asks, whatever the hint
 abbrev Asks : Terms → List ℕ → Level → Font → Bool → ℤ → Turn → Adds → Type 0
@@ -60,8 +60,8 @@ module _ {terms : Terms} {table : List ℕ} {level : Level} {font : Font} {code 
   placing : (sets : Bool) (turn : Turn) → Asks terms table level font sets code turn (Adds.Placed here) → Places sets turn
   placing sets turn asks = subst (λ (r : Record). Asks terms table level font sets code turn (Adds.Placed r)) (sym (read_record here words)) asks
 
-  pub put-asks : {sets : Bool} → sets ≡ false → Places sets Turn.Stay
-  put-asks {sets} put = placing sets Turn.Stay (λ volume. (record { does = λ saved. rw (p.is, put); safe = tt; words = words }, refl))
+  pub put_asks : {sets : Bool} → sets ≡ false → Places sets Turn.Stay
+  put_asks {sets} put = placing sets Turn.Stay (λ volume. (record { does = λ saved. rw (p.is, put); safe = tt; words = words }, refl))
 
   abbrev width : ℤ
   width = scaled_by font.scale m.width
@@ -70,14 +70,14 @@ module _ {terms : Terms} {table : List ℕ} {level : Level} {font : Font} {code 
   past = Turn.PastCharacter width m.escapement
 
   -- past the character, unless h would leave its range
-  pub set-asks : {sets : Bool} {turn : Turn} → sets ≡ true → turn ≡ unless_left Direction.Sideways level width past → Places sets turn
-  set-asks {sets} set turn_is =
+  pub set_asks : {sets : Bool} {turn : Turn} → sets ≡ true → turn ≡ unless_left Direction.Sideways level width past → Places sets turn
+  set_asks {sets} set turn_is =
       subst (Places sets) (sym turn_is)
       (placing sets (unless_left Direction.Sideways level width past) (λ volume. (
         record {
-          does = λ saved. rw (p.is, set) (did-unless (terms_setting terms table volume) (state_with level saved font) past (Adds.Placed here) (leaves (level.h +ℤ width)));
-          safe = safe-unless Direction.Sideways level width past (λ stays. ((p.width_small, stays), p.escapement_small));
+          does = λ saved. rw (p.is, set) (did_unless (terms_setting terms table volume) (state_with level saved font) past (Adds.Placed here) (leaves (level.h +ℤ width)));
+          safe = safe_unless Direction.Sideways level width past (λ stays. ((p.width_small, stays), p.escapement_small));
           words = words;
         },
-        inside-unless Direction.Sideways level width past refl,
+        inside_unless Direction.Sideways level width past refl,
       )))

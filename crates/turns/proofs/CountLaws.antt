@@ -8,7 +8,7 @@ use lib.ListN.{length}
 use lib.IntN.{ℤ, ◌+ℤ◌}
 use Rattle.refusals.specs.Numbers.{position_out_of_range}
 use Rattle.refusals.specs.Answer.{Answer, refused, given, and_then}
-use Rattle.refusals.proofs.Answer.{given-not-refused, given-same}
+use Rattle.refusals.proofs.Answer.{given_not_refused, given_same}
 use Rattle.units.specs.Rounding.{rounded_up}
 use Rattle.scaling.specs.Scaling.{scaled_by}
 use Rattle.widths.specs.LookUp.{LookUp, found, absent}
@@ -33,14 +33,14 @@ use Rattle.turns.specs.Counting.{Seen, font_after, with_fonts, is_character, is_
 -- what is given in the end was made from a result that was given
 pub and_given : {A B : Type 0} (make : A → B) (answer : Answer A) (b : B) → and_then answer (λ a. given (make a)) ≡ given b
     → (a : A) × (answer ≡ given a) × (make a ≡ b)
-and_given make (refused n place) b e = absurd (given-not-refused b n place (sym e))
-and_given make (given a) b e = (a, refl, given-same (make a) b e)
+and_given make (refused n place) b e = absurd (given_not_refused b n place (sym e))
+and_given make (given a) b e = (a, refl, given_same (make a) b e)
 
 -- what is refused in the end was refused before
 and_refused : {A B : Type 0} (make : A → B) (answer : Answer A) (n place : ℕ) → and_then answer (λ a. given (make a)) ≡ refused n place
     → answer ≡ refused n place
 and_refused make (refused number there) n place e = ap₂ refused (cc) (cc)
-and_refused make (given a) n place e = absurd (given-not-refused (make a) n place e)
+and_refused make (given a) n place e = absurd (given_not_refused (make a) n place e)
 
 -- four tests, of which none holds
 none : (false ≡ false) × (false ≡ false) × (false ≡ false) × (false ≡ false)
@@ -56,10 +56,10 @@ module _ (setting : Setting) where
 
   -- what a command adds, by the count that it is in, and what its record says
   pub data Adding (c : Seen) : Added → Type 0 where
-    a-rule : (r : Record) → In c true false false false → said_by r ≡ said_of setting c → Adding c (placed r)
-    a-character : (r : Record) → In c false true false false → said_by r ≡ said_of setting c → Adding c (placed r)
-    a-missing : In c false false true false → Adding c missing
-    a-special : In c false false false true → Adding c special
+    a_rule : (r : Record) → In c true false false false → said_by r ≡ said_of setting c → Adding c (placed r)
+    a_character : (r : Record) → In c false true false false → said_by r ≡ said_of setting c → Adding c (placed r)
+    a_missing : In c false false true false → Adding c missing
+    a_special : In c false false false true → Adding c special
     no_more : In c false false false false → Adding c nothing
 
   -- an outcome is the one that the counts and the fonts say
@@ -89,11 +89,11 @@ module _ (setting : Setting) where
     moves : Is false false false false → (direction : Direction) (n : ℤ) (level : Level) → AsCounted this (moves_to direction s n level nothing)
     moves is direction n level = unless this _ (leaves ((spot_of direction s.level).position +ℤ n)) (quiet is)
 
-    plain-moves : Is false false false false → (direction : Direction) → AsCounted this (plain_move direction setting s c.params)
-    plain-moves is direction = moves is direction (distance c.params) _
+    plain_moves : Is false false false false → (direction : Direction) → AsCounted this (plain_move direction setting s c.params)
+    plain_moves is direction = moves is direction (distance c.params) _
 
-    register-moves : Is false false false false → (register : Register) → AsCounted this (register_move register setting s c.params)
-    register-moves is register = moves is (direction_of register) (distance_or (register_of register s.level) c.params) _
+    register_moves : Is false false false false → (register : Register) → AsCounted this (register_move register setting s c.params)
+    register_moves is register = moves is (direction_of register) (distance_or (register_of register s.level) c.params) _
 
     -- a rule's sides, and its record where the page stands
     abbrev height : ℤ
@@ -102,21 +102,21 @@ module _ (setting : Setting) where
     abbrev width : ℤ
     width = rule_width c.params
 
-    abbrev ruleHere : Record
-    ruleHere = rule_record setting.page s.level (rounded_up setting.ruler.k height) (rounded_up setting.ruler.k width)
+    abbrev rule_here : Record
+    rule_here = rule_record setting.page s.level (rounded_up setting.ruler.k height) (rounded_up setting.ruler.k width)
 
     -- a rule adds its record where it is visible
     rules : Is true false false false → (visible : Bool) → is_visible height width ≡ visible
-        → AsCounted this (continues s (cond visible (placed ruleHere) nothing))
-    rules (rule, character, other, select) true e = (rw select, a-rule ruleHere (rw (rule, character, other, e) (refl, refl, refl, refl)) (rw rule))
+        → AsCounted this (continues s (cond visible (placed rule_here) nothing))
+    rules (rule, character, other, select) true e = (rw select, a_rule rule_here (rw (rule, character, other, e) (refl, refl, refl, refl)) (rw rule))
     rules (rule, character, other, select) false e = (rw select, no_more (rw (rule, character, other, e) none))
 
     -- a character that is put adds its record where it is found, else it is missing
     puts : Is false true false false → (l : LookUp) → setting.look s.font (code_of c) ≡ l → AsCounted this (put_character setting s (code_of c) l)
-    puts (rule, character, other, select) absent e = (rw select, a-missing (rw (rule, character, other, e) (refl, refl, refl, refl)))
+    puts (rule, character, other, select) absent e = (rw select, a_missing (rw (rule, character, other, e) (refl, refl, refl, refl)))
     puts (rule, character, other, select) (found m) e =
         let r = character_record setting.page s.level s.font (code_of c) m.escapement in
-        (rw select, a-character r (rw (rule, character, other, e) (refl, refl, refl, refl)) (rw (rule, e)))
+        (rw select, a_character r (rw (rule, character, other, e) (refl, refl, refl, refl)) (rw (rule, e)))
 
     -- so does one that is set
     sets : Is false true false false → (l : LookUp) → setting.look s.font (code_of c) ≡ l → AsCounted this (set_character setting s (code_of c) l)
@@ -139,14 +139,14 @@ module _ (setting : Setting) where
     by_kind Kind.Eop e = quiet (rw e none)
     by_kind Kind.Push e = quiet (rw e none)
     by_kind Kind.Pop e = let (font, adding) = quiet (rw e none) in (popped_font s.saved ∙ font, adding)
-    by_kind Kind.Right e = plain-moves (rw e none) Direction.Sideways
-    by_kind Kind.W e = register-moves (rw e none) Register.W
-    by_kind Kind.X e = register-moves (rw e none) Register.X
-    by_kind Kind.Down e = plain-moves (rw e none) Direction.Down
-    by_kind Kind.Y e = register-moves (rw e none) Register.Y
-    by_kind Kind.Z e = register-moves (rw e none) Register.Z
+    by_kind Kind.Right e = plain_moves (rw e none) Direction.Sideways
+    by_kind Kind.W e = register_moves (rw e none) Register.W
+    by_kind Kind.X e = register_moves (rw e none) Register.X
+    by_kind Kind.Down e = plain_moves (rw e none) Direction.Down
+    by_kind Kind.Y e = register_moves (rw e none) Register.Y
+    by_kind Kind.Z e = register_moves (rw e none) Register.Z
     by_kind Kind.Select e = (rw e, no_more (rw e none))
-    by_kind Kind.Special e = (rw e, a-special (rw e (refl, refl, refl, refl)))
+    by_kind Kind.Special e = (rw e, a_special (rw e (refl, refl, refl, refl)))
     by_kind Kind.Define e = quiet (rw e none)
     by_kind Kind.Pre e = quiet (rw e none)
     by_kind Kind.Post e = quiet (rw e none)
@@ -154,96 +154,96 @@ module _ (setting : Setting) where
     by_kind Kind.Undefined e = quiet (rw e none)
 
     -- what a command comes to is what the counts and the fonts say
-    pub as-counted : AsCounted (record { font = s.font; command = c }) (after setting s c)
+    pub as_counted : AsCounted (record { font = s.font; command = c }) (after setting s c)
     unfolding after
-    as-counted = by_kind (kind_of_command c) refl
+    as_counted = by_kind (kind_of_command c) refl
 
   -- ---- a page
 
   -- what a page comes to is tied to its commands
   pub record Tied (cs : List Seen) (p : Contents) : Type 0 where
-    pub record-count : length p.placements ≡ count_of rule_visible cs + count_of (character_found setting) cs
-    pub missing-count : p.missing_characters ≡ count_of (character_missing setting) cs
-    pub special-count : p.specials ≡ count_of is_special cs
-    pub record-order : map said_by p.placements ≡ map (said_of setting) (those (makes_record setting) cs)
+    pub record_count : length p.placements ≡ count_of rule_visible cs + count_of (character_found setting) cs
+    pub missing_count : p.missing_characters ≡ count_of (character_missing setting) cs
+    pub special_count : p.specials ≡ count_of is_special cs
+    pub record_order : map said_by p.placements ≡ map (said_of setting) (those (makes_record setting) cs)
 
   -- it stays tied with what a command before them adds
-  tied-adding : (c : Seen) (added : Added) (cs : List Seen) (p : Contents) → Adding c added → Tied cs p → Tied (c ∷ cs) (adding added p)
-  tied-adding c added cs p (a-rule r (rule, character, lacking, other) said) t =
+  tied_adding : (c : Seen) (added : Added) (cs : List Seen) (p : Contents) → Adding c added → Tied cs p → Tied (c ∷ cs) (adding added p)
+  tied_adding c added cs p (a_rule r (rule, character, lacking, other) said) t =
       record {
-        record-count = rw (rule, character) (omega (arith, t.record-count));
-        missing-count = rw lacking t.missing-count;
-        special-count = rw other t.special-count;
-        record-order = rw rule (ap₂ ◌∷◌ said t.record-order);
+        record_count = rw (rule, character) (omega (arith, t.record_count));
+        missing_count = rw lacking t.missing_count;
+        special_count = rw other t.special_count;
+        record_order = rw rule (ap₂ ◌∷◌ said t.record_order);
       }
-  tied-adding c added cs p (a-character r (rule, character, lacking, other) said) t =
+  tied_adding c added cs p (a_character r (rule, character, lacking, other) said) t =
       record {
-        record-count = rw (rule, character) (omega (arith, t.record-count));
-        missing-count = rw lacking t.missing-count;
-        special-count = rw other t.special-count;
-        record-order = rw (rule, character) (ap₂ ◌∷◌ said t.record-order);
+        record_count = rw (rule, character) (omega (arith, t.record_count));
+        missing_count = rw lacking t.missing_count;
+        special_count = rw other t.special_count;
+        record_order = rw (rule, character) (ap₂ ◌∷◌ said t.record_order);
       }
-  tied-adding c added cs p (a-missing (rule, character, lacking, other)) t =
+  tied_adding c added cs p (a_missing (rule, character, lacking, other)) t =
       record {
-        record-count = rw (rule, character) t.record-count;
-        missing-count = rw lacking (omega (arith, t.missing-count));
-        special-count = rw other t.special-count;
-        record-order = rw (rule, character) t.record-order;
+        record_count = rw (rule, character) t.record_count;
+        missing_count = rw lacking (omega (arith, t.missing_count));
+        special_count = rw other t.special_count;
+        record_order = rw (rule, character) t.record_order;
       }
-  tied-adding c added cs p (a-special (rule, character, lacking, other)) t =
+  tied_adding c added cs p (a_special (rule, character, lacking, other)) t =
       record {
-        record-count = rw (rule, character) t.record-count;
-        missing-count = rw lacking t.missing-count;
-        special-count = rw other (omega (arith, t.special-count));
-        record-order = rw (rule, character) t.record-order;
+        record_count = rw (rule, character) t.record_count;
+        missing_count = rw lacking t.missing_count;
+        special_count = rw other (omega (arith, t.special_count));
+        record_order = rw (rule, character) t.record_order;
       }
-  tied-adding c added cs p (no_more (rule, character, lacking, other)) t =
+  tied_adding c added cs p (no_more (rule, character, lacking, other)) t =
       record {
-        record-count = rw (rule, character) t.record-count;
-        missing-count = rw lacking t.missing-count;
-        special-count = rw other t.special-count;
-        record-order = rw (rule, character) t.record-order;
+        record_count = rw (rule, character) t.record_count;
+        missing_count = rw lacking t.missing_count;
+        special_count = rw other t.special_count;
+        record_order = rw (rule, character) t.record_order;
       }
 
   -- the page's counts and records are tied to its commands
   pub tied : (s : State) (cs : List Located) (p : Contents) → placing setting s cs ≡ given p → Tied (with_fonts setting s.font cs) p
   unfolding placing
-  tied s [] p e = subst (Tied []) (given-same _ p e) (record { record-count = refl; missing-count = refl; special-count = refl; record-order = refl })
-  tied s (c ∷ rest) p e = by (after setting s c.command) (as-counted s c.command) e (λ next. tied next rest)
+  tied s [] p e = subst (Tied []) (given_same _ p e) (record { record_count = refl; missing_count = refl; special_count = refl; record_order = refl })
+  tied s (c ∷ rest) p e = by (after setting s c.command) (as_counted s c.command) e (λ next. tied next rest)
     where
       by : (o : Outcome) → AsCounted (this s c.command) o → on_outcome c.at o (λ next. placing setting next rest) ≡ given p
           → ((next : State) (q : Contents) → placing setting next rest ≡ given q → Tied (with_fonts setting next.font rest) q)
           → Tied (with_fonts setting s.font (c ∷ rest)) p
-      by leaves_range counted e onward = absurd (given-not-refused p position_out_of_range c.at (sym e))
+      by leaves_range counted e onward = absurd (given_not_refused p position_out_of_range c.at (sym e))
       by (continues next added) (font, adds) e onward =
           let (q, placed-rest, same) = and_given (adding added) (placing setting next rest) p e in
           let tied-rest = subst (λ (f : Font). Tied (with_fonts setting f rest) q) font (onward next q placed-rest) in
-          subst (Tied _) same (tied-adding (this s c.command) added _ q adds tied-rest)
+          subst (Tied _) same (tied_adding (this s c.command) added _ q adds tied-rest)
 
   module _ (s : State) (cs : List Located) (p : Contents) (e : placing setting s cs ≡ given p) where
     -- there are as many records as visible rules and characters found
     pub records_counted : length p.placements ≡ count_of rule_visible (with_fonts setting s.font cs) + count_of (character_found setting) (with_fonts setting s.font cs)
-    records_counted = (tied s cs p e).record-count
+    records_counted = (tied s cs p e).record_count
 
     -- as many missing characters as characters that the table has not
-    pub missing-counted : p.missing_characters ≡ count_of (character_missing setting) (with_fonts setting s.font cs)
-    missing-counted = (tied s cs p e).missing-count
+    pub missing_counted : p.missing_characters ≡ count_of (character_missing setting) (with_fonts setting s.font cs)
+    missing_counted = (tied s cs p e).missing_count
 
     -- as many specials as special commands
-    pub specials-counted : p.specials ≡ count_of is_special (with_fonts setting s.font cs)
-    specials-counted = (tied s cs p e).special-count
+    pub specials_counted : p.specials ≡ count_of is_special (with_fonts setting s.font cs)
+    specials_counted = (tied s cs p e).special_count
 
     -- the records say, in order, what the commands that make one say; each names this page
-    pub records-in-order : map said_by p.placements ≡ map (said_of setting) (those (makes_record setting) (with_fonts setting s.font cs))
-    records-in-order = (tied s cs p e).record-order
+    pub records_in_order : map said_by p.placements ≡ map (said_of setting) (those (makes_record setting) (with_fonts setting s.font cs))
+    records_in_order = (tied s cs p e).record_order
 
   -- ---- a refusal
 
   -- a page is refused only by 16, with the place of the first of its own commands at which h or v would leave its range
-  pub refused-place : (s : State) (cs : List Located) (n place : ℕ) → placing setting s cs ≡ refused n place → (n ≡ position_out_of_range) × LeavesAt setting place s cs
+  pub refused_place : (s : State) (cs : List Located) (n place : ℕ) → placing setting s cs ≡ refused n place → (n ≡ position_out_of_range) × LeavesAt setting place s cs
   unfolding placing
-  refused-place s [] n place e = absurd (given-not-refused _ n place e)
-  refused-place s (c ∷ rest) n place e = by (after setting s c.command) refl e (λ next. refused-place next rest n place)
+  refused_place s [] n place e = absurd (given_not_refused _ n place e)
+  refused_place s (c ∷ rest) n place e = by (after setting s c.command) refl e (λ next. refused_place next rest n place)
     where
       by : (o : Outcome) → after setting s c.command ≡ o → on_outcome c.at o (λ next. placing setting next rest) ≡ refused n place
           → ((next : State) → placing setting next rest ≡ refused n place → (n ≡ position_out_of_range) × LeavesAt setting place next rest)

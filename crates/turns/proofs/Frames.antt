@@ -29,16 +29,16 @@ is_ending inside = false
 
 module _ (kind : Kind) where
   -- only push opens a block
-  pub opening-push : opening ≡ frame_of kind → kind ≡ Push
-  opening-push e = is_kind kind Push (sym (on_kinds (λ k. is_opening (frame_of k)) (λ k. is k Push) refl kind) ∙ sym (ap is_opening e))
+  pub opening_push : opening ≡ frame_of kind → kind ≡ Push
+  opening_push e = is_kind kind Push (sym (on_kinds (λ k. is_opening (frame_of k)) (λ k. is k Push) refl kind) ∙ sym (ap is_opening e))
 
   -- only pop closes one
-  pub closing-pop : closing ≡ frame_of kind → kind ≡ Pop
-  closing-pop e = is_kind kind Pop (sym (on_kinds (λ k. is_closing (frame_of k)) (λ k. is k Pop) refl kind) ∙ sym (ap is_closing e))
+  pub closing_pop : closing ≡ frame_of kind → kind ≡ Pop
+  closing_pop e = is_kind kind Pop (sym (on_kinds (λ k. is_closing (frame_of k)) (λ k. is k Pop) refl kind) ∙ sym (ap is_closing e))
 
   -- only eop ends the page
-  pub ending-eop : is_ending (frame_of kind) ≡ is kind Eop
-  ending-eop = on_kinds (λ k. is_ending (frame_of k)) (λ k. is k Eop) refl kind
+  pub ending_eop : is_ending (frame_of kind) ≡ is kind Eop
+  ending_eop = on_kinds (λ k. is_ending (frame_of k)) (λ k. is k Eop) refl kind
 
 -- what a frame does to the depth
 abbrev pub depth_by : Frame → ℕ → ℕ

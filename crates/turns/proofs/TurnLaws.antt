@@ -17,7 +17,7 @@ use Rattle.commands.specs.declared.Kind.TheVariants as Kind
 use Rattle.commands.specs.Commands.{Command, Whole, kind_of_command}
 use Rattle.commands.specs.Parameters.{distance, rule_height, rule_width}
 use Rattle.commands.specs.ByKind.{last, fixed_by}
-use Rattle.commands.proofs.Lengths.{has_inner, whole-at-most}
+use Rattle.commands.proofs.Lengths.{has_inner, whole_at_most}
 use Rattle.list.proofs.Arms.{on_kinds}
 use Rattle.state.specs.declared.Level.{Level}
 use Rattle.state.specs.declared.Font.{Font}
@@ -45,20 +45,20 @@ use Rattle.turns.specs.Steps.{state_with, did, Safe, turn_frame, Suits, terms_se
 -- ---- a turn, unless h or v would leave its range
 
 module _ (setting : Setting) (s : State) (turn : Turn) (adds : Adds) where
-  pub did-unless : (t : Bool) → did setting s (cond t Turn.Leave turn) adds ≡ cond t leaves_range (did setting s turn adds)
-  did-unless true = refl
-  did-unless false = refl
+  pub did_unless : (t : Bool) → did setting s (cond t Turn.Leave turn) adds ≡ cond t leaves_range (did setting s turn adds)
+  did_unless true = refl
+  did_unless false = refl
 
 module _ (direction : Direction) (level : Level) (n : ℤ) (turn : Turn) where
-  pub safe-unless : (leaves ((spot_of direction level).position +ℤ n) ≡ false → Safe level turn) → Safe level (unless_left direction level n turn)
-  safe-unless safe = by (leaves ((spot_of direction level).position +ℤ n)) refl
+  pub safe_unless : (leaves ((spot_of direction level).position +ℤ n) ≡ false → Safe level turn) → Safe level (unless_left direction level n turn)
+  safe_unless safe = by (leaves ((spot_of direction level).position +ℤ n)) refl
     where
       by : (t : Bool) → leaves ((spot_of direction level).position +ℤ n) ≡ t → Safe level (cond t Turn.Leave turn)
       by true e = tt
       by false e = safe e
 
-  pub inside-unless : turn_frame turn ≡ inside → turn_frame (unless_left direction level n turn) ≡ inside
-  inside-unless is-inside = by (leaves ((spot_of direction level).position +ℤ n))
+  pub inside_unless : turn_frame turn ≡ inside → turn_frame (unless_left direction level n turn) ≡ inside
+  inside_unless is-inside = by (leaves ((spot_of direction level).position +ℤ n))
     where
       by : (t : Bool) → turn_frame (cond t Turn.Leave turn) ≡ inside
       by true = refl
@@ -94,124 +94,124 @@ module _ (setting : Setting) (level : Level) (saved : List Level) (font : Font) 
   abbrev s : State
   s = state_with level saved font
 
-  plain-does : (direction : Direction) → did setting s (plain_turn direction level c.params) Adds.Nothing ≡ plain_move direction setting s c.params
-  plain-does Direction.Sideways = let n = distance c.params in did-unless setting s (Turn.Sideways Stride.Rounded n) Adds.Nothing (leaves (level.h +ℤ n))
-  plain-does Direction.Down = let n = distance c.params in did-unless setting s (Turn.Down n) Adds.Nothing (leaves (level.v +ℤ n))
+  plain_does : (direction : Direction) → did setting s (plain_turn direction level c.params) Adds.Nothing ≡ plain_move direction setting s c.params
+  plain_does Direction.Sideways = let n = distance c.params in did_unless setting s (Turn.Sideways Stride.Rounded n) Adds.Nothing (leaves (level.h +ℤ n))
+  plain_does Direction.Down = let n = distance c.params in did_unless setting s (Turn.Down n) Adds.Nothing (leaves (level.v +ℤ n))
 
-  register-does : (register : Register) → did setting s (register_turn register level c.params) Adds.Nothing ≡ register_move register setting s c.params
-  register-does register =
+  register_does : (register : Register) → did setting s (register_turn register level c.params) Adds.Nothing ≡ register_move register setting s c.params
+  register_does register =
       let n = distance_or (register_of register level) c.params in
-      did-unless setting s (Turn.ByRegister register n) Adds.Nothing (leaves ((spot_of (direction_of register) level).position +ℤ n))
+      did_unless setting s (Turn.ByRegister register n) Adds.Nothing (leaves ((spot_of (direction_of register) level).position +ℤ n))
 
   -- the turn of a kind comes to what is meant by a command of it
-  pub turn-does : (k : Kind) → only_turns k ≡ true → did setting s (turn_of k level c.params) Adds.Nothing ≡ after_kind k setting s c
-  turn-does Kind.SetCharacter only = absurd (false≢true only)
-  turn-does Kind.SetRule only = absurd (false≢true only)
-  turn-does Kind.PutCharacter only = absurd (false≢true only)
-  turn-does Kind.PutRule only = absurd (false≢true only)
-  turn-does Kind.Nop only = refl
-  turn-does Kind.Bop only = refl
-  turn-does Kind.Eop only = refl
-  turn-does Kind.Push only = refl
-  turn-does Kind.Pop only = refl
-  turn-does Kind.Right only = plain-does Direction.Sideways
-  turn-does Kind.W only = register-does Register.W
-  turn-does Kind.X only = register-does Register.X
-  turn-does Kind.Down only = plain-does Direction.Down
-  turn-does Kind.Y only = register-does Register.Y
-  turn-does Kind.Z only = register-does Register.Z
-  turn-does Kind.Select only = absurd (false≢true only)
-  turn-does Kind.Special only = absurd (false≢true only)
-  turn-does Kind.Define only = refl
-  turn-does Kind.Pre only = refl
-  turn-does Kind.Post only = refl
-  turn-does Kind.PostPost only = refl
-  turn-does Kind.Undefined only = refl
+  pub turn_does : (k : Kind) → only_turns k ≡ true → did setting s (turn_of k level c.params) Adds.Nothing ≡ after_kind k setting s c
+  turn_does Kind.SetCharacter only = absurd (false≢true only)
+  turn_does Kind.SetRule only = absurd (false≢true only)
+  turn_does Kind.PutCharacter only = absurd (false≢true only)
+  turn_does Kind.PutRule only = absurd (false≢true only)
+  turn_does Kind.Nop only = refl
+  turn_does Kind.Bop only = refl
+  turn_does Kind.Eop only = refl
+  turn_does Kind.Push only = refl
+  turn_does Kind.Pop only = refl
+  turn_does Kind.Right only = plain_does Direction.Sideways
+  turn_does Kind.W only = register_does Register.W
+  turn_does Kind.X only = register_does Register.X
+  turn_does Kind.Down only = plain_does Direction.Down
+  turn_does Kind.Y only = register_does Register.Y
+  turn_does Kind.Z only = register_does Register.Z
+  turn_does Kind.Select only = absurd (false≢true only)
+  turn_does Kind.Special only = absurd (false≢true only)
+  turn_does Kind.Define only = refl
+  turn_does Kind.Pre only = refl
+  turn_does Kind.Post only = refl
+  turn_does Kind.PostPost only = refl
+  turn_does Kind.Undefined only = refl
 
   -- what a command comes to is what its kind comes to
-  pub after-kind : (k : Kind) → kind_of_command c ≡ k → after_kind k setting s c ≡ after setting s c
+  pub after_kind_lem : (k : Kind) → kind_of_command c ≡ k → after_kind k setting s c ≡ after setting s c
   unfolding after
-  after-kind k e = sym (ap (λ (kind : Kind). after_kind kind setting s c) e)
+  after_kind_lem k e = sym (ap (λ (kind : Kind). after_kind kind setting s c) e)
 
 module _ (level : Level) (params : List ℕ) where
-  plain-inside : (direction : Direction) → turn_frame (plain_turn direction level params) ≡ inside
-  plain-inside Direction.Sideways = let n = distance params in inside-unless Direction.Sideways level n (Turn.Sideways Stride.Rounded n) refl
-  plain-inside Direction.Down = let n = distance params in inside-unless Direction.Down level n (Turn.Down n) refl
+  plain_inside : (direction : Direction) → turn_frame (plain_turn direction level params) ≡ inside
+  plain_inside Direction.Sideways = let n = distance params in inside_unless Direction.Sideways level n (Turn.Sideways Stride.Rounded n) refl
+  plain_inside Direction.Down = let n = distance params in inside_unless Direction.Down level n (Turn.Down n) refl
 
-  register-inside : (register : Register) → turn_frame (register_turn register level params) ≡ inside
-  register-inside register =
-      let n = distance_or (register_of register level) params in inside-unless (direction_of register) level n (Turn.ByRegister register n) refl
+  register_inside : (register : Register) → turn_frame (register_turn register level params) ≡ inside
+  register_inside register =
+      let n = distance_or (register_of register level) params in inside_unless (direction_of register) level n (Turn.ByRegister register n) refl
 
   -- the turn of a kind suits it
-  pub turn-suits : (k : Kind) → Suits k (turn_of k level params)
-  turn-suits Kind.SetCharacter = refl
-  turn-suits Kind.SetRule = refl
-  turn-suits Kind.PutCharacter = refl
-  turn-suits Kind.PutRule = refl
-  turn-suits Kind.Nop = refl
-  turn-suits Kind.Bop = refl
-  turn-suits Kind.Eop = refl
-  turn-suits Kind.Push = refl
-  turn-suits Kind.Pop = refl
-  turn-suits Kind.Right = plain-inside Direction.Sideways
-  turn-suits Kind.W = register-inside Register.W
-  turn-suits Kind.X = register-inside Register.X
-  turn-suits Kind.Down = plain-inside Direction.Down
-  turn-suits Kind.Y = register-inside Register.Y
-  turn-suits Kind.Z = register-inside Register.Z
-  turn-suits Kind.Select = refl
-  turn-suits Kind.Special = refl
-  turn-suits Kind.Define = refl
-  turn-suits Kind.Pre = refl
-  turn-suits Kind.Post = refl
-  turn-suits Kind.PostPost = refl
-  turn-suits Kind.Undefined = refl
+  pub turn_suits : (k : Kind) → Suits k (turn_of k level params)
+  turn_suits Kind.SetCharacter = refl
+  turn_suits Kind.SetRule = refl
+  turn_suits Kind.PutCharacter = refl
+  turn_suits Kind.PutRule = refl
+  turn_suits Kind.Nop = refl
+  turn_suits Kind.Bop = refl
+  turn_suits Kind.Eop = refl
+  turn_suits Kind.Push = refl
+  turn_suits Kind.Pop = refl
+  turn_suits Kind.Right = plain_inside Direction.Sideways
+  turn_suits Kind.W = register_inside Register.W
+  turn_suits Kind.X = register_inside Register.X
+  turn_suits Kind.Down = plain_inside Direction.Down
+  turn_suits Kind.Y = register_inside Register.Y
+  turn_suits Kind.Z = register_inside Register.Z
+  turn_suits Kind.Select = refl
+  turn_suits Kind.Special = refl
+  turn_suits Kind.Define = refl
+  turn_suits Kind.Pre = refl
+  turn_suits Kind.Post = refl
+  turn_suits Kind.PostPost = refl
+  turn_suits Kind.Undefined = refl
 
 -- ---- what the page's methods need of a turn
 
 module _ (params : List ℕ) (bytes : (i : ℕ) → get_or params i 0 < 256) where
   -- a distance of at most four bytes is one of 32 bits
-  distance-small : length params ≤ 4 → nat_abs (distance params) ≤ 2 ^ 31
-  distance-small h =
+  distance_small : length params ≤ 4 → nat_abs (distance params) ≤ 2 ^ 31
+  distance_small h =
       omega (arith, from_small (256 ^ length params) (unsigned_at params 0 (length params)) (unsigned_below params 0 (length params) (λ i h. bytes (0 + i))), power_le (length params) 4 h)
 
-  or-small : (register : ℤ) → nat_abs register ≤ 2 ^ 31 → length params ≤ 4 → nat_abs (distance_or register params) ≤ 2 ^ 31
-  or-small register r h = omega (arith, abs_cond (eqb (length params) 0) register (distance params), r, distance-small h)
+  or_small : (register : ℤ) → nat_abs register ≤ 2 ^ 31 → length params ≤ 4 → nat_abs (distance_or register params) ≤ 2 ^ 31
+  or_small register r h = omega (arith, abs_cond (eqb (length params) 0) register (distance params), r, distance_small h)
 
   module _ (level : Level) (bounded : Bounded level) where
-    plain-safe : (direction : Direction) → length params ≤ 4 → Safe level (plain_turn direction level params)
-    plain-safe Direction.Sideways fits = let n = distance params in safe-unless Direction.Sideways level n (Turn.Sideways Stride.Rounded n) (λ stays. (distance-small fits, stays))
-    plain-safe Direction.Down fits = let n = distance params in safe-unless Direction.Down level n (Turn.Down n) (λ stays. (distance-small fits, stays))
+    plain_safe : (direction : Direction) → length params ≤ 4 → Safe level (plain_turn direction level params)
+    plain_safe Direction.Sideways fits = let n = distance params in safe_unless Direction.Sideways level n (Turn.Sideways Stride.Rounded n) (λ stays. (distance_small fits, stays))
+    plain_safe Direction.Down fits = let n = distance params in safe_unless Direction.Down level n (Turn.Down n) (λ stays. (distance_small fits, stays))
 
-    register-safe : (register : Register) → length params ≤ 4 → Safe level (register_turn register level params)
-    register-safe register fits =
+    register_safe : (register : Register) → length params ≤ 4 → Safe level (register_turn register level params)
+    register_safe register fits =
         let n = distance_or (register_of register level) params in
-        safe-unless (direction_of register) level n (Turn.ByRegister register n) (λ stays. (or-small (register_of register level) (register_in register level bounded) fits, stays))
+        safe_unless (direction_of register) level n (Turn.ByRegister register n) (λ stays. (or_small (register_of register level) (register_in register level bounded) fits, stays))
 
     -- the turn of a kind is one that the page's methods take
-    pub turn-safe : (k : Kind) → MoveFits k params → Safe level (turn_of k level params)
-    turn-safe Kind.SetCharacter fits = tt
-    turn-safe Kind.SetRule fits = tt
-    turn-safe Kind.PutCharacter fits = tt
-    turn-safe Kind.PutRule fits = tt
-    turn-safe Kind.Nop fits = tt
-    turn-safe Kind.Bop fits = tt
-    turn-safe Kind.Eop fits = tt
-    turn-safe Kind.Push fits = tt
-    turn-safe Kind.Pop fits = tt
-    turn-safe Kind.Right fits = plain-safe Direction.Sideways (fits refl)
-    turn-safe Kind.W fits = register-safe Register.W (fits refl)
-    turn-safe Kind.X fits = register-safe Register.X (fits refl)
-    turn-safe Kind.Down fits = plain-safe Direction.Down (fits refl)
-    turn-safe Kind.Y fits = register-safe Register.Y (fits refl)
-    turn-safe Kind.Z fits = register-safe Register.Z (fits refl)
-    turn-safe Kind.Select fits = tt
-    turn-safe Kind.Special fits = tt
-    turn-safe Kind.Define fits = tt
-    turn-safe Kind.Pre fits = tt
-    turn-safe Kind.Post fits = tt
-    turn-safe Kind.PostPost fits = tt
-    turn-safe Kind.Undefined fits = tt
+    pub turn_safe : (k : Kind) → MoveFits k params → Safe level (turn_of k level params)
+    turn_safe Kind.SetCharacter fits = tt
+    turn_safe Kind.SetRule fits = tt
+    turn_safe Kind.PutCharacter fits = tt
+    turn_safe Kind.PutRule fits = tt
+    turn_safe Kind.Nop fits = tt
+    turn_safe Kind.Bop fits = tt
+    turn_safe Kind.Eop fits = tt
+    turn_safe Kind.Push fits = tt
+    turn_safe Kind.Pop fits = tt
+    turn_safe Kind.Right fits = plain_safe Direction.Sideways (fits refl)
+    turn_safe Kind.W fits = register_safe Register.W (fits refl)
+    turn_safe Kind.X fits = register_safe Register.X (fits refl)
+    turn_safe Kind.Down fits = plain_safe Direction.Down (fits refl)
+    turn_safe Kind.Y fits = register_safe Register.Y (fits refl)
+    turn_safe Kind.Z fits = register_safe Register.Z (fits refl)
+    turn_safe Kind.Select fits = tt
+    turn_safe Kind.Special fits = tt
+    turn_safe Kind.Define fits = tt
+    turn_safe Kind.Pre fits = tt
+    turn_safe Kind.Post fits = tt
+    turn_safe Kind.PostPost fits = tt
+    turn_safe Kind.Undefined fits = tt
 
 -- where one of two tests cannot hold without the other
 implied : (a b : Bool) → (a && not b) ≡ false → a ≡ true → b ≡ true
@@ -225,15 +225,15 @@ move_fits c w is_a_move =
     let k = kind_of_command c in
     let short = implied (is_move k) (leb (fixed_by k (last k)) 4) (on_kinds (λ j. is_move j && not (leb (fixed_by j (last j)) 4)) (λ j. false) refl k) is_a_move in
     let plain = implied (is_move k) (not (has_inner k)) (on_kinds (λ j. is_move j && not (not (has_inner j))) (λ j. false) refl k) is_a_move in
-    omega (arith, whole-at-most c w refl (not_true (has_inner k) plain), leb-true (fixed_by k (last k)) 4 short)
+    omega (arith, whole_at_most c w refl (not_true (has_inner k) plain), leb-true (fixed_by k (last k)) 4 short)
 
 -- ---- what a command of a kind asks
 
 module _ (setting : Setting) (level : Level) (font : Font) (c : Command) (r : Asked) (k : Kind) (is-k : kind_of_command c ≡ k) where
   -- what is asked by its kind is what is asked by the command
-  pub asks-by-kind : Comes setting level font (λ s. after_kind k setting s c) r.turn r.adds → Suits k r.turn → CommandAsks setting level font c r
-  asks-by-kind comes suits = (
-    record { does = λ saved. comes.does saved ∙ after-kind setting level saved font c k is-k; safe = comes.safe; words = comes.words },
+  pub asks_by_kind : Comes setting level font (λ s. after_kind k setting s c) r.turn r.adds → Suits k r.turn → CommandAsks setting level font c r
+  asks_by_kind comes suits = (
+    record { does = λ saved. comes.does saved ∙ after_kind_lem setting level saved font c k is-k; safe = comes.safe; words = comes.words },
     subst (λ (kind : Kind). Suits kind r.turn) (sym is-k) suits,
   )
 
@@ -242,32 +242,32 @@ module _ (terms : Terms) (table : List ℕ) (volume : List Command) (level : Lev
   past = Turn.Sideways Stride.RoundedUp (rule_width params)
 
   -- what a rule comes to that is set
-  rule-does : (saved : List Level) (adds : Adds) → added_of adds ≡ rule_by terms level (rule_height params) (rule_width params)
+  rule_does : (saved : List Level) (adds : Adds) → added_of adds ≡ rule_by terms level (rule_height params) (rule_width params)
       → did (terms_setting terms table volume) (state_with level saved font) (unless_left Direction.Sideways level (rule_width params) past) adds
       ≡ set_rule (terms_setting terms table volume) (state_with level saved font) (rule_height params) (rule_width params)
-  rule-does saved adds e =
+  rule_does saved adds e =
       let s = state_with level saved font in
       let leads : Added → Outcome = moves_to Direction.Sideways s (rule_width params) (moved_by Direction.Sideways Stride.RoundedUp terms.ruler font.scale (rule_width params) level) in
-      did-unless (terms_setting terms table volume) s past adds (leaves (level.h +ℤ rule_width params)) ∙ ap leads e
+      did_unless (terms_setting terms table volume) s past adds (leaves (level.h +ℤ rule_width params)) ∙ ap leads e
 
   width_small : nat_abs (rule_width params) ≤ 2 ^ 31
   width_small = omega (arith, from_small (256 ^ 4) (unsigned_at params 4 4) (unsigned_below params 4 4 (λ i h. bytes (4 + i))))
 
-  pub rule-sets : (r : Asked) → RuleAsks terms level true params r
+  pub rule_sets : (r : Asked) → RuleAsks terms level true params r
       → Comes (terms_setting terms table volume) level font (λ s. set_rule (terms_setting terms table volume) s (rule_height params) (rule_width params)) r.turn r.adds × (turn_frame r.turn ≡ inside)
-  rule-sets r asks = (
+  rule_sets r asks = (
     record {
-      does = λ saved. ap (λ (turn : Turn). did (terms_setting terms table volume) (state_with level saved font) turn r.adds) asks.turn_is ∙ rule-does saved r.adds asks.adds_are;
-      safe = subst (Safe level) (sym asks.turn_is) (safe-unless Direction.Sideways level (rule_width params) past (λ stays. (width_small, stays)));
+      does = λ saved. ap (λ (turn : Turn). did (terms_setting terms table volume) (state_with level saved font) turn r.adds) asks.turn_is ∙ rule_does saved r.adds asks.adds_are;
+      safe = subst (Safe level) (sym asks.turn_is) (safe_unless Direction.Sideways level (rule_width params) past (λ stays. (width_small, stays)));
       words = asks.words;
     },
-    ap turn_frame asks.turn_is ∙ inside-unless Direction.Sideways level (rule_width params) past refl,
+    ap turn_frame asks.turn_is ∙ inside_unless Direction.Sideways level (rule_width params) past refl,
   )
 
-  pub rule-puts : (r : Asked) → RuleAsks terms level false params r
+  pub rule_puts : (r : Asked) → RuleAsks terms level false params r
       → Comes (terms_setting terms table volume) level font (λ s. continues s (rule_added (terms_setting terms table volume) s (rule_height params) (rule_width params))) r.turn r.adds
       × (turn_frame r.turn ≡ inside)
-  rule-puts r asks = (
+  rule_puts r asks = (
     record {
       does = λ saved. ap (λ (turn : Turn). did (terms_setting terms table volume) (state_with level saved font) turn r.adds) asks.turn_is ∙ ap (continues (state_with level saved font)) asks.adds_are;
       safe = subst (Safe level) (sym asks.turn_is) tt;

@@ -1,6 +1,4 @@
 // One command of a page: the turn of the state that it asks, and what it adds to the page.
-#![tactic(auto)]
-
 use placements::Adds;
 use state::moving::{Ruler, Stride};
 use state::registers::Register;
@@ -9,7 +7,7 @@ use widths::blocks::Block;
 pub mod steps;
 
 // What a page is placed by, beside the file and the width table: K and D, how many rows the table has, and the page's number
-#[derive(Clone, Copy)]
+#[derive(Drop)]
 pub struct Terms {
     pub ruler: Ruler,
     pub rows: usize,
@@ -18,7 +16,7 @@ pub struct Terms {
 
 // What a walk keeps for a font, so that no character pays for it: sixteen times its scale, less the bits that halving loses, and where the table's records of its own
 // name and for any name stand
-#[derive(Clone, Copy)]
+#[derive(Drop)]
 pub struct Kept {
     pub sixteenfold: u64,
     pub own: Block,
@@ -26,7 +24,7 @@ pub struct Kept {
 }
 
 // What a command does to the page's state
-#[derive(Clone, Copy)]
+#[derive(Drop)]
 pub enum Turn {
     Stay,
     // sideways by a distance in a stride
@@ -48,7 +46,7 @@ pub enum Turn {
 }
 
 // What a command asks, and a hint for the next character's search
-#[derive(Clone, Copy)]
+#[derive(Drop)]
 pub struct Asked {
     pub turn: Turn,
     pub adds: Adds,
@@ -56,7 +54,7 @@ pub struct Asked {
 }
 
 // What the command at a place asks, and the place after it
-#[derive(Clone, Copy)]
+#[derive(Drop)]
 pub struct Step {
     pub asked: Asked,
     pub next: usize,

@@ -89,33 +89,33 @@ apart_mul a b c p q d x y = q d (euclid d a b (λ e u v. p e v (dvd_trans e u y)
 
 -- a fraction whose terms are apart, with both terms times g, has them as its lowest terms
 module _ (p q g : ℕ) (h : 0 < g) (a : Apart p q) where
-  gcd-is : common_divisor (p * g) (q * g) ≡ g
-  gcd-is = gcd_scale g h p q ∙ ap (λ (x : ℕ). x * g) (apart_gcd p q a) ∙ one-mul g
+  gcd_is : common_divisor (p * g) (q * g) ≡ g
+  gcd_is = gcd_scale g h p q ∙ ap (λ (x : ℕ). x * g) (apart_gcd p q a) ∙ one-mul g
 
-  pub lowest-is : lowest (p * g) (q * g) ≡ ratio p q
+  pub lowest_is : lowest (p * g) (q * g) ≡ ratio p q
   unfolding lowest
-  lowest-is = ap (λ (x : ℕ). ratio (p * g / x) (q * g / x)) gcd-is ∙ ap₂ ratio (mul-div_cancel p h) (mul-div_cancel q h)
+  lowest_is = ap (λ (x : ℕ). ratio (p * g / x) (q * g / x)) gcd_is ∙ ap₂ ratio (mul-div_cancel p h) (mul-div_cancel q h)
 
 pub gcd_pos : (a b : ℕ) → 0 < a → 0 < common_divisor a b
 gcd_pos a b h = pos_of_dvd_of_pos (gcd_divides a b).0 h
 
 -- the terms divided by their common divisor are apart, and times it they are the terms again
 module _ (a b : ℕ) (h : 0 < a) where
-  pub back-num : (lowest a b).p * common_divisor a b ≡ a
+  pub back_num : (lowest a b).p * common_divisor a b ≡ a
   unfolding lowest
-  back-num = div-mul_cancel (common_divisor a b) (gcd_divides a b).0
+  back_num = div-mul_cancel (common_divisor a b) (gcd_divides a b).0
 
-  pub back-den : (lowest a b).q * common_divisor a b ≡ b
+  pub back_den : (lowest a b).q * common_divisor a b ≡ b
   unfolding lowest
-  back-den = div-mul_cancel (common_divisor a b) (gcd_divides a b).1
+  back_den = div-mul_cancel (common_divisor a b) (gcd_divides a b).1
 
-  pub lowest-apart : Apart (lowest a b).p (lowest a b).q
-  lowest-apart d x y =
+  pub lowest_apart : Apart (lowest a b).p (lowest a b).q
+  lowest_apart d x y =
       eq-one_of_dvd-one (dvd_of_mul-dvd-mul_right d (gcd_pos a b h)
       (subst (λ (z : ℕ). d * common_divisor a b ∣ z) (sym (one-mul (common_divisor a b)))
       (gcd_greatest (d * common_divisor a b) a b
-      (subst (λ (z : ℕ). d * common_divisor a b ∣ z) back-num (mul-dvd-mul_right d x (common_divisor a b)))
-      (subst (λ (z : ℕ). d * common_divisor a b ∣ z) back-den (mul-dvd-mul_right d y (common_divisor a b))))))
+      (subst (λ (z : ℕ). d * common_divisor a b ∣ z) back_num (mul-dvd-mul_right d x (common_divisor a b)))
+      (subst (λ (z : ℕ). d * common_divisor a b ∣ z) back_den (mul-dvd-mul_right d y (common_divisor a b))))))
 
 -- lowest terms are unique: terms that are apart and have the same cross products are the lowest terms
 pub unique : (n d p q : ℕ) → 0 < n → 0 < p → Apart p q → n * q ≡ p * d → lowest n d ≡ ratio p q
@@ -128,13 +128,13 @@ unique n d p q hn hp a e = ap₂ ratio num (eq_of_mul-eq-mul_left p hp (lowest n
         (mul_assoc (lowest n d).p q (common_divisor n d)
         ∙ ap (λ (x : ℕ). (lowest n d).p * x) (mul_comm q (common_divisor n d))
         ∙ sym (mul_assoc (lowest n d).p (common_divisor n d) q)
-        ∙ ap (λ (x : ℕ). x * q) (back-num n d hn)
+        ∙ ap (λ (x : ℕ). x * q) (back_num n d hn)
         ∙ e
-        ∙ ap (λ (x : ℕ). p * x) (sym (back-den n d hn))
+        ∙ ap (λ (x : ℕ). p * x) (sym (back_den n d hn))
         ∙ sym (mul_assoc p (lowest n d).q (common_divisor n d)))
 
     num : (lowest n d).p ≡ p
     num =
         dvd_antisymm
-        (euclid (lowest n d).p (lowest n d).q p (lowest-apart n d hn) (subst (λ (x : ℕ). (lowest n d).p ∣ x) (cross ∙ mul_comm p (lowest n d).q) (dvd-mul_right (lowest n d).p q)))
+        (euclid (lowest n d).p (lowest n d).q p (lowest_apart n d hn) (subst (λ (x : ℕ). (lowest n d).p ∣ x) (cross ∙ mul_comm p (lowest n d).q) (dvd-mul_right (lowest n d).p q)))
         (euclid p q (lowest n d).p a (subst (λ (x : ℕ). p ∣ x) (sym cross ∙ mul_comm (lowest n d).p q) (dvd-mul_right p (lowest n d).q)))

@@ -19,13 +19,13 @@ module _ {k : Ratio} (a : Workable k) (m : ℕ) where
   pub product_small : m ≤ 2 ^ 31 → k.p * m ≤ 1073741823 * 2 ^ 31
   product_small h = mul-le-mul a.small h
 
-  pub twice-small : m ≤ 2 ^ 31 → 2 * k.p * m ≤ 2 * 1073741823 * 2 ^ 31
-  twice-small h = mul-le-mul (mul-le-mul_left 2 a.small) h
+  pub twice_small : m ≤ 2 ^ 31 → 2 * k.p * m ≤ 2 * 1073741823 * 2 ^ 31
+  twice_small h = mul-le-mul (mul-le-mul_left 2 a.small) h
 
   -- K is at most 1/2
-  pub nearest-half : nearest_whole k m + nearest_whole k m ≤ m + 1
+  pub nearest_half : nearest_whole k m + nearest_whole k m ≤ m + 1
   unfolding nearest_whole
-  nearest-half =
+  nearest_half =
       let x = (2 * k.p * m + k.q) / (2 * k.q) in
       let low : x * (2 * k.q) ≤ 2 * k.p * m + k.q = div-mul-le_self (2 * k.p * m + k.q) (2 * k.q) in
       let half : 2 * k.p * m ≤ k.q * m = mul-le-mul_right m a.half in
@@ -35,7 +35,7 @@ module _ {k : Ratio} (a : Workable k) (m : ℕ) where
 
 -- |rounded n| ≤ (|n| + 1) / 2
 pub rounded_half : {k : Ratio} (a : Workable k) (n : ℤ) → nat_abs (rounded k n) + nat_abs (rounded k n) ≤ nat_abs n + 1
-rounded_half {k} a n = subst (λ (m : ℕ). m + m ≤ nat_abs n + 1) (sym (abs_sign n (nearest_whole k (nat_abs n)))) (nearest-half a (nat_abs n))
+rounded_half {k} a n = subst (λ (m : ℕ). m + m ≤ nat_abs n + 1) (sym (abs_sign n (nearest_whole k (nat_abs n)))) (nearest_half a (nat_abs n))
 
 -- rounded 0 is 0
 pub rounded_zero : (k : Ratio) → rounded k (pos 0) ≡ pos 0
@@ -83,9 +83,9 @@ module _ {k : Ratio} (a : Workable k) where
       omega arith
 
   -- a rounded-up distance is no longer than the distance
-  pub up-within : (n : ℤ) → nat_abs (rounded_up k n) ≤ nat_abs n
-  up-within (pos m) = up_small m
-  up-within (negsuc m) =
+  pub up_within : (n : ℤ) → nat_abs (rounded_up k n) ≤ nat_abs n
+  up_within (pos m) = up_small m
+  up_within (negsuc m) =
       rw (abs_neg (pos (k.p * suc m / k.q)))
       (let less : k.p * suc m / k.q < suc m + 1 =
       (div-lt_iff_lt-mul a.q_positive).1 (omega (arith, a.q_positive, mul-le-mul_right (suc m) a.half, two-mul k.p, add-mul k.p k.p (suc m), add-mul (suc m) 1 k.q, one-mul k.q, mul_comm (suc m) k.q)) in

@@ -20,15 +20,15 @@ module _ (k : Ratio) (some : 0 < k.q) where
 
   module _ (m : ℕ) where
     -- the nearest whole number is at most a half off
-    nearest-low : nearest_whole k m * q + nearest_whole k m * q ≤ p * m + p * m + q
+    nearest_low : nearest_whole k m * q + nearest_whole k m * q ≤ p * m + p * m + q
     unfolding nearest_whole
-    nearest-low =
+    nearest_low =
         let x = nearest_whole k m in
         omega (arith, div-mul-le_self (2 * p * m + q) (2 * q), ap (λ (t : ℕ). x * t) (two-mul q), mul-add x q q, ap (λ (t : ℕ). t * m) (two-mul p), add-mul p p m)
 
-    nearest-high : p * m + p * m < nearest_whole k m * q + nearest_whole k m * q + q
+    nearest_high : p * m + p * m < nearest_whole k m * q + nearest_whole k m * q + q
     unfolding nearest_whole
-    nearest-high =
+    nearest_high =
         let x = nearest_whole k m in
         let wide : 0 < 2 * q = omega (arith, some) in
         let high : 2 * p * m + q < (x + 1) * (2 * q) = (div-lt_iff_lt-mul wide).0 (omega arith) in
@@ -41,14 +41,14 @@ module _ (k : Ratio) (some : 0 < k.q) where
     cut_high : p * m < p * m / q * q + q
     cut_high = let x = p * m / q in let high : p * m < (x + 1) * q = (div-lt_iff_lt-mul some).0 (omega arith) in omega (arith, high, add-mul x 1 q, one-mul q)
 
-    up-low : p * m ≤ (p * m + (q - 1)) / q * q
-    up-low =
+    up_low : p * m ≤ (p * m + (q - 1)) / q * q
+    up_low =
         let x = (p * m + (q - 1)) / q in
         let high : p * m + (q - 1) < (x + 1) * q = (div-lt_iff_lt-mul some).0 (omega arith) in
         omega (arith, high, add-mul x 1 q, one-mul q, some)
 
-    up-high : (p * m + (q - 1)) / q * q < p * m + q
-    up-high = omega (arith, div-mul-le_self (p * m + (q - 1)) q, some)
+    up_high : (p * m + (q - 1)) / q * q < p * m + q
+    up_high = omega (arith, div-mul-le_self (p * m + (q - 1)) q, some)
 
   -- ---- of a signed number, with no minus on either side
 
@@ -59,21 +59,21 @@ module _ (k : Ratio) (some : 0 < k.q) where
     abbrev above : ℤ
     above = rounded_up k z
 
-  rounded-low : (z : ℤ) → up (near z) * q + up (near z) * q + (p * dn z + p * dn z) ≤ p * up z + p * up z + (dn (near z) * q + dn (near z) * q) + q
-  rounded-low (pos m) = omega (arith, nearest-low m)
-  rounded-low (negsuc m) = rw (up_neg (pos (nearest_whole k (suc m))), dn_neg (pos (nearest_whole k (suc m)))) (omega (arith, nearest-high (suc m)))
+  rounded_low : (z : ℤ) → up (near z) * q + up (near z) * q + (p * dn z + p * dn z) ≤ p * up z + p * up z + (dn (near z) * q + dn (near z) * q) + q
+  rounded_low (pos m) = omega (arith, nearest_low m)
+  rounded_low (negsuc m) = rw (up_neg (pos (nearest_whole k (suc m))), dn_neg (pos (nearest_whole k (suc m)))) (omega (arith, nearest_high (suc m)))
 
-  rounded-high : (z : ℤ) → p * up z + p * up z + (dn (near z) * q + dn (near z) * q) ≤ up (near z) * q + up (near z) * q + (p * dn z + p * dn z) + q
-  rounded-high (pos m) = omega (arith, nearest-high m)
-  rounded-high (negsuc m) = rw (up_neg (pos (nearest_whole k (suc m))), dn_neg (pos (nearest_whole k (suc m)))) (omega (arith, nearest-low (suc m)))
+  rounded_high : (z : ℤ) → p * up z + p * up z + (dn (near z) * q + dn (near z) * q) ≤ up (near z) * q + up (near z) * q + (p * dn z + p * dn z) + q
+  rounded_high (pos m) = omega (arith, nearest_high m)
+  rounded_high (negsuc m) = rw (up_neg (pos (nearest_whole k (suc m))), dn_neg (pos (nearest_whole k (suc m)))) (omega (arith, nearest_low (suc m)))
 
-  raised-low : (z : ℤ) → p * up z + dn (above z) * q ≤ up (above z) * q + p * dn z
-  raised-low (pos m) = omega (arith, up-low m)
-  raised-low (negsuc m) = rw (up_neg (pos (p * suc m / q)), dn_neg (pos (p * suc m / q))) (omega (arith, cut_low (suc m)))
+  raised_low : (z : ℤ) → p * up z + dn (above z) * q ≤ up (above z) * q + p * dn z
+  raised_low (pos m) = omega (arith, up_low m)
+  raised_low (negsuc m) = rw (up_neg (pos (p * suc m / q)), dn_neg (pos (p * suc m / q))) (omega (arith, cut_low (suc m)))
 
-  raised-high : (z : ℤ) → up (above z) * q + p * dn z < p * up z + dn (above z) * q + q
-  raised-high (pos m) = omega (arith, up-high m)
-  raised-high (negsuc m) = rw (up_neg (pos (p * suc m / q)), dn_neg (pos (p * suc m / q))) (omega (arith, cut_high (suc m)))
+  raised_high : (z : ℤ) → up (above z) * q + p * dn z < p * up z + dn (above z) * q + q
+  raised_high (pos m) = omega (arith, up_high m)
+  raised_high (negsuc m) = rw (up_neg (pos (p * suc m / q)), dn_neg (pos (p * suc m / q))) (omega (arith, cut_high (suc m)))
 
   -- ---- a sum
 
@@ -85,34 +85,34 @@ module _ (k : Ratio) (some : 0 < k.q) where
     abbrev behind : ℕ
     behind = dn (near h) + dn (above b) + up (near (h +ℤ b))
 
-    scaled-sum : p * up (h +ℤ b) + (p * dn h + p * dn b) ≡ p * dn (h +ℤ b) + (p * up h + p * up b)
-    scaled-sum =
+    scaled_sum : p * up (h +ℤ b) + (p * dn h + p * dn b) ≡ p * dn (h +ℤ b) + (p * up h + p * up b)
+    scaled_sum =
         let left : p * (up (h +ℤ b) + (dn h + dn b)) ≡ p * up (h +ℤ b) + (p * dn h + p * dn b) = simp (mul-add) in
         let right : p * (dn (h +ℤ b) + (up h + up b)) ≡ p * dn (h +ℤ b) + (p * up h + p * up b) = simp (mul-add) in
         sym left ∙ ap (λ (t : ℕ). p * t) (sum h b) ∙ right
 
     -- in units of 1/q
-    ahead-is : ahead * q ≡ up (near h) * q + up (above b) * q + dn (near (h +ℤ b)) * q
-    ahead-is = simp (add-mul)
+    ahead_is : ahead * q ≡ up (near h) * q + up (above b) * q + dn (near (h +ℤ b)) * q
+    ahead_is = simp (add-mul)
 
-    behind-is : behind * q ≡ dn (near h) * q + dn (above b) * q + up (near (h +ℤ b)) * q
-    behind-is = simp (add-mul)
+    behind_is : behind * q ≡ dn (near h) * q + dn (above b) * q + up (near (h +ℤ b)) * q
+    behind_is = simp (add-mul)
 
-    one-ahead : ahead ≤ behind + 1
-    one-ahead =
-        let less : ahead * q < (behind + 2) * q = omega (arith, ahead-is, behind-is, add-mul behind 2 q, two-mul q, scaled-sum, rounded-low h, raised-high b, rounded-high (h +ℤ b)) in
+    one_ahead : ahead ≤ behind + 1
+    one_ahead =
+        let less : ahead * q < (behind + 2) * q = omega (arith, ahead_is, behind_is, add-mul behind 2 q, two-mul q, scaled_sum, rounded_low h, raised_high b, rounded_high (h +ℤ b)) in
         omega (arith, lt_of_mul-lt-mul_right q {m = ahead} {n = behind + 2} less)
 
-    one-behind : behind ≤ ahead + 1
-    one-behind =
-        let most : behind * q ≤ (ahead + 1) * q = omega (arith, ahead-is, behind-is, add-mul ahead 1 q, one-mul q, scaled-sum, rounded-high h, raised-low b, rounded-low (h +ℤ b)) in
+    one_behind : behind ≤ ahead + 1
+    one_behind =
+        let most : behind * q ≤ (ahead + 1) * q = omega (arith, ahead_is, behind_is, add-mul ahead 1 q, one-mul q, scaled_sum, rounded_high h, raised_low b, rounded_low (h +ℤ b)) in
         le_of_mul-le-mul_right {m = behind} {n = ahead + 1} most some
 
-    one-apart-some : nat_abs ((near h +ℤ above b) -ℤ near (h +ℤ b)) ≤ 1
-    one-apart-some =
+    one_apart_some : nat_abs ((near h +ℤ above b) -ℤ near (h +ℤ b)) ≤ 1
+    one_apart_some =
         let e = sum (near h) (above b) in
         let d = diff (near h +ℤ above b) (near (h +ℤ b)) in
-        abs_within ((near h +ℤ above b) -ℤ near (h +ℤ b)) 1 (omega (arith, e, d, one-ahead)) (omega (arith, e, d, one-behind))
+        abs_within ((near h +ℤ above b) -ℤ near (h +ℤ b)) 1 (omega (arith, e, d, one_ahead)) (omega (arith, e, d, one_behind))
 
 -- ---- whatever K is: where q is 0, all is rounded to 0
 
@@ -121,18 +121,18 @@ module _ (k : Ratio) (none : k.q ≡ 0) where
   unfolding nearest_whole
   flat m = rw none (div-zero (2 * k.p * m + 0))
 
-  rounded-flat : (z : ℤ) → rounded k z ≡ pos 0
-  rounded-flat (pos m) = ap pos (flat m)
-  rounded-flat (negsuc m) = ap (λ (x : ℕ). neg_ℤ (pos x)) (flat (suc m))
+  rounded_flat : (z : ℤ) → rounded k z ≡ pos 0
+  rounded_flat (pos m) = ap pos (flat m)
+  rounded_flat (negsuc m) = ap (λ (x : ℕ). neg_ℤ (pos x)) (flat (suc m))
 
-  raised-flat : (z : ℤ) → rounded_up k z ≡ pos 0
-  raised-flat (pos m) = rw none (ap pos (div-zero (k.p * m + (0 - 1))))
-  raised-flat (negsuc m) = rw none (ap (λ (x : ℕ). neg_ℤ (pos x)) (div-zero (k.p * suc m)))
+  raised_flat : (z : ℤ) → rounded_up k z ≡ pos 0
+  raised_flat (pos m) = rw none (ap pos (div-zero (k.p * m + (0 - 1))))
+  raised_flat (negsuc m) = rw none (ap (λ (x : ℕ). neg_ℤ (pos x)) (div-zero (k.p * suc m)))
 
 -- a rounded position and a distance rounded up make the rounded sum, or one pixel more or less
 pub one_apart : (k : Ratio) (h b : ℤ) → nat_abs ((rounded k h +ℤ rounded_up k b) -ℤ rounded k (h +ℤ b)) ≤ 1
 one_apart k h b = by k.q refl
   where
     by : (q : ℕ) → k.q ≡ q → nat_abs ((rounded k h +ℤ rounded_up k b) -ℤ rounded k (h +ℤ b)) ≤ 1
-    by zero e = rw (rounded-flat k e h, raised-flat k e b, rounded-flat k e (h +ℤ b)) (omega arith)
-    by (suc q) e = one-apart-some k (omega (arith, e)) h b
+    by zero e = rw (rounded_flat k e h, raised_flat k e b, rounded_flat k e (h +ℤ b)) (omega arith)
+    by (suc q) e = one_apart_some k (omega (arith, e)) h b

@@ -24,15 +24,15 @@ use Rattle.volume.specs.Judged.{summary, tail, judged_from, judged}
 use Rattle.volume.specs.History.{history_from, history}
 use Rattle.list.specs.Steps.{volume_of, after_of, table_after, Tells, Agrees}
 use Rattle.volume.specs.Steps.{Going, is_plain, Passes, none_more, one_more}
-use Rattle.list.proofs.FaultLaws.{all-kept}
-use Rattle.volume.proofs.Turns.{judged-cut, judged-undefined, judged-faulty, judged-last, judged-onward, history-last, history-onward}
+use Rattle.list.proofs.FaultLaws.{all_kept}
+use Rattle.volume.proofs.Turns.{judged_cut, judged_undefined, judged_faulty, judged_last, judged_onward, history_last, history_onward}
 use Rattle.volume.proofs.Bounds.{depth_reached}
-use Rattle.volume.proofs.Tables.{tells-after, standing-after, lawfully-after}
-use Rattle.volume.proofs.PlainLaws.{placed_at, plain-after, plain_table, plain-fault, plain-not-last}
+use Rattle.volume.proofs.Tables.{tells_after, standing_after, lawfully_after}
+use Rattle.volume.proofs.PlainLaws.{placed_at, plain_after, plain_table, plain_fault, plain_not_last}
 
 -- a definition that keeps the rules has a lawful number
 pub lawful_number : (past : List Command) (c : Command) → fault past c ≡ 0 → is (kind_of_command c) Define ≡ true → lawful_font (font_number c) ≡ true
-lawful_number past c clean t = first (is_a Define c) t (lawful_definition past c) refl (is_a PostPost c && font_left_out past) (all-kept past c clean).definition
+lawful_number past c clean t = first (is_a Define c) t (lawful_definition past c) refl (is_a PostPost c && font_left_out past) (all_kept past c clean).definition
   where
     first : (d : Bool) → d ≡ true → (l : Bool) → lawful_definition past c ≡ l → (e : Bool) → ((d && not l) || e) ≡ false → lawful_font (font_number c) ≡ true
     first true t true q e h = ((and-eq-true_iff (lawful_font (font_number c)) _).0 q).0
@@ -77,40 +77,40 @@ module _ {file : List ℕ} {page : ℕ} {v : Volume} {fonts again : List ℕ} (g
       by (suc left) e = next left e
 
   -- what stands at the place that the code holds, stands after the commands so far
-  ahead-is : {x : Front} → front (drop v.at file) ≡ x → front (drop (place g.past) file) ≡ x
-  ahead-is {x} e = subst (λ (n : ℕ). front (drop n file) ≡ x) at_is e
+  ahead_is : {x : Front} → front (drop v.at file) ≡ x → front (drop (place g.past) file) ≡ x
+  ahead_is {x} e = subst (λ (n : ℕ). front (drop n file) ≡ x) at_is e
 
   -- no command was read
-  pub turn-unread : (number at : ℕ) → read_at file v.at ≡ refused number at → judged file ≡ refused number at
-  turn-unread number at e =
+  pub turn_unread : (number at : ℕ) → read_at file v.at ≡ refused number at → judged file ≡ refused number at
+  turn_unread number at e =
       more (λ left enough. g.judgement ∙ ap (λ (n : ℕ). judged_from n g.past (drop (place g.past) file)) enough
       ∙ by left (front (drop (place g.past) file)) refl (subst (λ (n : ℕ). reading n (front (drop n file)) ≡ refused number at) at_is e))
     where
       by : (left : ℕ) (x : Front) → front (drop (place g.past) file) ≡ x → reading (place g.past) x ≡ refused number at
           → judged_from (suc left) g.past (drop (place g.past) file) ≡ refused number at
-      by left cut q r = let n : file_ends ≡ number = cc in let p : place g.past ≡ at = cc in judged-cut left g.past _ q ∙ ap₂ refused n p
-      by left undefined q r = let n : undefined_opcode ≡ number = cc in let p : place g.past ≡ at = cc in judged-undefined left g.past _ q ∙ ap₂ refused n p
+      by left cut q r = let n : file_ends ≡ number = cc in let p : place g.past ≡ at = cc in judged_cut left g.past _ q ∙ ap₂ refused n p
+      by left undefined q r = let n : undefined_opcode ≡ number = cc in let p : place g.past ≡ at = cc in judged_undefined left g.past _ q ∙ ap₂ refused n p
       by left (whole c rest) q r = let z : ◌≡◌ {A = ℕ} 0 1 = cc in absurd (omega arith)
 
   -- a command was read
   module _ (c : Command) (rest : List ℕ) (ahead : front (drop v.at file) ≡ whole c rest) where
     -- it breaks a rule
-    pub turn-faulty : (n : ℕ) → fault g.past c ≡ n → (n ≡ 0 → ⊥) → judged file ≡ refused n v.at
-    turn-faulty n e h =
+    pub turn_faulty : (n : ℕ) → fault g.past c ≡ n → (n ≡ 0 → ⊥) → judged file ≡ refused n v.at
+    turn_faulty n e h =
         more (λ left enough. g.judgement ∙ ap (λ (m : ℕ). judged_from m g.past (drop (place g.past) file)) enough
-        ∙ judged-faulty left g.past _ c rest (ahead-is ahead) n e h ∙ ap (refused n) (sym at_is))
+        ∙ judged_faulty left g.past _ c rest (ahead_is ahead) n e h ∙ ap (refused n) (sym at_is))
 
     module _ (clean : fault g.past c ≡ 0) where
       -- it ends the list
       pub turn_last : is_a PostPost c ≡ true → judged file ≡ tail (summary (c ∷ g.past)) (place (c ∷ g.past)) 0 rest
       turn_last l =
           more (λ left enough. g.judgement ∙ ap (λ (m : ℕ). judged_from m g.past (drop (place g.past) file)) enough
-          ∙ judged-last left g.past _ c rest (ahead-is ahead) clean l)
+          ∙ judged_last left g.past _ c rest (ahead_is ahead) clean l)
 
-      pub told-last : is_a PostPost c ≡ true → history file ≡ c ∷ g.past
-      told-last l =
+      pub told_last : is_a PostPost c ≡ true → history file ≡ c ∷ g.past
+      told_last l =
           more (λ left enough. g.told ∙ ap (λ (m : ℕ). history_from m g.past (drop (place g.past) file)) enough
-          ∙ history-last left g.past _ c rest (ahead-is ahead) l)
+          ∙ history_last left g.past _ c rest (ahead_is ahead) l)
 
       -- what the code holds after it
       pub agrees_after : Agrees file page (after_of page v (kind_of_command c) c.params)
@@ -125,18 +125,18 @@ module _ {file : List ℕ} {page : ℕ} {v : Volume} {fonts again : List ℕ} (g
           let named = lawful_number p c clean in
           record {
             state = ap (λ (w : Volume). after_of page w (kind_of_command c) c.params) a.state;
-            early = subst (λ (t : List ℕ). Tells false t (c ∷ p)) (ap₂ (table false fonts) stage_is place_is) (tells-after p c named false fonts a.early);
-            late = subst (λ (t : List ℕ). Tells true t (c ∷ p)) (ap₂ (table true again) stage_is place_is) (tells-after p c named true again a.late);
-            standing = standing-after p c named file rest (ahead-is ahead) a.standing;
-            lawfully = lawfully-after p c named a.lawfully;
+            early = subst (λ (t : List ℕ). Tells false t (c ∷ p)) (ap₂ (table false fonts) stage_is place_is) (tells_after p c named false fonts a.early);
+            late = subst (λ (t : List ℕ). Tells true t (c ∷ p)) (ap₂ (table true again) stage_is place_is) (tells_after p c named true again a.late);
+            standing = standing_after p c named file rest (ahead_is ahead) a.standing;
+            lawfully = lawfully_after p c named a.lawfully;
           }
 
       -- the list goes on
-      pub turn-onward : is_a PostPost c ≡ false → rest ≡ drop (place (c ∷ g.past)) file → place (c ∷ g.past) ≤ length file
+      pub turn_onward : is_a PostPost c ≡ false → rest ≡ drop (place (c ∷ g.past)) file → place (c ∷ g.past) ≤ length file
           → Going file page (after_of page v (kind_of_command c) c.params)
           (table_after false v.stage (kind_of_command c) c.opcode c.params v.at fonts)
           (table_after true v.stage (kind_of_command c) c.opcode c.params v.at again)
-      turn-onward l after inside =
+      turn_onward l after inside =
           more (λ left enough.
           record {
             past = c ∷ g.past;
@@ -144,10 +144,10 @@ module _ {file : List ℕ} {page : ℕ} {v : Volume} {fonts again : List ℕ} (g
             agrees = agrees_after;
             judgement =
                 g.judgement ∙ ap (λ (m : ℕ). judged_from m g.past (drop (place g.past) file)) enough
-                ∙ judged-onward left g.past _ c rest (ahead-is ahead) clean l ∙ ap (judged_from left (c ∷ g.past)) after;
+                ∙ judged_onward left g.past _ c rest (ahead_is ahead) clean l ∙ ap (judged_from left (c ∷ g.past)) after;
             told =
                 g.told ∙ ap (λ (m : ℕ). history_from m g.past (drop (place g.past) file)) enough
-                ∙ history-onward left g.past _ c rest (ahead-is ahead) l ∙ ap (history_from left (c ∷ g.past)) after;
+                ∙ history_onward left g.past _ c rest (ahead_is ahead) l ∙ ap (history_from left (c ∷ g.past)) after;
             enough = omega (arith, g.enough);
             inside = inside;
             short = g.short;
@@ -173,8 +173,8 @@ pub turn_to : {file : List ℕ} {page : ℕ} {v : Volume} {fonts again : List �
     → table_after true v.stage (kind_of_command c) c.opcode c.params v.at again ≡ again
     → Going file page w fonts again
 turn_to {file} {page} {v} {fonts} {again} g c rest ahead clean goes {w} after early late =
-    let follows = after_command file (place g.past) c rest (ahead-is g ahead) in
-    let turn = turn-onward g c rest ahead clean goes follows.0 follows.1 in
+    let follows = after_command file (place g.past) c rest (ahead_is g ahead) in
+    let turn = turn_onward g c rest ahead clean goes follows.0 follows.1 in
     let noted = table_after true v.stage (kind_of_command c) c.opcode c.params v.at again in
     subst (Going file page w fonts) late
     (subst (λ (table : List ℕ). Going file page w table noted) early
@@ -194,9 +194,9 @@ plain_turn : {file : List ℕ} {page : ℕ} {v : Volume} {fonts again : List ℕ
 plain_turn {page = page} {v = v} {fonts = fonts} {again = again} g on_page with-font c rest ahead t =
     let state = g.agrees.state in
     let stage_is : stage g.past ≡ OnPage = sym (ap (λ (w : Volume). w.stage) state) ∙ on_page in
-    let font-is : selected g.past ≡ true = sym (ap (λ (w : Volume). w.selected) state) ∙ with-font in
+    let font_is : selected g.past ≡ true = sym (ap (λ (w : Volume). w.selected) state) ∙ with-font in
     let deep : v.depth ≤ v.greatest = subst (λ (w : Volume). w.depth ≤ w.greatest) (sym state) (depth_reached g.past) in
-    turn_to g c rest ahead (plain-fault g.past c stage_is font-is t) (plain-not-last g.past c stage_is font-is t) (plain-after page v c.params (kind_of_command c) t deep)
+    turn_to g c rest ahead (plain_fault g.past c stage_is font_is t) (plain_not_last g.past c stage_is font_is t) (plain_after page v c.params (kind_of_command c) t deep)
     (plain_table false v.stage (kind_of_command c) t c.opcode c.params v.at fonts) (plain_table true v.stage (kind_of_command c) t c.opcode c.params v.at again)
 
 -- on a page, with a font selected, the code may go to any place that a run of plain commands leads to

@@ -16,8 +16,8 @@ use Rattle.list.specs.Past.{Definition, none, stands, definition_of}
 use Rattle.list.specs.Rules.{lawful_font}
 use Rattle.volume.specs.Names.{named_by}
 use Rattle.list.specs.Steps.{entry_of, Tells, StandsIn, AllStanding, Lawfully, saying_part, SayingAt}
-use Rattle.list.proofs.FontTables.{lawful_in, definition_kind, told-entry, told_none}
-use Rattle.list.proofs.Sayings.{body-long, body-all}
+use Rattle.list.proofs.FontTables.{lawful_in, definition_kind, told_entry, told_none}
+use Rattle.list.proofs.Sayings.{body_long, body_all}
 
 -- a font of no lawful number has no name
 pub no_number : (past : List Command) (number : ℤ) → Lawfully past → lawful_font number ≡ false → refused no_font 0 ≡ named_by (definition_of false number past)
@@ -34,27 +34,27 @@ module _ (file fonts : List ℕ) (number : ℤ) (past : List Command) (tells : T
     pub rest : List ℕ
     pub defined : definition_of false number past ≡ stands at c
     pub ahead : front (drop at file) ≡ whole c rest
-    pub kind-is : kind_of_command c ≡ Define
+    pub kind_is : kind_of_command c ≡ Define
 
   pub leads : (get_or fonts (nat_abs number) 0 ≡ 0 → ⊥) → Leads (get_or fonts (nat_abs number) 0 - 1)
   leads some = by (definition_of false number past) refl (subst (λ (z : ℤ). StandsIn file (definition_of false z past)) (lawful_in number lawful).2 (standing (nat_abs number)))
     where
       by : (d : Definition) → definition_of false number past ≡ d → StandsIn file d → Leads (get_or fonts (nat_abs number) 0 - 1)
-      by none q s = absurd (some (told-entry tells number lawful ∙ ap entry_of q))
+      by none q s = absurd (some (told_entry tells number lawful ∙ ap entry_of q))
       by (stands at c) q s =
-          let e : get_or fonts (nat_abs number) 0 ≡ at + 1 = told-entry tells number lawful ∙ ap entry_of q in
+          let e : get_or fonts (nat_abs number) 0 ≡ at + 1 = told_entry tells number lawful ∙ ap entry_of q in
           let back : at ≡ get_or fonts (nat_abs number) 0 - 1 = omega arith in
-          subst Leads back (record { c = c; rest = s.0; defined = q; ahead = s.1; kind-is = definition_kind false number past q })
+          subst Leads back (record { c = c; rest = s.0; defined = q; ahead = s.1; kind_is = definition_kind false number past q })
 
   -- the part that holds what the definition says, and the name at its end
   module _ {at : ℕ} (l : Leads at) (r : Part) (saying : SayingAt file at r) where
-    pub said-there : r ≡ saying_part at l.c
-    said-there = saying.2 l.c l.rest l.ahead l.kind-is
+    pub said_there : r ≡ saying_part at l.c
+    said_there = saying.2 l.c l.rest l.ahead l.kind_is
 
-    pub said-long : definition_name ≤ r.end - r.start
-    said-long = subst (λ (part : Part). definition_name ≤ part.end - part.start) (sym said-there) (omega (arith, body-all file at l.ahead l.kind-is, body-long file at l.ahead l.kind-is))
+    pub said_long : definition_name ≤ r.end - r.start
+    said_long = subst (λ (part : Part). definition_name ≤ part.end - part.start) (sym said_there) (omega (arith, body_all file at l.ahead l.kind_is, body_long file at l.ahead l.kind_is))
 
     pub name_is : given (record { start = r.start + definition_name; end = r.end }) ≡ named_by (definition_of false number past)
     name_is =
-        ap (λ (part : Part). given (record { start = part.start + definition_name; end = part.end })) said-there
+        ap (λ (part : Part). given (record { start = part.start + definition_name; end = part.end })) said_there
         ∙ ap named_by (sym l.defined)

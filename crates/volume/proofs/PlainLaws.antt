@@ -50,15 +50,15 @@ module _ (page : ℕ) (v : Volume) (params : List ℕ) where
   abbrev next : ℕ
   next = v.at + (1 + length params)
 
-  plain-compared : (kind : Kind) → is_plain kind ≡ true → after_of page v kind params ≡ changed v v.stage next v.depth (max v.greatest v.depth)
-  plain-compared =
+  plain_compared : (kind : Kind) → is_plain kind ≡ true → after_of page v kind params ≡ changed v v.stage next v.depth (max v.greatest v.depth)
+  plain_compared =
       plain_cases (λ kind. after_of page v kind params ≡ changed v v.stage next v.depth (max v.greatest v.depth))
       refl refl refl refl refl refl refl refl refl refl refl
 
-  pub plain-after : (kind : Kind) → is_plain kind ≡ true → v.depth ≤ v.greatest → after_of page v kind params ≡ placed_at v next
-  plain-after kind t h =
+  pub plain_after : (kind : Kind) → is_plain kind ≡ true → v.depth ≤ v.greatest → after_of page v kind params ≡ placed_at v next
+  plain_after kind t h =
       let e : max v.greatest v.depth ≡ v.greatest = omega arith in
-      plain-compared kind t ∙ ap (changed v v.stage next v.depth) e
+      plain_compared kind t ∙ ap (changed v v.stage next v.depth) e
 
 pub plain_table : (after : Bool) (at_stage : Stage) (kind : Kind) → is_plain kind ≡ true → (opcode : ℕ) (params : List ℕ) (at : ℕ) (table : List ℕ)
     → table_after after at_stage kind opcode params at table ≡ table
@@ -67,8 +67,8 @@ plain_table after at_stage kind t opcode params at table =
 
 -- on a page, with a font selected, a plain command keeps every rule
 module _ (past : List Command) (c : Command) (on_page : stage past ≡ OnPage) (with-font : selected past ≡ true) where
-  pub plain-fault : is_plain (kind_of_command c) ≡ true → fault past c ≡ 0
-  plain-fault t = by (kind_of_command c) refl t
+  pub plain_fault : is_plain (kind_of_command c) ≡ true → fault past c ≡ 0
+  plain_fault t = by (kind_of_command c) refl t
     where
       by : (kind : Kind) → kind_of_command c ≡ kind → is_plain kind ≡ true → fault past c ≡ 0
       by kind e t =
@@ -77,6 +77,6 @@ module _ (past : List Command) (c : Command) (on_page : stage past ≡ OnPage) (
           (λ e. simp (e, on_page)) (λ e. simp (e, on_page)) (λ e. simp (e, on_page)) (λ e. simp (e, on_page)) (λ e. simp (e, on_page)) (λ e. simp (e, on_page))
           kind t e
 
-  pub plain-not-last : is_plain (kind_of_command c) ≡ true → is_a PostPost c ≡ false
-  plain-not-last t =
+  pub plain_not_last : is_plain (kind_of_command c) ≡ true → is_a PostPost c ≡ false
+  plain_not_last t =
       plain_cases (λ kind. Rattle.commands.specs.Kinds.is kind PostPost ≡ false) refl refl refl refl refl refl refl refl refl refl refl (kind_of_command c) t

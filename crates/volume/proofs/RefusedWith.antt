@@ -11,7 +11,7 @@ use lib.ListN.{length}
 use Rattle.refusals.specs.Numbers.{file_too_long, wrong_preamble, misplaced_command, wrong_depth, wrong_font_definition, no_font, wrong_pointer, wrong_postamble, wrong_tail}
 use Rattle.refusals.specs.Answer.{Answer, refused, given}
 use Rattle.refusals.specs.RefusedOnly.{RefusedOnly, FileRefusal, NameRefusal}
-use Rattle.refusals.proofs.RefusedOnly.{if-only, then-only, only_wider}
+use Rattle.refusals.proofs.RefusedOnly.{if_only, then_only, only_wider}
 use Rattle.commands.specs.declared.Kind.TheVariants.{PostPost}
 use Rattle.commands.specs.Commands.{Command, Front, cut, undefined, whole, front, place}
 use Rattle.commands.specs.Reading.{longest_file}
@@ -50,16 +50,16 @@ module _ (file : List ℕ) where
   May = FileRefusal file
 
   -- a command that may break a rule, and what follows it
-  on-fault : (at n : ℕ) (next : Unit {0} → Answer Summary) → RuleNumber n → suc at ≤ length file → RefusedOnly May (next tt) → RefusedOnly May (on_fault at n next)
-  on-fault at zero next number inside rest = rest
-  on-fault at (suc n) next (inl none-broken) inside rest = absurd (omega (arith, none-broken))
-  on-fault at (suc n) next (inr (low, high)) inside rest = inr (inr (inl (omega (arith, low), high, inside)))
+  on_fault_lem : (at n : ℕ) (next : Unit {0} → Answer Summary) → RuleNumber n → suc at ≤ length file → RefusedOnly May (next tt) → RefusedOnly May (on_fault at n next)
+  on_fault_lem at zero next number inside rest = rest
+  on_fault_lem at (suc n) next (inl none_broken) inside rest = absurd (omega (arith, none_broken))
+  on_fault_lem at (suc n) next (inr (low, high)) inside rest = inr (inr (inl (omega (arith, low), high, inside)))
 
   -- the bytes after post_post
-  tail-refused-with : (found : Summary) (at passed : ℕ) (bytes : List ℕ) → at + length bytes ≡ length file → RefusedOnly May (tail found at passed bytes)
+  tail_refused_with : (found : Summary) (at passed : ℕ) (bytes : List ℕ) → at + length bytes ≡ length file → RefusedOnly May (tail found at passed bytes)
   unfolding tail
-  tail-refused-with found at passed [] ends = if-only May (ltb passed 4) wrong_tail at (given found) (inr (inr (inr (refl, omega arith)))) tt
-  tail-refused-with found at passed (byte ∷ bytes) ends = by (eqb byte 223) (tail-refused-with found (suc at) (suc passed) bytes (omega arith))
+  tail_refused_with found at passed [] ends = if_only May (ltb passed 4) wrong_tail at (given found) (inr (inr (inr (refl, omega arith)))) tt
+  tail_refused_with found at passed (byte ∷ bytes) ends = by (eqb byte 223) (tail_refused_with found (suc at) (suc passed) bytes (omega arith))
     where
       by : (filler : Bool) → RefusedOnly May (tail found (suc at) (suc passed) bytes)
           → RefusedOnly {A = Summary} May (elim filler [ true ↦ tail found (suc at) (suc passed) bytes | false ↦ refused wrong_tail at ])
@@ -67,15 +67,15 @@ module _ (file : List ℕ) where
       by false rest = inr (inr (inr (refl, omega arith)))
 
   -- the bytes after the commands before
-  from-refused-with : (left : ℕ) (past : List Command) (bytes : List ℕ) → place past + length bytes ≡ length file → RefusedOnly May (judged_from left past bytes)
+  from_refused_with : (left : ℕ) (past : List Command) (bytes : List ℕ) → place past + length bytes ≡ length file → RefusedOnly May (judged_from left past bytes)
   unfolding judged_from
-  from-refused-with zero past bytes ends = inr (inl (refl, omega arith))
-  from-refused-with (suc left) past bytes ends = by (front bytes) refl (λ c rest. from-refused-with left (c ∷ past) rest)
+  from_refused_with zero past bytes ends = inr (inl (refl, omega arith))
+  from_refused_with (suc left) past bytes ends = by (front bytes) refl (λ c rest. from_refused_with left (c ∷ past) rest)
     where
-      on-end : (c : Command) (rest : List ℕ) (last : Bool) → place (c ∷ past) + length rest ≡ length file → RefusedOnly May (judged_from left (c ∷ past) rest)
+      on_end_lem : (c : Command) (rest : List ℕ) (last : Bool) → place (c ∷ past) + length rest ≡ length file → RefusedOnly May (judged_from left (c ∷ past) rest)
           → RefusedOnly May (on_end last (λ _. tail (summary (c ∷ past)) (place (c ∷ past)) 0 rest) (λ _. judged_from left (c ∷ past) rest))
-      on-end c rest true ends onward = tail-refused-with (summary (c ∷ past)) (place (c ∷ past)) 0 rest ends
-      on-end c rest false ends onward = onward
+      on_end_lem c rest true ends onward = tail_refused_with (summary (c ∷ past)) (place (c ∷ past)) 0 rest ends
+      on_end_lem c rest false ends onward = onward
 
       by : (f : Front) → front bytes ≡ f
           → ((c : Command) (rest : List ℕ) → place (c ∷ past) + length rest ≡ length file → RefusedOnly May (judged_from left (c ∷ past) rest))
@@ -87,20 +87,20 @@ module _ (file : List ℕ) where
       by (whole c rest) e onward =
           let long = front_length bytes c rest e in
           let after : place (c ∷ past) + length rest ≡ length file = omega (arith, long) in
-          on-fault (place past) (fault past c) _ (fault_number past c) (omega (arith, long)) (on-end c rest (is_a PostPost c) after (onward c rest after))
+          on_fault_lem (place past) (fault past c) _ (fault_number past c) (omega (arith, long)) (on_end_lem c rest (is_a PostPost c) after (onward c rest after))
 
   -- 1 to 11, each at its place
-  pub file-refused-with : RefusedOnly (FileRefusal file) (judged file)
+  pub file_refused_with : RefusedOnly (FileRefusal file) (judged file)
   unfolding judged
-  file-refused-with =
-      if-only May (ltb longest_file (length file)) file_too_long 0 _ (inl (refl, refl)) (from-refused-with (suc (length file)) [] file (omega arith))
+  file_refused_with =
+      if_only May (ltb longest_file (length file)) file_too_long 0 _ (inl (refl, refl)) (from_refused_with (suc (length file)) [] file (omega arith))
 
   -- ---- a font's name
 
   -- 1 to 11, each at its place, or 8 at 0
-  pub name-refused-with : (font : ℤ) → RefusedOnly (NameRefusal file) (name_place file font)
-  name-refused-with font =
-      then-only (NameRefusal file) (judged file) _ (only_wider May (NameRefusal file) (judged file) (λ number place may. inl may) file-refused-with)
+  pub name_refused_with : (font : ℤ) → RefusedOnly (NameRefusal file) (name_place file font)
+  name_refused_with font =
+      then_only (NameRefusal file) (judged file) _ (only_wider May (NameRefusal file) (judged file) (λ number place may. inl may) file_refused_with)
       (λ found. by (definition_of false font (history file)))
     where
       by : (d : Definition) → RefusedOnly (NameRefusal file) (named_by d)

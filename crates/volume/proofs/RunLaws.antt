@@ -12,10 +12,10 @@ use Rattle.commands.specs.Kinds.{kind_of}
 use Rattle.commands.specs.Lengths.{fixed_length, size_of}
 use Rattle.commands.specs.Commands.{front, whole}
 use Rattle.numbers.proofs.Radix.{less_or_not}
-use Rattle.commands.proofs.Ranges.{constant-on}
+use Rattle.commands.proofs.Ranges.{constant_on}
 use Rattle.commands.proofs.Opcodes.{from_250}
 use Rattle.commands.proofs.Lengths.{inner_below}
-use Rattle.commands.proofs.Fronts.{after-whole, front_at}
+use Rattle.commands.proofs.Fronts.{after_whole, front_at}
 use Rattle.list.specs.Steps.{command}
 use Rattle.volume.specs.Steps.{is_plain, Passes, none_more, one_more}
 
@@ -24,7 +24,7 @@ pub plain_below : (opcode : ℕ) → is_plain (kind_of opcode) ≡ true → opco
 plain_below opcode e = ⊎_elim (λ h. h) (λ above. absurd (true≢false (sym e ∙ ⊎_elim (defined above) beyond (less_or_not opcode 250)))) (less_or_not opcode 171)
   where
     defined : 171 ≤ opcode → opcode < 250 → is_plain (kind_of opcode) ≡ false
-    defined low high = constant-on (λ x. is_plain (kind_of x)) false 171 79 (unfold kind_of in refl) low (omega arith)
+    defined low high = constant_on (λ x. is_plain (kind_of x)) false 171 79 (unfold kind_of in refl) low (omega arith)
 
     beyond : 250 ≤ opcode → is_plain (kind_of opcode) ≡ false
     beyond h = rw (from_250 opcode h)
@@ -42,7 +42,7 @@ pass_one {file} {from} {at} passed starts plain count is fits =
     let size : size_of opcode rest ≡ count = size_plain opcode rest plain ∙ sym is in
     let room : count ≤ length rest = simp length-drop (omega arith) in
     let ahead : front (drop at file) ≡ whole (command opcode (take count rest)) (drop count rest) =
-    front_at file at starts ∙ (rw size at (after-whole opcode rest (omega (arith, plain_below opcode plain)) (omega (arith, size)))) in
+    front_at file at starts ∙ (rw size at (after_whole opcode rest (omega (arith, plain_below opcode plain)) (omega (arith, size)))) in
     subst (λ (n : ℕ). Passes file from (at + (1 + n))) (length-take-le count rest room) (one_more (command opcode (take count rest)) (drop count rest) passed ahead plain)
 
 -- a character of one byte
@@ -50,7 +50,7 @@ pub pass_character : {file : List ℕ} {from at : ℕ} → Passes file from at �
 unfolding fixed_length
 pass_character {file} {from} {at} passed starts low =
     let opcode : ℕ = get_or file at 0 in
-    let plain : is_plain (kind_of opcode) ≡ true = constant-on (λ x. is_plain (kind_of x)) true 0 128 (unfold kind_of in refl) (omega arith) (omega arith) in
+    let plain : is_plain (kind_of opcode) ≡ true = constant_on (λ x. is_plain (kind_of x)) true 0 128 (unfold kind_of in refl) (omega arith) (omega arith) in
     pass_one passed starts plain 0 (rw (lt-ltb opcode 128 low)) (omega arith)
 
 -- two runs, one after the other

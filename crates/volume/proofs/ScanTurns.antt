@@ -12,7 +12,7 @@ use Rattle.commands.specs.declared.Reading.{Reading}
 use Rattle.commands.specs.Kinds.{kind_of, is}
 use Rattle.commands.specs.Lengths.{fixed_length}
 use Rattle.commands.specs.Commands.{Command, kind_of_command, place}
-use Rattle.commands.proofs.Lengths.{fixed_of, whole-fixed}
+use Rattle.commands.proofs.Lengths.{fixed_of, whole_fixed}
 use Rattle.commands.proofs.Readings.{command_at, Reads}
 use Rattle.list.specs.declared.Volume.{Volume}
 use Rattle.volume.specs.declared.Scanned.{Scanned}
@@ -24,7 +24,7 @@ use Rattle.volume.specs.History.{history}
 use Rattle.list.specs.Steps.{volume_of, after_of, table_after, Tells, AllStanding, Lawfully, Agrees, WithRoom, LawfullyNumbered, FaultIs}
 use Rattle.volume.specs.Steps.{Going, summary_of, ScanKeeps, Same}
 use Rattle.volume.proofs.Bounds.{depth_small, pages_small, fonts_small, post_small}
-use Rattle.volume.proofs.Going.{lawful_number, at_is, turn-faulty, turn_last, told-last, agrees_after, turn-onward}
+use Rattle.volume.proofs.Going.{lawful_number, at_is, turn_faulty, turn_last, told_last, agrees_after, turn_onward}
 
 -- what a turn leads to: the next place, the commands so far with one more, or at post_post what is judged and kept
 pub record Turned (file : List ℕ) (page : ℕ) (kind : Kind) (next : ℕ) (w : Volume) (fonts again : List ℕ) : Type 0 where
@@ -53,87 +53,87 @@ module _ {file : List ℕ} {page : ℕ} {v : Volume} {fonts again : List ℕ} (g
   c = command_at file r
 
   -- the place after the command
-  pub next-is : r.next ≡ v.at + (1 + length c.params)
-  next-is = omega (arith, read.nexts, read.starts)
+  pub next_is : r.next ≡ v.at + (1 + length c.params)
+  next_is = omega (arith, read.nexts, read.starts)
 
   pub next_small : v.at + (1 + length c.params) < 2 ^ 32
-  next_small = omega (arith, next-is, read.inside, g.short)
+  next_small = omega (arith, next_is, read.inside, g.short)
 
-  pub fixed-fits : fixed_length r.opcode ≤ length c.params
-  fixed-fits = whole-fixed c read.good
+  pub fixed_fits : fixed_length r.opcode ≤ length c.params
+  fixed_fits = whole_fixed c read.good
 
-  pub opcode-defined : r.opcode < 250
-  opcode-defined = read.good.defined
+  pub opcode_defined : r.opcode < 250
+  opcode_defined = read.good.defined
 
   place_is : place (c ∷ g.past) ≡ r.next
-  place_is = omega (arith, next-is, at_is g)
+  place_is = omega (arith, next_is, at_is g)
 
-  module _ (kind : Kind) (kind-is : kind ≡ kind_of r.opcode) where
-    pub with-room : WithRoom kind c.params
-    with-room e = omega (arith, fixed_of r.opcode (sym kind-is ∙ e), fixed-fits)
+  module _ (kind : Kind) (kind_is : kind ≡ kind_of r.opcode) where
+    pub with_room_lem : WithRoom kind c.params
+    with_room_lem e = omega (arith, fixed_of r.opcode (sym kind_is ∙ e), fixed_fits)
 
     -- what was judged
     module _ (n : ℕ) (judgement : FaultIs file v fonts again r.opcode c.params n) where
-      fault-is : n ≡ fault g.past c
-      fault-is = judgement page g.past g.agrees
+      fault_is : n ≡ fault g.past c
+      fault_is = judgement page g.past g.agrees
 
-      pub scan-stops : (n ≡ 0 → ⊥) → refused n v.at ≡ judged file
-      scan-stops h = sym (turn-faulty g c (drop r.next file) read.ahead n (sym fault-is) h)
+      pub scan_stops : (n ≡ 0 → ⊥) → refused n v.at ≡ judged file
+      scan_stops h = sym (turn_faulty g c (drop r.next file) read.ahead n (sym fault_is) h)
 
       module _ (none : n ≡ 0) where
         clean : fault g.past c ≡ 0
-        clean = sym fault-is ∙ none
+        clean = sym fault_is ∙ none
 
-        pub lawfully-numbered : LawfullyNumbered r.opcode c.params
-        lawfully-numbered e = lawful_number g.past c clean (ap (λ (k : Kind). is k Define) e)
+        pub lawfully_numbered : LawfullyNumbered r.opcode c.params
+        lawfully_numbered e = lawful_number g.past c clean (ap (λ (k : Kind). is k Define) e)
 
         -- what the code holds after the command
         module _ (w : Volume) (w-is : w ≡ after_of page v kind c.params) (fonts' again' : List ℕ)
             (fonts-is : fonts' ≡ table_after false v.stage kind r.opcode c.params v.at fonts)
             (again-is : again' ≡ table_after true v.stage kind r.opcode c.params v.at again) where
           -- a statement of the three, from the same of what they are
-          as-held : (P : Volume → List ℕ → List ℕ → Type 0)
+          as_held : (P : Volume → List ℕ → List ℕ → Type 0)
               → P (after_of page v (kind_of_command c) c.params) (table_after false v.stage (kind_of_command c) r.opcode c.params v.at fonts) (table_after true v.stage (kind_of_command c) r.opcode c.params v.at again)
               → P w fonts' again'
-          as-held P p =
+          as_held P p =
               subst (λ (x : Volume). P x fonts' again') (sym w-is)
               (subst (λ (t : List ℕ). P (after_of page v kind c.params) t again') (sym fonts-is)
               (subst (P (after_of page v kind c.params) (table_after false v.stage kind r.opcode c.params v.at fonts)) (sym again-is)
-              (subst (λ (k : Kind). P (after_of page v k c.params) (table_after false v.stage k r.opcode c.params v.at fonts) (table_after true v.stage k r.opcode c.params v.at again)) (sym kind-is) p)))
+              (subst (λ (k : Kind). P (after_of page v k c.params) (table_after false v.stage k r.opcode c.params v.at fonts) (table_after true v.stage k r.opcode c.params v.at again)) (sym kind_is) p)))
 
           agrees : Agrees file page w fonts' again' (c ∷ g.past)
-          agrees = as-held (λ x t u. Agrees file page x t u (c ∷ g.past)) (agrees_after g c (drop r.next file) read.ahead clean)
+          agrees = as_held (λ x t u. Agrees file page x t u (c ∷ g.past)) (agrees_after g c (drop r.next file) read.ahead clean)
 
           held_at : w.at ≡ r.next
           held_at = ap (λ (x : Volume). x.at) agrees.state ∙ place_is
 
-          scan-goes : is kind PostPost ≡ false → Going file page w fonts' again'
-          scan-goes l =
-              as-held (Going file page)
-              (turn-onward g c (drop r.next file) read.ahead clean (subst (λ (k : Kind). is k PostPost ≡ false) kind-is l) (ap (λ (n : ℕ). drop n file) (sym place_is)) (subst (λ (n : ℕ). n ≤ length file) (sym place_is) read.inside))
+          scan_goes : is kind PostPost ≡ false → Going file page w fonts' again'
+          scan_goes l =
+              as_held (Going file page)
+              (turn_onward g c (drop r.next file) read.ahead clean (subst (λ (k : Kind). is k PostPost ≡ false) kind_is l) (ap (λ (n : ℕ). drop n file) (sym place_is)) (subst (λ (n : ℕ). n ≤ length file) (sym place_is) read.inside))
 
           module _ (l : is kind PostPost ≡ true) where
             last : is_a PostPost c ≡ true
-            last = subst (λ (k : Kind). is k PostPost ≡ true) kind-is l
+            last = subst (λ (k : Kind). is k PostPost ≡ true) kind_is l
 
-            scan-ends : tail (summary_of w) r.next 0 (drop r.next file) ≡ judged file
-            scan-ends =
+            scan_ends : tail (summary_of w) r.next 0 (drop r.next file) ≡ judged file
+            scan_ends =
                 sym (turn_last g c (drop r.next file) read.ahead clean last
                 ∙ ap (λ (n : ℕ). tail (summary_of (volume_of page (c ∷ g.past))) n 0 (drop r.next file)) place_is
                 ∙ ap (λ (x : Volume). tail (summary_of x) r.next 0 (drop r.next file)) (sym agrees.state))
 
-            history-is : history file ≡ c ∷ g.past
-            history-is = told-last g c (drop r.next file) read.ahead clean last
+            history_is : history file ≡ c ∷ g.past
+            history_is = told_last g c (drop r.next file) read.ahead clean last
 
-            scan-keeps : (s : Scanned) → Same w s → ScanKeeps file page fonts' s
-            scan-keeps (Scanned.Accepted x) same =
-                let back = sym history-is in (
+            scan_keeps : (s : Scanned) → Same w s → ScanKeeps file page fonts' s
+            scan_keeps (Scanned.Accepted x) same =
+                let back = sym history_is in (
                   sym same ∙ agrees.state ∙ ap (volume_of page) back,
                   subst (Tells false fonts') back agrees.early,
                   subst (AllStanding file) back agrees.standing,
                   subst Lawfully back agrees.lawfully,
                 )
-            scan-keeps (Scanned.Refused x) same = tt
+            scan_keeps (Scanned.Refused x) same = tt
 
           pub turned : Turned file page kind r.next w fonts' again'
-          turned = record { place_held = held_at; onward = scan-goes; judgement = scan-ends; keeping = scan-keeps }
+          turned = record { place_held = held_at; onward = scan_goes; judgement = scan_ends; keeping = scan_keeps }

@@ -57,36 +57,36 @@ module _ (past : List Command) (c : Command) (lawful : is (kind_of_command c) De
         ∙ tells.entry n h
         ∙ sym (ap (λ (t : Bool). entry_of (cond t (stands (place past) c) (definition_of after (pos n) past))) test)
 
-    entry-by : (t : Bool) → defines after (stage past) (kind_of_command c) ≡ t → (n : ℕ) → n < 256 → get_or (noted t) n 0 ≡ entry_of (found t n)
-    entry-by true e n h = by (eqb (nat_abs (font_number c)) n) refl
+    entry_by : (t : Bool) → defines after (stage past) (kind_of_command c) ≡ t → (n : ℕ) → n < 256 → get_or (noted t) n 0 ≡ entry_of (found t n)
+    entry_by true e n h = by (eqb (nat_abs (font_number c)) n) refl
       where
         by : (t : Bool) → eqb (nat_abs (font_number c)) n ≡ t → get_or (noted true) n 0 ≡ entry_of (found true n)
         by true q = same_place n h (defining after e) (eqb-true (nat_abs (font_number c)) n q)
         by false q = other_place n h (defining after e) (eqb-false (nat_abs (font_number c)) n q)
-    entry-by false e n h = tells.entry n h
+    entry_by false e n h = tells.entry n h
 
     full_by : (t : Bool) → length (noted t) ≡ 256
     full_by true = length-set table (nat_abs (font_number c)) (place past + 1) ∙ tells.full
     full_by false = tells.full
 
-    pub tells-after : Tells after (table_after after (stage past) (kind_of_command c) c.opcode c.params (place past) table) (c ∷ past)
-    tells-after =
+    pub tells_after : Tells after (table_after after (stage past) (kind_of_command c) c.opcode c.params (place past) table) (c ∷ past)
+    tells_after =
         record {
           full = full_by (defines after (stage past) (kind_of_command c));
-          entry = entry-by (defines after (stage past) (kind_of_command c)) refl;
+          entry = entry_by (defines after (stage past) (kind_of_command c)) refl;
         }
 
   -- what was defined stands in the file
-  pub standing-after : (file rest : List ℕ) → front (drop (place past) file) ≡ whole c rest → AllStanding file past → AllStanding file (c ∷ past)
-  standing-after file rest e all n = by (defines false (stage past) (kind_of_command c) && same_number (font_number c) (pos n))
+  pub standing_after : (file rest : List ℕ) → front (drop (place past) file) ≡ whole c rest → AllStanding file past → AllStanding file (c ∷ past)
+  standing_after file rest e all n = by (defines false (stage past) (kind_of_command c) && same_number (font_number c) (pos n))
     where
       by : (t : Bool) → StandsIn file (cond t (stands (place past) c) (definition_of false (pos n) past))
       by true = (rest, e)
       by false = all n
 
   -- only lawful fonts are defined
-  pub lawfully-after : Lawfully past → Lawfully (c ∷ past)
-  lawfully-after all number h = by (defines false (stage past) (kind_of_command c)) refl (same_number (font_number c) number) refl
+  pub lawfully_after : Lawfully past → Lawfully (c ∷ past)
+  lawfully_after all number h = by (defines false (stage past) (kind_of_command c)) refl (same_number (font_number c) number) refl
     where
       by : (t : Bool) → defines false (stage past) (kind_of_command c) ≡ t → (s : Bool) → same_number (font_number c) number ≡ s
           → cond (t && s) (stands (place past) c) (definition_of false number past) ≡ none

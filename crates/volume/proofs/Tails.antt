@@ -19,65 +19,65 @@ use Rattle.volume.specs.Judged.{tail}
 -- ---- the definition's lines
 
 module _ (found : Summary) (at passed : ℕ) where
-  tail-nil : tail found at passed [] ≡ refuse_if (ltb passed 4) wrong_tail at (given found)
+  tail_nil : tail found at passed [] ≡ refuse_if (ltb passed 4) wrong_tail at (given found)
   unfolding tail
-  tail-nil = refl
+  tail_nil = refl
 
-  tail-filler : (byte : ℕ) (bytes : List ℕ) → byte ≡ 223 → tail found at passed (byte ∷ bytes) ≡ tail found (suc at) (suc passed) bytes
+  tail_filler : (byte : ℕ) (bytes : List ℕ) → byte ≡ 223 → tail found at passed (byte ∷ bytes) ≡ tail found (suc at) (suc passed) bytes
   unfolding tail
-  tail-filler byte bytes e = rw (eq-eqb byte 223 e, tail)
+  tail_filler byte bytes e = rw (eq-eqb byte 223 e, tail)
 
-  tail-other : (byte : ℕ) (bytes : List ℕ) → (byte ≡ 223 → ⊥) → tail found at passed (byte ∷ bytes) ≡ refused wrong_tail at
+  tail_other : (byte : ℕ) (bytes : List ℕ) → (byte ≡ 223 → ⊥) → tail found at passed (byte ∷ bytes) ≡ refused wrong_tail at
   unfolding tail
-  tail-other byte bytes e = rw (ne_eqb byte 223 e, tail)
+  tail_other byte bytes e = rw (ne_eqb byte 223 e, tail)
 
-  tail-few : passed < 4 → tail found at passed [] ≡ refused wrong_tail at
-  tail-few h = rw (tail-nil, lt-ltb passed 4 h)
+  tail_few : passed < 4 → tail found at passed [] ≡ refused wrong_tail at
+  tail_few h = rw (tail_nil, lt-ltb passed 4 h)
 
-  tail-enough : 4 ≤ passed → tail found at passed [] ≡ given found
-  tail-enough h = rw (tail-nil, le-ltb passed 4 h)
+  tail_enough : 4 ≤ passed → tail found at passed [] ≡ given found
+  tail_enough h = rw (tail_nil, le-ltb passed 4 h)
 
 -- ---- at a place of the file
 
 module _ (found : Summary) (file : List ℕ) (at passed : ℕ) where
   pub tail_step : at < length file → get_or file at 0 ≡ 223 → tail found at passed (drop at file) ≡ tail found (at + 1) (passed + 1) (drop (at + 1) file)
-  tail_step h e = rw (add-one at, add-one passed, drop-cons file at 0 h) (tail-filler found at passed (get_or file at 0) _ e)
+  tail_step h e = rw (add-one at, add-one passed, drop-cons file at 0 h) (tail_filler found at passed (get_or file at 0) _ e)
 
-  pub tail-wrong : at < length file → (get_or file at 0 ≡ 223 → ⊥) → tail found at passed (drop at file) ≡ refused wrong_tail at
-  tail-wrong h e = rw (drop-cons file at 0 h) (tail-other found at passed (get_or file at 0) _ e)
+  pub tail_wrong : at < length file → (get_or file at 0 ≡ 223 → ⊥) → tail found at passed (drop at file) ≡ refused wrong_tail at
+  tail_wrong h e = rw (drop-cons file at 0 h) (tail_other found at passed (get_or file at 0) _ e)
 
-  pub tail-short : length file ≤ at → passed < 4 → tail found at passed (drop at file) ≡ refused wrong_tail at
-  tail-short h l = rw (drop_of_length-le file h) (tail-few found at passed l)
+  pub tail_short : length file ≤ at → passed < 4 → tail found at passed (drop at file) ≡ refused wrong_tail at
+  tail_short h l = rw (drop_of_length-le file h) (tail_few found at passed l)
 
-  pub tail-done : length file ≤ at → 4 ≤ passed → tail found at passed (drop at file) ≡ given found
-  tail-done h l = rw (drop_of_length-le file h) (tail-enough found at passed l)
+  pub tail_done : length file ≤ at → 4 ≤ passed → tail found at passed (drop at file) ≡ given found
+  tail_done h l = rw (drop_of_length-le file h) (tail_enough found at passed l)
 
 -- ---- over the 223s
 
 module _ (found : Summary) where
-  tail-passes : (at passed n : ℕ) (bytes : List ℕ) → tail found at passed (written (fillers n) ++ bytes) ≡ tail found (at + n) (passed + n) bytes
-  tail-passes at passed zero bytes =
+  tail_passes : (at passed n : ℕ) (bytes : List ℕ) → tail found at passed (written (fillers n) ++ bytes) ≡ tail found (at + n) (passed + n) bytes
+  tail_passes at passed zero bytes =
       let here : at + 0 ≡ at = omega arith in
       let none_more : passed + 0 ≡ passed = omega arith in
       rw (here, none_more)
-  tail-passes at passed (suc n) bytes =
+  tail_passes at passed (suc n) bytes =
       let after : at + suc n ≡ suc at + n = omega arith in
       let one_more : passed + suc n ≡ suc passed + n = omega arith in
-      rw (after, one_more, tail-filler found at passed 223 (written (fillers n) ++ bytes) refl) (tail-passes (suc at) (suc passed) n bytes)
+      rw (after, one_more, tail_filler found at passed 223 (written (fillers n) ++ bytes) refl) (tail_passes (suc at) (suc passed) n bytes)
 
   module _ (at n : ℕ) {bytes : List ℕ} where
-    only-fillers : bytes ≡ written (fillers n) → tail found at 0 bytes ≡ tail found (at + n) (0 + n) []
-    only-fillers e = rw (e, ← (append-nil (written (fillers n)))) (tail-passes at 0 n [])
+    only_fillers : bytes ≡ written (fillers n) → tail found at 0 bytes ≡ tail found (at + n) (0 + n) []
+    only_fillers e = rw (e, ← (append-nil (written (fillers n)))) (tail_passes at 0 n [])
 
     pub fillers_few : bytes ≡ written (fillers n) → n < 4 → tail found at 0 bytes ≡ refused wrong_tail (at + n)
-    fillers_few e h = only-fillers e ∙ tail-few found (at + n) (0 + n) (omega arith)
+    fillers_few e h = only_fillers e ∙ tail_few found (at + n) (0 + n) (omega arith)
 
-    pub fillers-enough : bytes ≡ written (fillers n) → 4 ≤ n → tail found at 0 bytes ≡ given found
-    fillers-enough e h = only-fillers e ∙ tail-enough found (at + n) (0 + n) (omega arith)
+    pub fillers_enough : bytes ≡ written (fillers n) → 4 ≤ n → tail found at 0 bytes ≡ given found
+    fillers_enough e h = only_fillers e ∙ tail_enough found (at + n) (0 + n) (omega arith)
 
-    pub fillers-wrong : (byte : ℕ) (rest : List ℕ) → bytes ≡ written (fillers n) ++ (byte ∷ rest) → (byte ≡ 223 → ⊥)
+    pub fillers_wrong : (byte : ℕ) (rest : List ℕ) → bytes ≡ written (fillers n) ++ (byte ∷ rest) → (byte ≡ 223 → ⊥)
         → tail found at 0 bytes ≡ refused wrong_tail (at + n)
-    fillers-wrong byte rest e h = rw (e, tail-passes at 0 n (byte ∷ rest)) (tail-other found (at + n) (0 + n) byte rest h)
+    fillers_wrong byte rest e h = rw (e, tail_passes at 0 n (byte ∷ rest)) (tail_other found (at + n) (0 + n) byte rest h)
 
 -- ---- the cases
 

@@ -25,50 +25,50 @@ fault_refuses at (suc n) next e h = rw e
 -- ---- the start
 
 module _ (file : List ℕ) where
-  pub judged-long : longest_file < length file → judged file ≡ refused file_too_long 0
+  pub judged_long : longest_file < length file → judged file ≡ refused file_too_long 0
   unfolding judged
-  judged-long h = rw (lt-ltb longest_file (length file) h)
+  judged_long h = rw (lt-ltb longest_file (length file) h)
 
-  pub judged-short : length file ≤ longest_file → judged file ≡ judged_from (suc (length file)) [] file
+  pub judged_short : length file ≤ longest_file → judged file ≡ judged_from (suc (length file)) [] file
   unfolding judged
-  judged-short h = rw (le-ltb longest_file (length file) h)
+  judged_short h = rw (le-ltb longest_file (length file) h)
 
-  pub history-start : history file ≡ history_from (suc (length file)) [] file
+  pub history_start : history file ≡ history_from (suc (length file)) [] file
   unfolding history
-  history-start = refl
+  history_start = refl
 
 -- ---- one step
 
 module _ (left : ℕ) (past : List Command) (bytes : List ℕ) where
-  pub judged-cut : front bytes ≡ cut → judged_from (suc left) past bytes ≡ refused file_ends (place past)
+  pub judged_cut : front bytes ≡ cut → judged_from (suc left) past bytes ≡ refused file_ends (place past)
   unfolding judged_from
-  judged-cut e = rw e
+  judged_cut e = rw e
 
-  pub judged-undefined : front bytes ≡ undefined → judged_from (suc left) past bytes ≡ refused undefined_opcode (place past)
+  pub judged_undefined : front bytes ≡ undefined → judged_from (suc left) past bytes ≡ refused undefined_opcode (place past)
   unfolding judged_from
-  judged-undefined e = rw e
+  judged_undefined e = rw e
 
   module _ (c : Command) (rest : List ℕ) (stands : front bytes ≡ whole c rest) where
-    pub judged-faulty : (number : ℕ) → fault past c ≡ number → (number ≡ 0 → ⊥) → judged_from (suc left) past bytes ≡ refused number (place past)
+    pub judged_faulty : (number : ℕ) → fault past c ≡ number → (number ≡ 0 → ⊥) → judged_from (suc left) past bytes ≡ refused number (place past)
     unfolding judged_from
-    judged-faulty number e h = rw stands (fault_refuses (place past) number _ e h)
+    judged_faulty number e h = rw stands (fault_refuses (place past) number _ e h)
 
-    pub judged-last : fault past c ≡ 0 → is_a PostPost c ≡ true
+    pub judged_last : fault past c ≡ 0 → is_a PostPost c ≡ true
         → judged_from (suc left) past bytes ≡ tail (summary (c ∷ past)) (place (c ∷ past)) 0 rest
     unfolding judged_from
-    judged-last e l = rw (stands, e, l)
+    judged_last e l = rw (stands, e, l)
 
-    pub judged-onward : fault past c ≡ 0 → is_a PostPost c ≡ false → judged_from (suc left) past bytes ≡ judged_from left (c ∷ past) rest
+    pub judged_onward : fault past c ≡ 0 → is_a PostPost c ≡ false → judged_from (suc left) past bytes ≡ judged_from left (c ∷ past) rest
     unfolding judged_from
-    judged-onward e l = rw (stands, e, l)
+    judged_onward e l = rw (stands, e, l)
 
-    pub history-last : is_a PostPost c ≡ true → history_from (suc left) past bytes ≡ c ∷ past
+    pub history_last : is_a PostPost c ≡ true → history_from (suc left) past bytes ≡ c ∷ past
     unfolding history_from
-    history-last l = rw (stands, l)
+    history_last l = rw (stands, l)
 
-    pub history-onward : is_a PostPost c ≡ false → history_from (suc left) past bytes ≡ history_from left (c ∷ past) rest
+    pub history_onward : is_a PostPost c ≡ false → history_from (suc left) past bytes ≡ history_from left (c ∷ past) rest
     unfolding history_from
-    history-onward l = rw (stands, l)
+    history_onward l = rw (stands, l)
 
 -- ---- the cases
 
@@ -76,8 +76,8 @@ module _ (past : List Command) (bytes : List ℕ) where
   -- what stands at the front after the commands before
   pub data Turn : Type 0 where
     at_cut : front bytes ≡ cut → Turn
-    at-undefined : front bytes ≡ undefined → Turn
-    at-fault : (c : Command) (rest : List ℕ) (n : ℕ) → front bytes ≡ whole c rest → fault past c ≡ suc n → Turn
+    at_undefined : front bytes ≡ undefined → Turn
+    at_fault : (c : Command) (rest : List ℕ) (n : ℕ) → front bytes ≡ whole c rest → fault past c ≡ suc n → Turn
     at_last : (c : Command) (rest : List ℕ) → front bytes ≡ whole c rest → fault past c ≡ 0 → is_a PostPost c ≡ true → Turn
     onward : (c : Command) (rest : List ℕ) → front bytes ≡ whole c rest → fault past c ≡ 0 → is_a PostPost c ≡ false → Turn
 
@@ -86,14 +86,14 @@ module _ (past : List Command) (bytes : List ℕ) where
     by_kind e true l = at_last c rest stands e l
     by_kind e false l = onward c rest stands e l
 
-    by-fault : (n : ℕ) → fault past c ≡ n → Turn
-    by-fault zero e = by_kind e (is_a PostPost c) refl
-    by-fault (suc n) e = at-fault c rest n stands e
+    by_fault : (n : ℕ) → fault past c ≡ n → Turn
+    by_fault zero e = by_kind e (is_a PostPost c) refl
+    by_fault (suc n) e = at_fault c rest n stands e
 
   by_front : (x : Front) → front bytes ≡ x → Turn
   by_front cut e = at_cut e
-  by_front undefined e = at-undefined e
-  by_front (whole c rest) e = by-fault c rest e (fault past c) refl
+  by_front undefined e = at_undefined e
+  by_front (whole c rest) e = by_fault c rest e (fault past c) refl
 
   pub turn : Turn
   turn = by_front (front bytes) refl

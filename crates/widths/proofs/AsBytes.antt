@@ -13,7 +13,7 @@ use Rattle.numbers.specs.Bytes.{unsigned_at}
 use Rattle.numbers.proofs.Bytes.{unsigned_below}
 use Rattle.widths.specs.Table.{size_with, record_in, rises_in}
 use Rattle.widths.specs.AsBytes.{Bytes, rises_as_bytes, key_bytes}
-use Rattle.numbers.proofs.Radix.{first-decides, second-decides, first-same, second-same}
+use Rattle.numbers.proofs.Radix.{first_decides, second_decides, first_same, second_same}
 
 -- ---- a number by its first byte
 
@@ -29,8 +29,8 @@ first_byte x xs (suc count) =
 
 module _ (x y high low_x low-y : ℕ) (x_in : low_x < high) (y_in : low-y < high) where
   decided : (outcome : Bool) → eqb x y ≡ outcome → cond outcome (ltb low_x low-y) (ltb x y) ≡ ltb (x * high + low_x) (y * high + low-y)
-  decided true e = second-decides x y high low_x low-y x_in (eqb-true x y e)
-  decided false e = first-decides x y high low_x low-y x_in (omega arith) (eqb-false x y e)
+  decided true e = second_decides x y high low_x low-y x_in (eqb-true x y e)
+  decided false e = first_decides x y high low_x low-y x_in (omega arith) (eqb-false x y e)
 
 none : (ys : List ℕ) → false ≡ ltb (unsigned_at [] 0 0) (unsigned_at ys 0 0)
 unfolding unsigned_at
@@ -64,8 +64,8 @@ bytes_same (x ∷ xs) (y ∷ ys) (suc count) a b p q e =
     let split : x * 256 ^ count + unsigned_at xs 0 count ≡ y * 256 ^ count + unsigned_at ys 0 count = sym (first_byte x xs count) ∙ e ∙ first_byte y ys count in
     let x_in = unsigned_below xs 0 count (λ i h. p-rest (0 + i) (omega arith)) in
     let y_in = unsigned_below ys 0 count (λ i h. q-rest (0 + i) (omega arith)) in
-    ap₂ (λ (b : ℕ) (l : List ℕ). b ∷ l) (first-same x y (256 ^ count) (unsigned_at xs 0 count) (unsigned_at ys 0 count) x_in y_in split)
-    (bytes_same xs ys count (omega arith) (omega arith) p-rest q-rest (second-same x y (256 ^ count) (unsigned_at xs 0 count) (unsigned_at ys 0 count) x_in y_in split))
+    ap₂ (λ (b : ℕ) (l : List ℕ). b ∷ l) (first_same x y (256 ^ count) (unsigned_at xs 0 count) (unsigned_at ys 0 count) x_in y_in split)
+    (bytes_same xs ys count (omega arith) (omega arith) p-rest q-rest (second_same x y (256 ^ count) (unsigned_at xs 0 count) (unsigned_at ys 0 count) x_in y_in split))
 
 -- ---- the table's keys
 
@@ -105,9 +105,9 @@ module _ (table : List ℕ) (bytes : Bytes table) where
     within = omega arith
 
   -- to rise from record to record is to rise as bytes
-  pub rises-as-bytes : (named index : ℕ) → suc index * size_with named + size_with named ≤ length table
+  pub rises_as_bytes_lem : (named index : ℕ) → suc index * size_with named + size_with named ≤ length table
       → rises_in named table (suc index) ≡ rises_as_bytes (key_bytes named table index) (key_bytes named table (suc index))
-  rises-as-bytes named index inside =
+  rises_as_bytes_lem named index inside =
       let before : index * size_with named + size_with named ≤ length table = omega (arith, suc-mul index (size_with named)) in
       let first = within named index before in
       let second = within named (suc index) inside in

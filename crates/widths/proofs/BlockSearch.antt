@@ -20,9 +20,9 @@ use Rattle.widths.specs.declared.table.Key.{Key}
 use Rattle.widths.specs.Table.{width_record_size, record_in, record_of, checked_table}
 use Rattle.widths.specs.LookUp.{found, absent, metric_of, walk}
 use Rattle.widths.specs.Steps.{block_number, key_number, KeyIs, KeyAt, with_code, FirstNotBelow, BlockIs, Within, same_records, has_code}
-use Rattle.widths.proofs.Keys.{character_key, key_number_lem, key_is, key-for, low_key}
-use Rattle.widths.proofs.TableLaws.{fields-right}
-use Rattle.widths.proofs.Search.{Between, search-ends, own-found, walk-misses}
+use Rattle.widths.proofs.Keys.{character_key, key_number_lem, key_is, key_for, low_key}
+use Rattle.widths.proofs.TableLaws.{fields_right}
+use Rattle.widths.proofs.Search.{Between, search_ends, own_found, walk_misses}
 
 -- ---- a record's key
 
@@ -31,8 +31,8 @@ abbrev pub key_there : List ℕ → ℕ → Key
 key_there table at = record { head = unsigned_at table at 8; high = unsigned_at table (at + 8) 8; low = unsigned_at table (at + 8 + 8) 8; code = get_or table (at + 24) 0 }
 
 module _ (table : List ℕ) (bytes : (i : ℕ) → get_or table i 0 < 256) where
-  pub key-there : (at : ℕ) → KeyAt table at (key_there table at)
-  key-there at =
+  pub key_there_lem : (at : ℕ) → KeyAt table at (key_there table at)
+  key_there_lem at =
       record {
         head_is = unsigned_join table at 4 4;
         scale_below = unsigned_below table (at + 4) 4 (λ i h. bytes (at + 4 + i));
@@ -76,8 +76,8 @@ module _ (table : List ℕ) (bytes : (i : ℕ) → get_or table i 0 < 256) (reco
   abbrev coded : ℕ → ℕ
   coded byte = key_number (with_code is.key byte)
 
-  code-key : (byte : ℕ) → byte < 256 → KeyIs checksum scale name byte (with_code is.key byte)
-  code-key byte small =
+  code_key : (byte : ℕ) → byte < 256 → KeyIs checksum scale name byte (with_code is.key byte)
+  code_key byte small =
       let k = is.key_is in
       record { head_is = k.head_is; scale_below = k.scale_below; name_is = k.name_is; high_below = k.high_below; low_below = k.low_below; code_is = refl; code_below = small }
 
@@ -89,7 +89,7 @@ module _ (table : List ℕ) (bytes : (i : ℕ) → get_or table i 0 < 256) (reco
     here = key_there table (index * width_record_size)
 
     here_is : key_number here ≡ (record_of table index).key
-    here_is = key_is table index here (key-there table bytes (index * width_record_size))
+    here_is = key_is table index here (key_there_lem table bytes (index * width_record_size))
 
     in_block : block_number here ≡ block_number is.key
     in_block =
@@ -102,79 +102,79 @@ module _ (table : List ℕ) (bytes : (i : ℕ) → get_or table i 0 < 256) (reco
     code_here = refl
 
     -- a record of the block has the key of its code
-    pub key-coded : (record_of table index).key ≡ coded (record_of table index).code
-    key-coded = sym here_is ∙ ap₂ (λ (b code : ℕ). b * 256 + code) in_block (sym code_here)
+    pub key_coded : (record_of table index).key ≡ coded (record_of table index).code
+    key_coded = sym here_is ∙ ap₂ (λ (b code : ℕ). b * 256 + code) in_block (sym code_here)
 
     -- and is what the walk finds for it
-    pub code-hits : (byte : ℕ) → byte < 256 → (record_of table index).code ≡ byte → found (metric_of (record_of table index)) ≡ walk records table checksum scale name byte
-    code-hits byte small e =
-        sym (own-found table records judged checksum scale name byte index inside
-        (key-for table index checksum scale name byte here (with_code is.key byte) (key-there table bytes (index * width_record_size)) (code-key byte small)
-        (here_is ∙ key-coded ∙ ap coded e)))
+    pub code_hits : (byte : ℕ) → byte < 256 → (record_of table index).code ≡ byte → found (metric_of (record_of table index)) ≡ walk records table checksum scale name byte
+    code_hits byte small e =
+        sym (own_found table records judged checksum scale name byte index inside
+        (key_for table index checksum scale name byte here (with_code is.key byte) (key_there_lem table bytes (index * width_record_size)) (code_key byte small)
+        (here_is ∙ key_coded ∙ ap coded e)))
 
-    less-coded : (b code byte : ℕ) → code < byte → b * 256 + code < b * 256 + byte
-    less-coded b code byte h = omega arith
+    less_coded : (b code byte : ℕ) → code < byte → b * 256 + code < b * 256 + byte
+    less_coded b code byte h = omega arith
 
-    not-less-coded : (b code byte : ℕ) → byte ≤ code → b * 256 + byte ≤ b * 256 + code
-    not-less-coded b code byte h = omega arith
+    not_less_coded : (b code byte : ℕ) → byte ≤ code → b * 256 + byte ≤ b * 256 + code
+    not_less_coded b code byte h = omega arith
 
     pub code_below : (byte : ℕ) → (record_of table index).code < byte → (record_of table index).key < coded byte
-    code_below byte h = subst (λ (n : ℕ). n < coded byte) (sym key-coded) (less-coded (block_number is.key) (record_of table index).code byte h)
+    code_below byte h = subst (λ (n : ℕ). n < coded byte) (sym key_coded) (less_coded (block_number is.key) (record_of table index).code byte h)
 
-    pub code-above : (byte : ℕ) → byte ≤ (record_of table index).code → coded byte ≤ (record_of table index).key
-    code-above byte h = subst (λ (n : ℕ). coded byte ≤ n) (sym key-coded) (not-less-coded (block_number is.key) (record_of table index).code byte h)
+    pub code_above : (byte : ℕ) → byte ≤ (record_of table index).code → coded byte ≤ (record_of table index).key
+    code_above byte h = subst (λ (n : ℕ). coded byte ≤ n) (sym key_coded) (not_less_coded (block_number is.key) (record_of table index).code byte h)
 
   module _ (byte : ℕ) (small : byte < 256) where
-    before-first : (b first other : ℕ) → first ≡ 0 → other < b * 256 + first → other < b * 256 + byte
-    before-first b first other e h = omega arith
+    before_first : (b first other : ℕ) → first ≡ 0 → other < b * 256 + first → other < b * 256 + byte
+    before_first b first other e h = omega arith
 
-    behind-last : (b other : ℕ) → b * 256 + 256 ≤ other → b * 256 + byte < other
-    behind-last b other h = omega arith
+    behind_last : (b other : ℕ) → b * 256 + 256 ≤ other → b * 256 + byte < other
+    behind_last b other h = omega arith
 
     at_last : (b other : ℕ) → b * 256 + 256 ≤ other → b * 256 + byte ≤ other
     at_last b other h = omega arith
 
     -- the search for a code starts with the whole block
-    pub block-starts : Between table records (coded byte) block.start block.end
-    block-starts =
+    pub block_starts : Between table records (coded byte) block.start block.end
+    block_starts =
         record {
           order = (in_order is).0;
           top = (in_order is).1;
-          below = λ j under. before-first (block_number is.key) is.key.code (record_of table j).key is.key_is.code_is (is.starts.below j under);
+          below = λ j under. before_first (block_number is.key) is.key.code (record_of table j).key is.key_is.code_is (is.starts.below j under);
           above = λ j over inside. at_last (block_number is.key) (record_of table j).key (is.ends.above j over inside);
         }
 
     -- where the first record that is not below a code's key is no record of the block with that code, none is
-    pub code-misses : (index : ℕ) → FirstNotBelow table records (coded byte) index → (block.start ≤ index → index < block.end → (record_of table index).code ≡ byte → ⊥)
+    pub code_misses : (index : ℕ) → FirstNotBelow table records (coded byte) index → (block.start ≤ index → index < block.end → (record_of table index).code ≡ byte → ⊥)
         → absent ≡ walk records table checksum scale name byte
-    code-misses index first other =
-        walk-misses table records judged checksum scale name byte index (subst (λ (n : ℕ). FirstNotBelow table records n index) number first)
+    code_misses index first other =
+        walk_misses table records judged checksum scale name byte index (subst (λ (n : ℕ). FirstNotBelow table records n index) number first)
         (λ inside e. differs inside (e ∙ sym number))
       where
         number : coded byte ≡ character_key checksum scale name byte
-        number = key_number_lem checksum scale name byte (with_code is.key byte) (code-key byte small)
+        number = key_number_lem checksum scale name byte (with_code is.key byte) (code_key byte small)
 
         same_code : (b code : ℕ) → b * 256 + code ≡ b * 256 + byte → code ≡ byte
         same_code b code e = omega arith
 
-        not-less : (n m : ℕ) → n < m → n ≡ m → ⊥
-        not-less n m h e = omega arith
+        not_less : (n m : ℕ) → n < m → n ≡ m → ⊥
+        not_less n m h e = omega arith
 
         differs : index < records → (record_of table index).key ≡ coded byte → ⊥
         differs inside e =
             ⊎_elim
-            (λ (under : index < block.start). not-less (record_of table index).key (coded byte) (block-starts.below index under) e)
+            (λ (under : index < block.start). not_less (record_of table index).key (coded byte) (block_starts.below index under) e)
             (λ (from : block.start ≤ index).
             ⊎_elim
-            (λ (to : index < block.end). other from to (same_code (block_number is.key) (record_of table index).code (sym (key-coded index from to) ∙ e)))
-            (λ (over : block.end ≤ index). not-less (coded byte) (record_of table index).key (behind-last (block_number is.key) (record_of table index).key (is.ends.above index over inside)) (sym e))
+            (λ (to : index < block.end). other from to (same_code (block_number is.key) (record_of table index).code (sym (key_coded index from to) ∙ e)))
+            (λ (over : block.end ≤ index). not_less (coded byte) (record_of table index).key (behind_last (block_number is.key) (record_of table index).key (is.ends.above index over inside)) (sym e))
             (less_or_not index block.end))
             (less_or_not index block.start)
 
     -- an empty block has no record
-    pub empty-misses : block.start ≡ block.end → absent ≡ walk records table checksum scale name byte
-    empty-misses e =
-        code-misses block.start (search-ends table records (coded byte) block.start block.end block-starts (omega arith)) (λ from to same. absurd (omega arith))
+    pub empty_misses : block.start ≡ block.end → absent ≡ walk records table checksum scale name byte
+    empty_misses e =
+        code_misses block.start (search_ends table records (coded byte) block.start block.end block_starts (omega arith)) (λ from to same. absurd (omega arith))
 
 -- ---- the test for a code
 
@@ -190,8 +190,8 @@ module _ (table : List ℕ) (block : Block) (byte index : ℕ) where
       let inner = (and-eq-true_iff (ltb index block.end) (eqb (record_of table index).code byte)).0 outer.1 in
       record { from = leb-true block.start index outer.0; to = ltb-true index block.end inner.0; code_is = eqb-true (record_of table index).code byte inner.1 }
 
-  pub has-not : has_code table block byte index ≡ false → block.start ≤ index → index < block.end → (record_of table index).code ≡ byte → ⊥
-  has-not e from to same =
+  pub has_not : has_code table block byte index ≡ false → block.start ≤ index → index < block.end → (record_of table index).code ≡ byte → ⊥
+  has_not e from to same =
       let z : true ≡ false = sym (simp (le-leb block.start index from, lt-ltb index block.end to, eq-eqb (record_of table index).code byte same)) ∙ e in
       absurd (let bad : ◌≡◌ {A = ℕ} 0 1 = cc in omega arith)
 
@@ -212,7 +212,7 @@ no_records table records judged =
     above j inside =
         ⊎_elim
         (λ (low : (record_of table j).key < 256).
-        let lawful = ((and-eq-true_iff (lawful_size (record_of table j).scale) _).0 (fields-right name_size table records judged j inside)).0 in
+        let lawful = ((and-eq-true_iff (lawful_size (record_of table j).scale) _).0 (fields_right name_size table records judged j inside)).0 in
         let none : (record_of table j).scale ≡ 0 = low_key name_size table (j * width_record_size) low in
         absurd (let bad : false ≡ true = subst (λ (n : ℕ). lawful_size n ≡ true) none lawful in let z : ◌≡◌ {A = ℕ} 0 1 = cc in omega arith))
         (λ (high : 256 ≤ (record_of table j).key). high)

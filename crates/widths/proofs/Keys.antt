@@ -10,7 +10,7 @@ use lib.ListN.{get_or}
 use borrow.Author.Tests.{eqb-true, eq-eqb}
 use Rattle.numbers.specs.Bytes.{unsigned_at}
 use Rattle.numbers.proofs.Bytes.{unsigned_more, unsigned_join, power_le}
-use Rattle.numbers.proofs.Radix.{joined_twice, first-decides, second-decides, first-same, second-same}
+use Rattle.numbers.proofs.Radix.{joined_twice, first_decides, second_decides, first_same, second_same}
 use Rattle.widths.specs.declared.table.Key.{Key}
 use Rattle.widths.specs.Table.{WidthRecord, width_record_size, record_at, record_in, record_of}
 use Rattle.widths.specs.LookUp.{is_for}
@@ -66,11 +66,11 @@ module _ (a b : Key) (a_in : InKey a) (b-in : InKey b) where
   -- where check sum, scale and name are one number
   pub same_parts : block_number a ≡ block_number b → SameKey a b
   same_parts e =
-      let upper : a.head * 2 ^ 64 + a.high ≡ b.head * 2 ^ 64 + b.high = first-same (a.head * 2 ^ 64 + a.high) (b.head * 2 ^ 64 + b.high) (2 ^ 64) a.low b.low a_in.1 b-in.1 e in
+      let upper : a.head * 2 ^ 64 + a.high ≡ b.head * 2 ^ 64 + b.high = first_same (a.head * 2 ^ 64 + a.high) (b.head * 2 ^ 64 + b.high) (2 ^ 64) a.low b.low a_in.1 b-in.1 e in
       record {
-        head_same = first-same a.head b.head (2 ^ 64) a.high b.high a_in.0 b-in.0 upper;
-        high_same = second-same a.head b.head (2 ^ 64) a.high b.high a_in.0 b-in.0 upper;
-        low_same = second-same (a.head * 2 ^ 64 + a.high) (b.head * 2 ^ 64 + b.high) (2 ^ 64) a.low b.low a_in.1 b-in.1 e;
+        head_same = first_same a.head b.head (2 ^ 64) a.high b.high a_in.0 b-in.0 upper;
+        high_same = second_same a.head b.head (2 ^ 64) a.high b.high a_in.0 b-in.0 upper;
+        low_same = second_same (a.head * 2 ^ 64 + a.high) (b.head * 2 ^ 64 + b.high) (2 ^ 64) a.low b.low a_in.1 b-in.1 e;
       }
 
   -- ---- which of two keys is below the other: the first part in which they differ decides
@@ -79,41 +79,41 @@ module _ (a b : Key) (a_in : InKey a) (b-in : InKey b) where
   upper k = k.head * 2 ^ 64 + k.high
 
   module _ (a-code : a.code < 256) where
-    by-block : (block_number a ≡ block_number b → ⊥) → ltb (block_number a) (block_number b) ≡ ltb (key_number a) (key_number b)
-    by-block differ = first-decides (block_number a) (block_number b) 256 a.code b.code a-code b-in.2 differ
+    by_block : (block_number a ≡ block_number b → ⊥) → ltb (block_number a) (block_number b) ≡ ltb (key_number a) (key_number b)
+    by_block differ = first_decides (block_number a) (block_number b) 256 a.code b.code a-code b-in.2 differ
 
-    by-upper : (upper a ≡ upper b → ⊥) → ltb (upper a) (upper b) ≡ ltb (key_number a) (key_number b)
-    by-upper differ =
-        first-decides (upper a) (upper b) (2 ^ 64) a.low b.low a_in.1 (lt_le b-in.1) differ
-        ∙ by-block (λ e. differ (first-same (upper a) (upper b) (2 ^ 64) a.low b.low a_in.1 b-in.1 e))
+    by_upper : (upper a ≡ upper b → ⊥) → ltb (upper a) (upper b) ≡ ltb (key_number a) (key_number b)
+    by_upper differ =
+        first_decides (upper a) (upper b) (2 ^ 64) a.low b.low a_in.1 (lt_le b-in.1) differ
+        ∙ by_block (λ e. differ (first_same (upper a) (upper b) (2 ^ 64) a.low b.low a_in.1 b-in.1 e))
 
-    pub head-decides : (a.head ≡ b.head → ⊥) → ltb a.head b.head ≡ ltb (key_number a) (key_number b)
-    head-decides differ =
-        first-decides a.head b.head (2 ^ 64) a.high b.high a_in.0 (lt_le b-in.0) differ
-        ∙ by-upper (λ e. differ (first-same a.head b.head (2 ^ 64) a.high b.high a_in.0 b-in.0 e))
+    pub head_decides : (a.head ≡ b.head → ⊥) → ltb a.head b.head ≡ ltb (key_number a) (key_number b)
+    head_decides differ =
+        first_decides a.head b.head (2 ^ 64) a.high b.high a_in.0 (lt_le b-in.0) differ
+        ∙ by_upper (λ e. differ (first_same a.head b.head (2 ^ 64) a.high b.high a_in.0 b-in.0 e))
 
     module _ (heads : a.head ≡ b.head) where
-      pub high-decides : (a.high ≡ b.high → ⊥) → ltb a.high b.high ≡ ltb (key_number a) (key_number b)
-      high-decides differ =
-          second-decides a.head b.head (2 ^ 64) a.high b.high a_in.0 heads
-          ∙ by-upper (λ e. differ (second-same a.head b.head (2 ^ 64) a.high b.high a_in.0 b-in.0 e))
+      pub high_decides : (a.high ≡ b.high → ⊥) → ltb a.high b.high ≡ ltb (key_number a) (key_number b)
+      high_decides differ =
+          second_decides a.head b.head (2 ^ 64) a.high b.high a_in.0 heads
+          ∙ by_upper (λ e. differ (second_same a.head b.head (2 ^ 64) a.high b.high a_in.0 b-in.0 e))
 
       module _ (highs : a.high ≡ b.high) where
         uppers : upper a ≡ upper b
         uppers = ap₂ (λ (head high : ℕ). head * 2 ^ 64 + high) heads highs
 
-        pub low-decides : (a.low ≡ b.low → ⊥) → ltb a.low b.low ≡ ltb (key_number a) (key_number b)
-        low-decides differ =
-            second-decides (upper a) (upper b) (2 ^ 64) a.low b.low a_in.1 uppers
-            ∙ by-block (λ e. differ (same_parts e).low_same)
+        pub low_decides : (a.low ≡ b.low → ⊥) → ltb a.low b.low ≡ ltb (key_number a) (key_number b)
+        low_decides differ =
+            second_decides (upper a) (upper b) (2 ^ 64) a.low b.low a_in.1 uppers
+            ∙ by_block (λ e. differ (same_parts e).low_same)
 
-        pub code-decides : a.low ≡ b.low → ltb a.code b.code ≡ ltb (key_number a) (key_number b)
-        code-decides lows =
-            second-decides (block_number a) (block_number b) 256 a.code b.code a-code (ap₂ (λ (top low : ℕ). top * 2 ^ 64 + low) uppers lows)
+        pub code_decides : a.low ≡ b.low → ltb a.code b.code ≡ ltb (key_number a) (key_number b)
+        code_decides lows =
+            second_decides (block_number a) (block_number b) 256 a.code b.code a-code (ap₂ (λ (top low : ℕ). top * 2 ^ 64 + low) uppers lows)
 
     -- where check sum, scale and name are the same, the codes decide
-    pub code-reaches : block_number a ≡ block_number b → ltb a.code b.code ≡ ltb (key_number a) (key_number b)
-    code-reaches e = second-decides (block_number a) (block_number b) 256 a.code b.code a-code e
+    pub code_reaches : block_number a ≡ block_number b → ltb a.code b.code ≡ ltb (key_number a) (key_number b)
+    code_reaches e = second_decides (block_number a) (block_number b) 256 a.code b.code a-code e
 
 -- the parts of a key keep to their bytes
 pub in_key : {checksum scale name code : ℕ} {k : Key} → KeyIs checksum scale name code k → InKey k
@@ -131,16 +131,16 @@ module _ {checksum scale name code checksum' scale' name' code' : ℕ} {k k' : K
       let s = same_parts k k' (in_key h) (in_key h') e in
       let heads : checksum * 2 ^ 32 + scale ≡ checksum' * 2 ^ 32 + scale' = sym h.head_is ∙ s.head_same ∙ h'.head_is in
       record {
-        checksums = first-same checksum checksum' (2 ^ 32) scale scale' h.scale_below h'.scale_below heads;
-        scales = second-same checksum checksum' (2 ^ 32) scale scale' h.scale_below h'.scale_below heads;
+        checksums = first_same checksum checksum' (2 ^ 32) scale scale' h.scale_below h'.scale_below heads;
+        scales = second_same checksum checksum' (2 ^ 32) scale scale' h.scale_below h'.scale_below heads;
         names = sym h.name_is ∙ ap₂ (λ (high low : ℕ). high * 2 ^ 64 + low) s.high_same s.low_same ∙ h'.name_is;
       }
 
-  pub same-block-number : key_number k ≡ key_number k' → block_number k ≡ block_number k'
-  same-block-number e = first-same (block_number k) (block_number k') 256 k.code k'.code h.code_below h'.code_below e
+  pub same_block_number : key_number k ≡ key_number k' → block_number k ≡ block_number k'
+  same_block_number e = first_same (block_number k) (block_number k') 256 k.code k'.code h.code_below h'.code_below e
 
   pub same_codes : key_number k ≡ key_number k' → code ≡ code'
-  same_codes e = sym h.code_is ∙ second-same (block_number k) (block_number k') 256 k.code k'.code h.code_below h'.code_below e ∙ h'.code_is
+  same_codes e = sym h.code_is ∙ second_same (block_number k) (block_number k') 256 k.code k'.code h.code_below h'.code_below e ∙ h'.code_is
 
 module _ (table : List ℕ) (index : ℕ) where
   pub key_is : (k : Key) → KeyAt table (index * width_record_size) k → key_number k ≡ (record_of table index).key
@@ -149,9 +149,9 @@ module _ (table : List ℕ) (index : ℕ) where
 
   -- a record for a character has its key
   module _ (checksum scale name byte : ℕ) where
-    pub for-key : is_for (record_of table index) checksum scale name byte ≡ true → (record_of table index).key ≡ character_key checksum scale name byte
+    pub for_key : is_for (record_of table index) checksum scale name byte ≡ true → (record_of table index).key ≡ character_key checksum scale name byte
     unfolding record_in
-    for-key e =
+    for_key e =
         let r = record_at table (index * width_record_size) in
         let outer = (and-eq-true_iff (eqb r.checksum checksum) (eqb r.scale scale && (eqb r.name name && eqb r.code byte))).0 e in
         let middle = (and-eq-true_iff (eqb r.scale scale) (eqb r.name name && eqb r.code byte)).0 outer.1 in
@@ -161,10 +161,10 @@ module _ (table : List ℕ) (index : ℕ) where
         ∙ ap₂ (λ (called code : ℕ). character_key checksum scale called code) (eqb-true r.name name inner.0) (eqb-true r.code byte inner.1)
 
     -- and a record whose key is a character's is for it
-    pub key-for : (k sought : Key) → KeyAt table (index * width_record_size) k → KeyIs checksum scale name byte sought → key_number k ≡ key_number sought
+    pub key_for : (k sought : Key) → KeyAt table (index * width_record_size) k → KeyIs checksum scale name byte sought → key_number k ≡ key_number sought
         → is_for (record_of table index) checksum scale name byte ≡ true
     unfolding record_in
-    key-for k sought h is e =
+    key_for k sought h is e =
         let r = record_at table (index * width_record_size) in
-        let s = same_blocks h is (same-block-number h is e) in
+        let s = same_blocks h is (same_block_number h is e) in
         simp (eq-eqb r.checksum checksum s.checksums, eq-eqb r.scale scale s.scales, eq-eqb r.name name s.names, eq-eqb r.code byte (same_codes h is e))

@@ -14,8 +14,8 @@ use Rattle.widths.specs.Table.{width_record_size, record_of, checked_table}
 use Rattle.widths.specs.LookUp.{LookUp, found, absent, metric_of, is_for, walk_from, walk, or_else}
 use Rattle.widths.specs.Steps.{key_number, KeyIs, KeyAt, FirstNotBelow}
 use Rattle.numbers.proofs.Radix.{less_or_not}
-use Rattle.widths.proofs.Keys.{character_key, key_number_lem, key_is, for-key, key-for}
-use Rattle.widths.proofs.TableLaws.{keys-rise}
+use Rattle.widths.proofs.Keys.{character_key, key_number_lem, key_is, for_key, key_for}
+use Rattle.widths.proofs.TableLaws.{keys_rise}
 
 -- a number that is below another is not the same
 below_not_same : {a b : ℕ} → a < b → a ≡ b → ⊥
@@ -32,18 +32,18 @@ module _ (table : List ℕ) (checksum scale name byte : ℕ) where
   abbrev Other : ℕ → Type 0
   Other index = (record_of table index).key ≡ character_key checksum scale name byte → ⊥
 
-  not-for-by : (index : ℕ) (outcome : Bool) → is_for (record_of table index) checksum scale name byte ≡ outcome → Other index → outcome ≡ false
-  not-for-by index true e other = absurd (other (for-key table index checksum scale name byte e))
-  not-for-by index false e other = refl
+  not_for_by : (index : ℕ) (outcome : Bool) → is_for (record_of table index) checksum scale name byte ≡ outcome → Other index → outcome ≡ false
+  not_for_by index true e other = absurd (other (for_key table index checksum scale name byte e))
+  not_for_by index false e other = refl
 
-  not-for : (index : ℕ) → Other index → is_for (record_of table index) checksum scale name byte ≡ false
-  not-for index other = not-for-by index (is_for (record_of table index) checksum scale name byte) refl other
+  not_for : (index : ℕ) → Other index → is_for (record_of table index) checksum scale name byte ≡ false
+  not_for index other = not_for_by index (is_for (record_of table index) checksum scale name byte) refl other
 
   misses : (left index : ℕ) → ((j : ℕ) → index ≤ j → j < index + left → Other j) → walk_from name_size left table index checksum scale name byte ≡ absent
   unfolding walk_from
   misses zero index others = refl
   misses (suc left) index others =
-      rw (not-for index (others index (omega arith) (omega arith)))
+      rw (not_for index (others index (omega arith) (omega arith)))
       (misses left (suc index) (λ j low high. others j (omega arith) (omega arith)))
 
   hits : (left index hit : ℕ) → index ≤ hit → hit < index + left → ((j : ℕ) → index ≤ j → j < hit → Other j) → is_for (record_of table hit) checksum scale name byte ≡ true
@@ -52,7 +52,7 @@ module _ (table : List ℕ) (checksum scale name byte : ℕ) where
   hits zero index hit low high others e = absurd (omega arith)
   hits (suc left) index hit low high others e =
       ⊎_elim (λ (same : index ≡ hit). rw same (rw e))
-      (λ (past : index < hit). rw (not-for index (others index (omega arith) past)) (hits left (suc index) hit past (omega arith) (λ j l h. others j (omega arith) h) e))
+      (λ (past : index < hit). rw (not_for index (others index (omega arith) past)) (hits left (suc index) hit past (omega arith) (λ j l h. others j (omega arith) h) e))
       (eq-or-lt_of_le low)
 
 -- ---- in a right table
@@ -60,28 +60,28 @@ module _ (table : List ℕ) (checksum scale name byte : ℕ) where
 module _ (table : List ℕ) (records : ℕ) (judged : checked_table table ≡ given records) where
   module _ (checksum scale name byte : ℕ) where
     -- a record with the character's key is the one that the walk finds
-    pub walk-finds : (index : ℕ) (k sought : Key) → index < records → KeyAt table (index * width_record_size) k → KeyIs checksum scale name byte sought → key_number k ≡ key_number sought
+    pub walk_finds : (index : ℕ) (k sought : Key) → index < records → KeyAt table (index * width_record_size) k → KeyIs checksum scale name byte sought → key_number k ≡ key_number sought
         → found (metric_of (record_of table index)) ≡ walk records table checksum scale name byte
-    walk-finds index k sought inside h is e =
+    walk_finds index k sought inside h is e =
         let here : (record_of table index).key ≡ character_key checksum scale name byte = sym (key_is table index k h) ∙ e ∙ key_number_lem checksum scale name byte sought is in
         sym (hits table checksum scale name byte records 0 index (omega arith) (omega arith)
-        (λ j low high same. absurd (below_not_same (keys-rise name_size table records judged j index high inside) (same ∙ sym here)))
-        (key-for table index checksum scale name byte k sought h is e))
+        (λ j low high same. absurd (below_not_same (keys_rise name_size table records judged j index high inside) (same ∙ sym here)))
+        (key_for table index checksum scale name byte k sought h is e))
 
     -- a record that is for a character is the one that the walk finds
-    pub own-found : (index : ℕ) → index < records → is_for (record_of table index) checksum scale name byte ≡ true → walk records table checksum scale name byte ≡ found (metric_of (record_of table index))
-    own-found index inside is =
+    pub own_found : (index : ℕ) → index < records → is_for (record_of table index) checksum scale name byte ≡ true → walk records table checksum scale name byte ≡ found (metric_of (record_of table index))
+    own_found index inside is =
         hits table checksum scale name byte records 0 index (omega arith) (omega arith)
-        (λ j low high same. below_not_same (keys-rise name_size table records judged j index high inside) (same ∙ sym (for-key table index checksum scale name byte is))) is
+        (λ j low high same. below_not_same (keys_rise name_size table records judged j index high inside) (same ∙ sym (for_key table index checksum scale name byte is))) is
 
     -- no record has the character's key where it is not in the first whose key is not below it
-    pub walk-misses : (index : ℕ) → FirstNotBelow table records (character_key checksum scale name byte) index → (index < records → (record_of table index).key ≡ character_key checksum scale name byte → ⊥)
+    pub walk_misses : (index : ℕ) → FirstNotBelow table records (character_key checksum scale name byte) index → (index < records → (record_of table index).key ≡ character_key checksum scale name byte → ⊥)
         → absent ≡ walk records table checksum scale name byte
-    walk-misses index first other =
+    walk_misses index first other =
         sym (misses table checksum scale name byte records 0 (λ j low high e.
         ⊎_elim (λ (under : j < index). absurd (below_not_same (first.below j under) e))
         (λ (over : index ≤ j). ⊎_elim (λ (same : index ≡ j). other (omega arith) (subst (λ (n : ℕ). (record_of table n).key ≡ character_key checksum scale name byte) (sym same) e))
-        (λ (past : index < j). absurd (past_not_same (first.above index (omega arith) (omega arith)) (keys-rise name_size table records judged index j past (omega arith)) e))
+        (λ (past : index < j). absurd (past_not_same (first.above index (omega arith) (omega arith)) (keys_rise name_size table records judged index j past (omega arith)) e))
         (eq-or-lt_of_le over))
         (less_or_not j index)))
 
@@ -100,29 +100,29 @@ module _ (table : List ℕ) (records key : ℕ) where
     pub below : (j : ℕ) → j < low → (record_of table j).key < key
     pub above : (j : ℕ) → high ≤ j → j < records → key ≤ (record_of table j).key
 
-  pub search-starts : Between 0 records
-  search-starts = record { order = omega arith; top = omega arith; below = λ j h. absurd (omega arith); above = λ j h l. absurd (omega arith) }
+  pub search_starts : Between 0 records
+  search_starts = record { order = omega arith; top = omega arith; below = λ j h. absurd (omega arith); above = λ j h l. absurd (omega arith) }
 
   module _ (judged : checked_table table ≡ given records) (low high middle : ℕ) (b : Between low high) (from : low ≤ middle) (to : middle < high) where
-    pub search-up : (record_of table middle).key < key → Between (middle + 1) high
-    search-up h =
+    pub search_up : (record_of table middle).key < key → Between (middle + 1) high
+    search_up h =
         record {
           order = omega arith;
           top = b.top;
-          below = below_more (λ (j : ℕ). (record_of table j).key < key) middle (λ j l. lt_trans (keys-rise name_size table records judged j middle l (omega (arith, b.top))) h) h;
+          below = below_more (λ (j : ℕ). (record_of table j).key < key) middle (λ j l. lt_trans (keys_rise name_size table records judged j middle l (omega (arith, b.top))) h) h;
           above = b.above;
         }
 
-    pub search-down : key ≤ (record_of table middle).key → Between low middle
-    search-down h =
+    pub search_down : key ≤ (record_of table middle).key → Between low middle
+    search_down h =
         record {
           order = from;
           top = omega (arith, b.top);
           below = b.below;
-          above = λ j l inside. ⊎_elim (λ (same : middle ≡ j). subst (λ (n : ℕ). key ≤ (record_of table n).key) same h) (λ (past : middle < j). omega (arith, keys-rise name_size table records judged middle j past inside)) (eq-or-lt_of_le l);
+          above = λ j l inside. ⊎_elim (λ (same : middle ≡ j). subst (λ (n : ℕ). key ≤ (record_of table n).key) same h) (λ (past : middle < j). omega (arith, keys_rise name_size table records judged middle j past inside)) (eq-or-lt_of_le l);
         }
 
-  pub search-ends : (low high : ℕ) → Between low high → high ≤ low → FirstNotBelow table records key low
-  search-ends low high b h =
+  pub search_ends : (low high : ℕ) → Between low high → high ≤ low → FirstNotBelow table records key low
+  search_ends low high b h =
       let e : high ≡ low = omega (arith, b.order) in
       record { bound = omega (arith, b.top); below = b.below; above = rw e at b.above }

@@ -12,7 +12,7 @@ use lib.ListN.{length, get_or}
 use borrow.Author.Tests.{ltb-true, ltb-false, leb-true, leb-false, lt-ltb, le-ltb, lt-leb, le-leb, not-false}
 use Rattle.refusals.specs.Numbers.{wrong_width_table}
 use Rattle.refusals.specs.Answer.{refused, given, refuse_if}
-use Rattle.refusals.proofs.Answer.{given-next, given-same}
+use Rattle.refusals.proofs.Answer.{given_next, given_same}
 use Rattle.numbers.specs.Bytes.{unsigned_at}
 use Rattle.numbers.specs.Sizes.{lawful_size}
 use Rattle.names.specs.Names.{name_then_zeros}
@@ -46,8 +46,8 @@ module _ (named : ℕ) where
   next_place index = suc-mul index size
 
   -- there are no more records than bytes
-  index-within : (index : ℕ) → index ≤ index * size
-  index-within index = le-mul_of_pos_right index some
+  index_within : (index : ℕ) → index ≤ index * size
+  index_within index = le-mul_of_pos_right index some
 
   -- ---- the loop
 
@@ -61,8 +61,8 @@ module _ (named : ℕ) where
         ap (λ (scale : ℕ). lawful_size scale && (name_then_zeros r.name_bytes && lawful_rest r)) none
     first_reach false e = refl
 
-    pub check-starts : Checking named table 0 256
-    check-starts =
+    pub check_starts : Checking named table 0 256
+    check_starts =
         record {
           index = 0;
           left = suc (length table);
@@ -84,14 +84,14 @@ module _ (named : ℕ) where
     ended zero index h = refl
     ended (suc left) index h = simp (le-leb (length table) (index * size) h)
 
-    wrong-by : (left index : ℕ) → index * size < length table → index + left ≡ suc (length table) → right_in named table index ≡ false
+    wrong_by : (left index : ℕ) → index * size < length table → index + left ≡ suc (length table) → right_in named table index ≡ false
         → checked_from named left table index ≡ refused wrong_width_table (index * size)
-    wrong-by zero index h enough e = absurd (omega (arith, index-within index))
-    wrong-by (suc left) index h enough e = opened left index h ∙ simp e
+    wrong_by zero index h enough e = absurd (omega (arith, index_within index))
+    wrong_by (suc left) index h enough e = opened left index h ∙ simp e
 
     turn_by : (left index : ℕ) → index * size < length table → index + left ≡ suc (length table) → right_in named table index ≡ true
         → checked_from named left table index ≡ checked_in named table → Checking named table (index * size + size) ((record_in named table index).key + 1)
-    turn_by zero index h enough e rest = absurd (omega (arith, index-within index))
+    turn_by zero index h enough e rest = absurd (omega (arith, index_within index))
     turn_by (suc left) index h enough e rest =
         record {
           index = suc index;
@@ -106,23 +106,23 @@ module _ (named : ℕ) where
       abbrev pub here : ℕ
       here = (record_in named table c.index).key
 
-      pub check-ends : length table ≤ at → given (at / size) ≡ checked_in named table
-      check-ends h =
+      pub check_ends : length table ≤ at → given (at / size) ≡ checked_in named table
+      check_ends h =
           let e : at / size ≡ c.index = ap (λ (n : ℕ). n / size) c.place ∙ mul-div_cancel c.index some in
           ap given e ∙ sym (ended c.left c.index (omega (arith, c.place))) ∙ c.rest
 
       wrong : at < length table → right_in named table c.index ≡ false → refused wrong_width_table at ≡ checked_in named table
-      wrong h e = ap (refused wrong_width_table) c.place ∙ sym (wrong-by c.left c.index (omega (arith, c.place)) c.enough e) ∙ c.rest
+      wrong h e = ap (refused wrong_width_table) c.place ∙ sym (wrong_by c.left c.index (omega (arith, c.place)) c.enough e) ∙ c.rest
 
-      pub check-cut : at < length table → length table < at + size → refused wrong_width_table at ≡ checked_in named table
-      check-cut h l = wrong h (simp (lt-leb (c.index * size + size) (length table) (omega (arith, c.place))))
+      pub check_cut : at < length table → length table < at + size → refused wrong_width_table at ≡ checked_in named table
+      check_cut h l = wrong h (simp (lt-leb (c.index * size + size) (length table) (omega (arith, c.place))))
 
       -- the key reaches `least`, and its scale and name are lawful
-      abbrev pub keyRight : Bool
-      keyRight = not (ltb here least) && lawful_block (record_with named table at)
+      abbrev pub key_right : Bool
+      key_right = not (ltb here least) && lawful_block (record_with named table at)
 
       -- a whole record is right where its key is, and the rest
-      right_is : at + size ≤ length table → right_in named table c.index ≡ (keyRight && lawful_rest (record_with named table at))
+      right_is : at + size ≤ length table → right_in named table c.index ≡ (key_right && lawful_rest (record_with named table at))
       unfolding record_in
       right_is h =
           simp (le-leb (c.index * size + size) (length table) (omega (arith, c.place)))
@@ -130,22 +130,22 @@ module _ (named : ℕ) where
           ∙ ap (λ (t : Bool). not (ltb here least) && t) (fields_parts (record_with named table at))
           ∙ sym (and_assoc (not (ltb here least)) (lawful_block (record_with named table at)) (lawful_rest (record_with named table at))))
 
-      pub check-key : at + size ≤ length table → keyRight ≡ false → refused wrong_width_table at ≡ checked_in named table
-      check-key h e = wrong (omega arith) (right_is h ∙ ap (λ (key : Bool). key && lawful_rest (record_with named table at)) e)
+      pub check_key : at + size ≤ length table → key_right ≡ false → refused wrong_width_table at ≡ checked_in named table
+      check_key h e = wrong (omega arith) (right_is h ∙ ap (λ (key : Bool). key && lawful_rest (record_with named table at)) e)
 
-      pub check-rest : at + size ≤ length table → keyRight ≡ true → lawful_rest (record_with named table at) ≡ false → refused wrong_width_table at ≡ checked_in named table
-      check-rest h e f = wrong (omega arith) (right_is h ∙ ap₂ ◌&&◌ e f)
+      pub check_rest : at + size ≤ length table → key_right ≡ true → lawful_rest (record_with named table at) ≡ false → refused wrong_width_table at ≡ checked_in named table
+      check_rest h e f = wrong (omega arith) (right_is h ∙ ap₂ ◌&&◌ e f)
 
-      pub check-turns : at + size ≤ length table → keyRight ≡ true → lawful_rest (record_with named table at) ≡ true → Checking named table (at + size) (here + 1)
-      check-turns h e f =
+      pub check_turns : at + size ≤ length table → key_right ≡ true → lawful_rest (record_with named table at) ≡ true → Checking named table (at + size) (here + 1)
+      check_turns h e f =
           subst (λ (n : ℕ). Checking named table (n + size) (here + 1)) (sym c.place)
           (turn_by c.left c.index (omega (arith, c.place)) c.enough (right_is h ∙ ap₂ ◌&&◌ e f) c.rest)
 
   -- ---- a right table
 
-  right-parts : (table : List ℕ) (index : ℕ) → right_in named table index ≡ true
+  right_parts : (table : List ℕ) (index : ℕ) → right_in named table index ≡ true
       → (whole_in named table index ≡ true) × (rises_in named table index ≡ true) × (lawful_fields (record_in named table index) ≡ true)
-  right-parts table index e =
+  right_parts table index e =
       let fields = lawful_fields (record_in named table index) in
       let outer = (and-eq-true_iff (whole_in named table index) (rises_in named table index && fields)).0 e in
       let inner = (and-eq-true_iff (rises_in named table index) fields).0 outer.1 in
@@ -153,7 +153,7 @@ module _ (named : ℕ) where
 
   -- what is known of a table that was judged right from an index on
   record RightFrom (table : List ℕ) (from records : ℕ) : Type 0 where
-    whole-size : records * size ≡ length table
+    whole_size : records * size ≡ length table
     right : (index : ℕ) → from ≤ index → index < records → right_in named table index ≡ true
 
   module _ (table : List ℕ) (records : ℕ) where
@@ -161,81 +161,81 @@ module _ (named : ℕ) where
         → (suc index * size ≤ length table → checked_from named left table (suc index) ≡ given records → RightFrom table (suc index) records) → RightFrom table index records
     right_by left index true e fits r next =
         let over : length table ≤ index * size = leb-true (length table) (index * size) e in
-        let last : index ≡ records = given-same index records (sym (ended table (suc left) index over) ∙ r) in
-        record { whole-size = sym (ap (λ (n : ℕ). n * size) last) ∙ omega arith; right = λ i low high. absurd (omega arith) }
+        let last : index ≡ records = given_same index records (sym (ended table (suc left) index over) ∙ r) in
+        record { whole_size = sym (ap (λ (n : ℕ). n * size) last) ∙ omega arith; right = λ i low high. absurd (omega arith) }
     right_by left index false e fits r next =
         let under : index * size < length table = leb-false (length table) (index * size) e in
-        let split = given-next (not (right_in named table index)) wrong_width_table (index * size) (checked_from named left table (suc index)) records (sym (opened table left index under) ∙ r) in
+        let split = given_next (not (right_in named table index)) wrong_width_table (index * size) (checked_from named left table (suc index)) records (sym (opened table left index under) ∙ r) in
         let here : right_in named table index ≡ true = not-false (right_in named table index) split.0 in
-        let whole : index * size + size ≤ length table = leb-true (index * size + size) (length table) (right-parts table index here).0 in
+        let whole : index * size + size ≤ length table = leb-true (index * size + size) (length table) (right_parts table index here).0 in
         let more : RightFrom table (suc index) records = next (omega (arith, next_place index)) split.1 in
         record {
-          whole-size = more.whole-size;
+          whole_size = more.whole_size;
           right = λ i low high. ⊎_elim (λ (same : index ≡ i). subst (λ (n : ℕ). right_in named table n ≡ true) same here) (λ (past : index < i). more.right i past high) (eq-or-lt_of_le low);
         }
 
-    right-from : (left index : ℕ) → index + left ≡ suc (length table) → index * size ≤ length table → checked_from named left table index ≡ given records → RightFrom table index records
-    right-from zero index enough fits r = absurd (omega (arith, index-within index))
-    right-from (suc left) index enough fits r =
-        right_by left index (leb (length table) (index * size)) refl fits r (λ fits_next r-next. right-from left (suc index) (omega arith) fits_next r-next)
+    right_from : (left index : ℕ) → index + left ≡ suc (length table) → index * size ≤ length table → checked_from named left table index ≡ given records → RightFrom table index records
+    right_from zero index enough fits r = absurd (omega (arith, index_within index))
+    right_from (suc left) index enough fits r =
+        right_by left index (leb (length table) (index * size)) refl fits r (λ fits_next r-next. right_from left (suc index) (omega arith) fits_next r-next)
 
     module _ (judged : checked_in named table ≡ given records) where
-      right-all : RightFrom table 0 records
-      right-all = right-from (suc (length table)) 0 (omega arith) (omega (arith, zero-mul size)) judged
+      right_all : RightFrom table 0 records
+      right_all = right_from (suc (length table)) 0 (omega arith) (omega (arith, zero-mul size)) judged
 
       -- a right table is its records and nothing more
-      pub table-size : records * size ≡ length table
-      table-size = right-all.whole-size
+      pub table_size : records * size ≡ length table
+      table_size = right_all.whole_size
 
       -- each record lies within the table
-      pub record-inside : (index : ℕ) → index < records → index * size + size ≤ length table
-      record-inside index h =
+      pub record_inside : (index : ℕ) → index < records → index * size + size ≤ length table
+      record_inside index h =
           let past : suc index * size ≤ records * size = mul-le-mul_right size h in
-          omega (arith, table-size, next_place index, past)
+          omega (arith, table_size, next_place index, past)
 
-      pub record-right : (index : ℕ) → index < records → right_in named table index ≡ true
-      record-right index h = right-all.right index (omega arith) h
+      pub record_right : (index : ℕ) → index < records → right_in named table index ≡ true
+      record_right index h = right_all.right index (omega arith) h
 
       -- its fields are right
-      pub fields-right : (index : ℕ) → index < records → lawful_fields (record_in named table index) ≡ true
-      fields-right index h = (right-parts table index (record-right index h)).2
+      pub fields_right : (index : ℕ) → index < records → lawful_fields (record_in named table index) ≡ true
+      fields_right index h = (right_parts table index (record_right index h)).2
 
-      rises-one : (index : ℕ) → suc index < records → (record_in named table index).key < (record_in named table (suc index)).key
-      rises-one index h = ltb-true (record_in named table index).key (record_in named table (suc index)).key (right-parts table (suc index) (record-right (suc index) h)).1
+      rises_one : (index : ℕ) → suc index < records → (record_in named table index).key < (record_in named table (suc index)).key
+      rises_one index h = ltb-true (record_in named table index).key (record_in named table (suc index)).key (right_parts table (suc index) (record_right (suc index) h)).1
 
-      pub keys-rise : (i j : ℕ) → i < j → j < records → (record_in named table i).key < (record_in named table j).key
-      keys-rise i zero low high = absurd (omega arith)
-      keys-rise i (suc j) low high =
-          let last : (record_in named table j).key < (record_in named table (suc j)).key = rises-one j high in
+      pub keys_rise : (i j : ℕ) → i < j → j < records → (record_in named table i).key < (record_in named table j).key
+      keys_rise i zero low high = absurd (omega arith)
+      keys_rise i (suc j) low high =
+          let last : (record_in named table j).key < (record_in named table (suc j)).key = rises_one j high in
           let near : i ≤ j = omega arith in
           ⊎_elim (λ (same : i ≡ j). subst (λ (n : ℕ). (record_in named table n).key < (record_in named table (suc j)).key) (sym same) last)
-          (λ (under : i < j). lt_trans (keys-rise i j under (omega arith)) last)
+          (λ (under : i < j). lt_trans (keys_rise i j under (omega arith)) last)
           (eq-or-lt_of_le near)
 
       -- a key stands in one record only
-      pub key-unique : (i j : ℕ) → i < records → j < records → (record_in named table i).key ≡ (record_in named table j).key → i ≡ j
-      key-unique i j i-in j-in e =
-          ⊎_elim (λ (under : i < j). absurd (omega (arith, keys-rise i j under j-in)))
-          (λ (over : j ≤ i). ⊎_elim (λ (same : j ≡ i). sym same) (λ (past : j < i). absurd (omega (arith, keys-rise j i past i-in))) (eq-or-lt_of_le over))
+      pub key_unique : (i j : ℕ) → i < records → j < records → (record_in named table i).key ≡ (record_in named table j).key → i ≡ j
+      key_unique i j i-in j-in e =
+          ⊎_elim (λ (under : i < j). absurd (omega (arith, keys_rise i j under j-in)))
+          (λ (over : j ≤ i). ⊎_elim (λ (same : j ≡ i). sym same) (λ (past : j < i). absurd (omega (arith, keys_rise j i past i-in))) (eq-or-lt_of_le over))
           (less_or_not i j)
 
   -- a table of right records and no byte more is right
   module _ (table : List ℕ) (records : ℕ) (whole : records * size ≡ length table) (right : (index : ℕ) → index < records → right_in named table index ≡ true) where
-    right-on : (left index : ℕ) → index + left ≡ suc (length table) → index ≤ records → checked_from named left table index ≡ given records
-    right-on zero index enough bound = absurd (omega (arith, index-within records))
-    right-on (suc left) index enough bound =
+    right_on : (left index : ℕ) → index + left ≡ suc (length table) → index ≤ records → checked_from named left table index ≡ given records
+    right_on zero index enough bound = absurd (omega (arith, index_within records))
+    right_on (suc left) index enough bound =
         ⊎_elim (λ (last : index ≡ records). let over : length table ≤ index * size = omega (arith, ap (λ (n : ℕ). n * size) last) in ended table (suc left) index over ∙ ap given last)
         (λ (more : index < records).
         let past : suc index * size ≤ records * size = mul-le-mul_right size more in
-        opened table left index (omega (arith, next_place index)) ∙ simp (right index more) (right-on left (suc index) (omega arith) more))
+        opened table left index (omega (arith, next_place index)) ∙ simp (right index more) (right_on left (suc index) (omega arith) more))
         (eq-or-lt_of_le bound)
 
-    pub judged-right : checked_in named table ≡ given records
-    judged-right = right-on (suc (length table)) 0 (omega arith) (omega arith)
+    pub judged_right : checked_in named table ≡ given records
+    judged_right = right_on (suc (length table)) 0 (omega arith) (omega arith)
 
   -- the width of a record is bytes, as the table is
-  pub width-bytes : (table : List ℕ) → ((i : ℕ) → get_or table i 0 < 256) → (index : ℕ) → LastBytes (record_in named table index).width
+  pub width_bytes : (table : List ℕ) → ((i : ℕ) → get_or table i 0 < 256) → (index : ℕ) → LastBytes (record_in named table index).width
   unfolding record_in
-  width-bytes table bytes index =
+  width_bytes table bytes index =
       let at = index * size in
       record { b1_below = bytes (at + (named + 13)); b2_below = bytes (at + (named + 14)); b3_below = bytes (at + (named + 15)) }

@@ -12,7 +12,7 @@ use Rattle.widths.specs.declared.table.Key.{Key}
 use Rattle.widths.specs.Table.{width_record_size, record_at}
 use Rattle.widths.specs.Steps.{block_number, key_number, KeyAt, lawful_block, lawful_rest, Checking, with_code}
 use Rattle.widths.proofs.Keys.{key_is}
-use Rattle.widths.proofs.TableLaws.{here, keyRight, check-turns}
+use Rattle.widths.proofs.TableLaws.{here, key_right, check_turns}
 
 module _ (table : List ℕ) (at least : ℕ) (checking : Checking name_size table at least) (key : Key) (is : KeyAt table at key) where
   -- the key that was read is that of the record
@@ -20,15 +20,15 @@ module _ (table : List ℕ) (at least : ℕ) (checking : Checking name_size tabl
   key_here = key_is table checking.index key (subst (λ (n : ℕ). KeyAt table n key) checking.place is)
 
   -- the test of the key, on the record's own
-  pub key-tested : (not (ltb (key_number key) least) && lawful_block (record_at table at)) ≡ keyRight name_size table at least checking
-  key-tested = ap (λ (n : ℕ). not (ltb n least) && lawful_block (record_at table at)) key_here
+  pub key_tested : (not (ltb (key_number key) least) && lawful_block (record_at table at)) ≡ key_right name_size table at least checking
+  key_tested = ap (λ (n : ℕ). not (ltb n least) && lawful_block (record_at table at)) key_here
 
   -- a record that is right leads to the next, whose key must reach one past this one's
   pub turned : at + width_record_size ≤ length table → (not (ltb (key_number key) least) && lawful_block (record_at table at)) ≡ true → lawful_rest (record_at table at) ≡ true
       → Checking name_size table (at + width_record_size) (key_number (with_code key (key.code + 1)))
   turned inside right rest =
       subst (Checking name_size table (at + width_record_size)) (ap (λ (n : ℕ). n + 1) (sym key_here) ∙ add_assoc (block_number key * 256) key.code 1)
-      (check-turns name_size table at least checking inside (sym key-tested ∙ right) rest)
+      (check_turns name_size table at least checking inside (sym key_tested ∙ right) rest)
 
 -- within one check sum, scale and name: the code reaches, and what was judged of the name holds
 pub reached_in_block : (key least : Key) → block_number key ≡ block_number least → key.code < 256 → least.code ≤ key.code → (lawful : Bool) → lawful ≡ true

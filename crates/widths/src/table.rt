@@ -30,7 +30,7 @@ pub const RECORD_SIZE: usize = CODE_AT + 8;
 const SCALE_SPAN: u64 = 4294967296;
 
 // A record's key: check sum and scale as one number, the two numbers of the name, and the code
-#[derive(Clone, Copy)]
+#[derive(Drop)]
 pub struct Key {
     pub head: u64,
     pub high: u64,
@@ -39,21 +39,21 @@ pub struct Key {
 }
 
 // What a run over records of one check sum, scale and name comes to: the place behind it, and the least code there
-#[derive(Clone, Copy)]
+#[derive(Drop)]
 pub struct Run {
     pub at: usize,
     pub code: u64,
 }
 
 // How many records a right table has, or the place of the first wrong one
-#[derive(Clone, Copy)]
+#[derive(Drop)]
 pub enum Table {
     Right(usize),
     Wrong(usize),
 }
 
 // The index of a character's record
-#[derive(Clone, Copy)]
+#[derive(Drop)]
 pub enum Place {
     At(usize),
     Nowhere,

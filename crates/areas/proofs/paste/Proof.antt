@@ -24,13 +24,13 @@ loop-holds c =
 shared-slice-read-out : tie.Need-shared-slice-read-out invariant-loop decreases-loop
 shared-slice-read-out c = search rules
 
-add-out : tie.Need-overflow_add-out invariant-loop decreases-loop
+add-out : tie.Need-overflow-add-out invariant-loop decreases-loop
 add-out c = search rules
 
 slice-write-out : tie.Need-slice-write-out invariant-loop decreases-loop
 slice-write-out c = search rules
 
-add-index : tie.Need-overflow_add-index invariant-loop decreases-loop
+add-index : tie.Need-overflow-add-index invariant-loop decreases-loop
 add-index c = search rules
 
 loop-less : tie.Need-loop-smaller invariant-loop decreases-loop

@@ -5,14 +5,14 @@ use borrow.Author.Rules.{rules}
 use Rattle.volume.specs.Judged.{judged}
 use Rattle.reader.specs.Answers.{file_answer}
 use Rattle.clib.specs.Answers.{file_numbers}
-use Rattle.clib.proofs.Endings.{leaves-short, leaves-given, leaves-refused}
+use Rattle.clib.proofs.Endings.{leaves_short, leaves_given, leaves_refused}
 use Rattle.clib.proofs.hurlyburn_check_file.Statement.{statement}
 use Rattle.clib.proofs.hurlyburn_check_file.Tie as tie
 
 returns : tie.Need-returns
 returns c =
     let a = c.before.before.before.args in
-    leaves-short 4 file_numbers a.answer.now (judged a.file.now) (omega (arith, c.if1.true))
+    leaves_short 4 file_numbers a.answer.now (judged a.file.now) (omega (arith, c.if1.true))
 
 check-file-requires : tie.Need-check-file-requires
 check-file-requires c κs = search rules
@@ -39,7 +39,7 @@ returns-2 : tie.Need-returns-2
 returns-2 c =
     let a = c.before.before.before.before.before.before.before.before.before.before.before.before.args in
     let g = c.before.before.give in
-    leaves-given 4 file_numbers a.answer.now (judged a.file.now) (omega (arith, c.before.before.before.before.before.before.before.before.before.if1.false)) _
+    leaves_given 4 file_numbers a.answer.now (judged a.file.now) (omega (arith, c.before.before.before.before.before.before.before.before.before.if1.false)) _
     (sym c.before.before.before.before.before.before.before.before.check-file.ensures.0 ∙ ap file_answer c.before.before.before.before.before.before.pages.given.1) g.result g.new.0 g.ensures
 
 same-length-2 : tie.Need-same-length-2
@@ -49,7 +49,7 @@ returns-3 : tie.Need-returns-3
 returns-3 c =
     let a = c.before.before.before.before.before.before.before.before.before.before.before.args in
     let g = c.before.before.refuse in
-    leaves-refused 4 file_numbers a.answer.now (judged a.file.now) (omega (arith, c.before.before.before.before.before.before.before.before.if1.false)) _ _
+    leaves_refused 4 file_numbers a.answer.now (judged a.file.now) (omega (arith, c.before.before.before.before.before.before.before.before.if1.false)) _ _
     (sym c.before.before.before.before.before.before.before.check-file.ensures.0 ∙ ap file_answer c.before.before.before.before.before.number.given.1) g.result g.new.0 g.ensures
 
 pub hurlyburn_check_file_spec : {M : Type 1} → statement M

@@ -5,14 +5,14 @@ use borrow.Author.Rules.{rules}
 use Rattle.widths.specs.Table.{checked_table}
 use Rattle.reader.specs.Answers.{table_answer}
 use Rattle.clib.specs.Answers.{table_numbers}
-use Rattle.clib.proofs.Endings.{leaves-short, leaves-given, leaves-refused}
+use Rattle.clib.proofs.Endings.{leaves_short, leaves_given, leaves_refused}
 use Rattle.clib.proofs.hurlyburn_check_table.Statement.{statement}
 use Rattle.clib.proofs.hurlyburn_check_table.Tie as tie
 
 returns : tie.Need-returns
 returns c =
     let a = c.before.before.before.args in
-    leaves-short 1 table_numbers a.answer.now (checked_table a.table.now) (omega (arith, c.if1.true))
+    leaves_short 1 table_numbers a.answer.now (checked_table a.table.now) (omega (arith, c.if1.true))
 
 check-table-requires : tie.Need-check-table-requires
 check-table-requires c κs = search rules
@@ -39,7 +39,7 @@ returns-2 : tie.Need-returns-2
 returns-2 c =
     let a = c.before.before.before.before.before.before.before.before.before.before.before.before.args in
     let g = c.before.before.give in
-    leaves-given 1 table_numbers a.answer.now (checked_table a.table.now) (omega (arith, c.before.before.before.before.before.before.before.before.before.if1.false)) _
+    leaves_given 1 table_numbers a.answer.now (checked_table a.table.now) (omega (arith, c.before.before.before.before.before.before.before.before.before.if1.false)) _
     (sym c.before.before.before.before.before.before.before.before.check-table.ensures ∙ ap table_answer c.before.before.before.before.before.before.records.given.1) g.result g.new.0 g.ensures
 
 same-length-2 : tie.Need-same-length-2
@@ -49,7 +49,7 @@ returns-3 : tie.Need-returns-3
 returns-3 c =
     let a = c.before.before.before.before.before.before.before.before.before.before.before.args in
     let g = c.before.before.refuse in
-    leaves-refused 1 table_numbers a.answer.now (checked_table a.table.now) (omega (arith, c.before.before.before.before.before.before.before.before.if1.false)) _ _
+    leaves_refused 1 table_numbers a.answer.now (checked_table a.table.now) (omega (arith, c.before.before.before.before.before.before.before.before.if1.false)) _ _
     (sym c.before.before.before.before.before.before.before.check-table.ensures ∙ ap table_answer c.before.before.before.before.before.number.given.1) g.result g.new.0 g.ensures
 
 pub hurlyburn_check_table_spec : {M : Type 1} → statement M

@@ -10,7 +10,7 @@ use Rattle.cutting.specs.CutFile.{cut_pages, bytes_cut, cut_area}
 use Rattle.reader.specs.declared.PagesCut as reader
 use Rattle.reader.specs.Answers.{cut_answer}
 use Rattle.clib.specs.Answers.{if_room, cut_numbers}
-use Rattle.clib.proofs.Endings.{too_short, long-enough, leaves-short, leaves-given, leaves-refused}
+use Rattle.clib.proofs.Endings.{too_short, long_enough, leaves_short, leaves_given, leaves_refused}
 use Rattle.clib.proofs.hurlyburn_cut_pages.Statement.{statement}
 use Rattle.clib.proofs.hurlyburn_cut_pages.Tie as tie
 
@@ -18,7 +18,7 @@ returns : tie.Need-returns
 returns c =
     let a = c.before.before.before.before.before.args in
     let cut = cut_pages a.file.now a.pages.now (length a.area.now) in
-    let left = leaves-short 1 cut_numbers a.answer.now (bytes_cut cut) (omega (arith, c.if1.true)) in
+    let left = leaves_short 1 cut_numbers a.answer.now (bytes_cut cut) (omega (arith, c.if1.true)) in
     (left.0, (left.1, too_short 1 a.answer.now _ _ (omega (arith, c.if1.true))))
 
 cut-pages-requires : tie.Need-cut-pages-requires
@@ -56,11 +56,11 @@ module _ (p : tie.After-cut-pages) where
   room : 1 ≤ length array
   room = omega (arith, p.before.before.if1.left)
 
-  bytes-are : (r : reader.PagesCut) → p.cut-pages.result ≡ r → bytes_cut cut ≡ cut_answer r
-  bytes-are r e = sym p.cut-pages.ensures.0 ∙ ap cut_answer e
+  bytes_are : (r : reader.PagesCut) → p.cut-pages.result ≡ r → bytes_cut cut ≡ cut_answer r
+  bytes_are r e = sym p.cut-pages.ensures.0 ∙ ap cut_answer e
 
   area_is : cut_area area cut ≡ if_room 1 array (cut_area area cut) area
-  area_is = long-enough 1 array (cut_area area cut) area room
+  area_is = long_enough 1 array (cut_area area cut) area room
 
 same_length : tie.Need-same-length
 same_length c = search rules
@@ -72,8 +72,8 @@ returns-2 : tie.Need-returns-2
 returns-2 c =
     let p = c.before.before.before.before.before.before.before.before.before.before in
     let g = c.before.before.give in
-    let left = leaves-given 1 cut_numbers (array p) (bytes_cut (cut p)) (room p) _
-    (bytes-are p _ c.before.before.before.before.before.before.bytes.given.1) g.result g.new.0 g.ensures in
+    let left = leaves_given 1 cut_numbers (array p) (bytes_cut (cut p)) (room p) _
+    (bytes_are p _ c.before.before.before.before.before.before.bytes.given.1) g.result g.new.0 g.ensures in
     (left.0, (left.1, p.cut-pages.ensures.1.0 ∙ area_is p))
 
 same-length-3 : tie.Need-same-length-3
@@ -86,8 +86,8 @@ returns-3 : tie.Need-returns-3
 returns-3 c =
     let p = c.before.before.before.before.before.before.before.before.before in
     let g = c.before.before.refuse in
-    let left = leaves-refused 1 cut_numbers (array p) (bytes_cut (cut p)) (room p) _ _
-    (bytes-are p _ c.before.before.before.before.before.number.given.1) g.result g.new.0 g.ensures in
+    let left = leaves_refused 1 cut_numbers (array p) (bytes_cut (cut p)) (room p) _ _
+    (bytes_are p _ c.before.before.before.before.before.number.given.1) g.result g.new.0 g.ensures in
     (left.0, (left.1, p.cut-pages.ensures.1.0 ∙ area_is p))
 
 pub hurlyburn_cut_pages_spec : {M : Type 1} → statement M

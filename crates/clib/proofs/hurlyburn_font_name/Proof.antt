@@ -9,14 +9,14 @@ use Rattle.volume.specs.Names.{name_place}
 use Rattle.reader.specs.Answers.{name_answer}
 use Rattle.reader.proofs.Names.{refusal_answer}
 use Rattle.clib.specs.Answers.{name_numbers}
-use Rattle.clib.proofs.Endings.{leaves-short, leaves-given, leaves-refused}
+use Rattle.clib.proofs.Endings.{leaves_short, leaves_given, leaves_refused}
 use Rattle.clib.proofs.hurlyburn_font_name.Statement.{statement}
 use Rattle.clib.proofs.hurlyburn_font_name.Tie as tie
 
 returns : tie.Need-returns
 returns c =
     let a = c.before.before.before.args in
-    leaves-short 2 name_numbers a.answer.now (name_place a.file.now a.font) (omega (arith, c.if1.true))
+    leaves_short 2 name_numbers a.answer.now (name_place a.file.now a.font) (omega (arith, c.if1.true))
 
 font-name-requires : tie.Need-font-name-requires
 font-name-requires c κs = search rules
@@ -43,7 +43,7 @@ returns-2 c =
     let p = c.before.before.before.before.before in
     let a = p.before.before.before.before.before.before.args in
     let g = c.before.before.refuse in
-    leaves-refused 2 name_numbers a.answer.now (name_place a.file.now a.font) (omega (arith, p.before.before.before.if1.false)) _ _
+    leaves_refused 2 name_numbers a.answer.now (name_place a.file.now a.font) (omega (arith, p.before.before.before.if1.false)) _ _
     (sym (told p) ∙ refusal_answer (number p) (place p) _ (omega (arith, c.before.before.before.before.if2.true))) g.result g.new.0 g.ensures
 
 add-end : tie.Need-overflow-add-end
@@ -63,7 +63,7 @@ returns-3 c =
     let p = c.before.before.before.before.before.before in
     let a = p.before.before.before.before.before.before.args in
     let g = c.before.before.give in
-    leaves-given 2 name_numbers a.answer.now (name_place a.file.now a.font) (omega (arith, p.before.before.before.if1.false)) _
+    leaves_given 2 name_numbers a.answer.now (name_place a.file.now a.font) (omega (arith, p.before.before.before.if1.false)) _
     (sym (told p) ∙ ap (λ (n : ℕ). name_answer n (place p) (length p.font-name.result.now)) c.before.before.before.before.before.if2.false) g.result g.new.0 g.ensures
 
 pub hurlyburn_font_name_spec : {M : Type 1} → statement M

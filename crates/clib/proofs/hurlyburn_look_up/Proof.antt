@@ -11,7 +11,7 @@ use Rattle.numbers.specs.Signs.{to_twos}
 use Rattle.widths.specs.LookUp.{looked_up}
 use Rattle.reader.specs.Answers.{looked_answer}
 use Rattle.clib.specs.Answers.{in_front, looked_numbers}
-use Rattle.clib.proofs.Endings.{leaves-short, leaves-given, leaves-refused}
+use Rattle.clib.proofs.Endings.{leaves_short, leaves_given, leaves_refused}
 use Rattle.clib.proofs.hurlyburn_look_up.Statement.{statement}
 use Rattle.clib.proofs.hurlyburn_look_up.Tie as tie
 
@@ -24,7 +24,7 @@ looked-is p =
 returns : tie.Need-returns
 returns c =
     let a = c.before.before.before.before.args in
-    leaves-short 6 looked_numbers a.answer.now (looked_up a.table.now a.checksum a.scale a.name.now a.character) (omega (arith, c.if1.true))
+    leaves_short 6 looked_numbers a.answer.now (looked_up a.table.now a.checksum a.scale a.name.now a.character) (omega (arith, c.if1.true))
 
 look-up-requires : tie.Need-look-up-requires
 look-up-requires c κs = search rules
@@ -78,7 +78,7 @@ returns-2 c =
     let f = c.before.before.before.before.before.before.before.escapement.given.0 in
     let e : to_z w64 (of_z w64 f.0) ≡ f.0 = search rules in
     let w : c.before.before.before.before.before.word_of.result ≡ to_twos (2 ^ 64) f.0 = c.before.before.before.before.before.word_of.ensures ∙ ap (to_twos (2 ^ 64)) e in
-    leaves-given 6 looked_numbers a.answer.now (looked_up a.table.now a.checksum a.scale a.name.now a.character) (omega (arith, c.before.before.before.before.before.before.before.before.before.before.if1.false)) _
+    leaves_given 6 looked_numbers a.answer.now (looked_up a.table.now a.checksum a.scale a.name.now a.character) (omega (arith, c.before.before.before.before.before.before.before.before.before.before.if1.false)) _
     (sym (looked-is c.before.before.before.before.before.before.before.before.before) ∙ ap looked_answer c.before.before.before.before.before.before.before.escapement.given.1) g.result g.new.0
     (g.ensures.0, g.ensures.1 ∙ ap (λ (word : ℕ). in_front (1 ∷ word ∷ f.1.0 ∷ f.1.1.0 ∷ f.1.1.1.0 ∷ f.1.1.1.1.0 ∷ []) a.answer.now) w)
 
@@ -89,7 +89,7 @@ returns-3 : tie.Need-returns-3
 returns-3 c =
     let a = c.before.before.before.before.before.before.before.before.before.before.before.before.args in
     let g = c.before.before.give2 in
-    leaves-given 6 looked_numbers a.answer.now (looked_up a.table.now a.checksum a.scale a.name.now a.character) (omega (arith, c.before.before.before.before.before.before.before.before.if1.false)) _
+    leaves_given 6 looked_numbers a.answer.now (looked_up a.table.now a.checksum a.scale a.name.now a.character) (omega (arith, c.before.before.before.before.before.before.before.before.if1.false)) _
     (sym (looked-is c.before.before.before.before.before.before.before) ∙ ap looked_answer c.before.before.before.before.before.enum_told.given.1) g.result g.new.0 g.ensures
 
 same-length-3 : tie.Need-same-length-3
@@ -99,7 +99,7 @@ returns-4 : tie.Need-returns-4
 returns-4 c =
     let a = c.before.before.before.before.before.before.before.before.before.before.before.before.args in
     let g = c.before.before.refuse in
-    leaves-refused 6 looked_numbers a.answer.now (looked_up a.table.now a.checksum a.scale a.name.now a.character) (omega (arith, c.before.before.before.before.before.before.before.before.if1.false)) _ _
+    leaves_refused 6 looked_numbers a.answer.now (looked_up a.table.now a.checksum a.scale a.name.now a.character) (omega (arith, c.before.before.before.before.before.before.before.before.if1.false)) _ _
     (sym (looked-is c.before.before.before.before.before.before.before) ∙ ap looked_answer c.before.before.before.before.before.number.given.1) g.result g.new.0 g.ensures
 
 pub hurlyburn_look_up_spec : {M : Type 1} → statement M

@@ -11,7 +11,7 @@ use Rattle.page.specs.Answers.{placed_page, placed_counts, area_after}
 use Rattle.reader.specs.declared.Placed as reader
 use Rattle.reader.specs.Answers.{placed_answer}
 use Rattle.clib.specs.Answers.{if_room, placed_numbers}
-use Rattle.clib.proofs.Endings.{too_short, long-enough, leaves-short, leaves-given, leaves-refused}
+use Rattle.clib.proofs.Endings.{too_short, long_enough, leaves_short, leaves_given, leaves_refused}
 use Rattle.clib.proofs.hurlyburn_place_page.Statement.{statement}
 use Rattle.clib.proofs.hurlyburn_place_page.Tie as tie
 
@@ -19,7 +19,7 @@ returns : tie.Need-returns
 returns c =
     let a = c.before.before.before.before.before.args in
     let placed = placed_page a.file.now a.widths.now a.resolution a.page (length a.area.now) in
-    let left = leaves-short 3 placed_numbers a.answer.now (placed_counts placed) (omega (arith, c.if1.true)) in
+    let left = leaves_short 3 placed_numbers a.answer.now (placed_counts placed) (omega (arith, c.if1.true)) in
     (left.0, (left.1, too_short 3 a.answer.now _ _ (omega (arith, c.if1.true))))
 
 place-page-requires : tie.Need-place-page-requires
@@ -57,11 +57,11 @@ module _ (p : tie.After-place-page) where
   room : 3 ≤ length array
   room = omega (arith, p.before.before.if1.left)
 
-  counts-are : (r : reader.Placed) → p.place-page.result ≡ r → placed_counts placed ≡ placed_answer r
-  counts-are r e = sym p.place-page.ensures.0 ∙ ap placed_answer e
+  counts_are : (r : reader.Placed) → p.place-page.result ≡ r → placed_counts placed ≡ placed_answer r
+  counts_are r e = sym p.place-page.ensures.0 ∙ ap placed_answer e
 
   area_is : area_after area placed ≡ if_room 3 array (area_after area placed) area
-  area_is = long-enough 3 array (area_after area placed) area room
+  area_is = long_enough 3 array (area_after area placed) area room
 
 same_length : tie.Need-same-length
 same_length c = search rules
@@ -73,8 +73,8 @@ returns-2 : tie.Need-returns-2
 returns-2 c =
     let p = c.before.before.before.before.before.before.before.before.before.before in
     let g = c.before.before.give in
-    let left = leaves-given 3 placed_numbers (array p) (placed_counts (placed p)) (room p) _
-    (counts-are p _ c.before.before.before.before.before.before.records.given.1) g.result g.new.0 g.ensures in
+    let left = leaves_given 3 placed_numbers (array p) (placed_counts (placed p)) (room p) _
+    (counts_are p _ c.before.before.before.before.before.before.records.given.1) g.result g.new.0 g.ensures in
     (left.0, (left.1, p.place-page.ensures.1.0 ∙ area_is p))
 
 same-length-3 : tie.Need-same-length-3
@@ -87,8 +87,8 @@ returns-3 : tie.Need-returns-3
 returns-3 c =
     let p = c.before.before.before.before.before.before.before.before.before in
     let g = c.before.before.refuse in
-    let left = leaves-refused 3 placed_numbers (array p) (placed_counts (placed p)) (room p) _ _
-    (counts-are p _ c.before.before.before.before.before.number.given.1) g.result g.new.0 g.ensures in
+    let left = leaves_refused 3 placed_numbers (array p) (placed_counts (placed p)) (room p) _ _
+    (counts_are p _ c.before.before.before.before.before.number.given.1) g.result g.new.0 g.ensures in
     (left.0, (left.1, p.place-page.ensures.1.0 ∙ area_is p))
 
 pub hurlyburn_place_page_spec : {M : Type 1} → statement M

@@ -5,12 +5,12 @@ use borrow.Author.Rules.{rules}
 use Rattle.commands.specs.Reading.{command_read}
 use Rattle.reader.specs.Answers.{command_answer}
 use Rattle.clib.specs.Answers.{command_numbers}
-use Rattle.clib.proofs.Endings.{leaves-short, leaves-given, leaves-refused}
+use Rattle.clib.proofs.Endings.{leaves_short, leaves_given, leaves_refused}
 use Rattle.clib.proofs.hurlyburn_read_command.Statement.{statement}
 use Rattle.clib.proofs.hurlyburn_read_command.Tie as tie
 
 returns : tie.Need-returns
-returns c = let a = c.before.before.before.args in leaves-short 3 command_numbers a.answer.now (command_read a.file.now a.at) (omega (arith, c.if1.true))
+returns c = let a = c.before.before.before.args in leaves_short 3 command_numbers a.answer.now (command_read a.file.now a.at) (omega (arith, c.if1.true))
 
 read-command-requires : tie.Need-read-command-requires
 read-command-requires c κs = search rules
@@ -41,7 +41,7 @@ returns-2 c =
     let p = c.before.before.before.before.before.before.before.before in
     let a = p.before.before.before.before.args in
     let g = c.before.before.give in
-    leaves-given 3 command_numbers a.answer.now (command_read a.file.now a.at) (omega (arith, p.before.if1.false)) _
+    leaves_given 3 command_numbers a.answer.now (command_read a.file.now a.at) (omega (arith, p.before.if1.false)) _
     (sym p.read-command.ensures ∙ ap command_answer c.before.before.before.before.before.before.opcode.given.1) g.result g.new.0 g.ensures
 
 same-length-2 : tie.Need-same-length-2
@@ -52,7 +52,7 @@ returns-3 c =
     let p = c.before.before.before.before.before.before.before in
     let a = p.before.before.before.before.args in
     let g = c.before.before.refuse in
-    leaves-refused 3 command_numbers a.answer.now (command_read a.file.now a.at) (omega (arith, p.before.if1.false)) _ _
+    leaves_refused 3 command_numbers a.answer.now (command_read a.file.now a.at) (omega (arith, p.before.if1.false)) _ _
     (sym p.read-command.ensures ∙ ap command_answer c.before.before.before.before.before.number.given.1) g.result g.new.0 g.ensures
 
 pub hurlyburn_read_command_spec : {M : Type 1} → statement M

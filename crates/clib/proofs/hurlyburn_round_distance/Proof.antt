@@ -13,7 +13,7 @@ use Rattle.numbers.specs.Signs.{to_twos}
 use Rattle.units.specs.Rounding.{rounded_distance}
 use Rattle.reader.specs.Answers.{rounded_answer}
 use Rattle.clib.specs.Answers.{in_front, signed_numbers}
-use Rattle.clib.proofs.Endings.{leaves-short, leaves-given, leaves-refused}
+use Rattle.clib.proofs.Endings.{leaves_short, leaves_given, leaves_refused}
 use Rattle.clib.proofs.hurlyburn_round_distance.Statement.{statement}
 use Rattle.clib.proofs.hurlyburn_round_distance.Tie as tie
 
@@ -21,11 +21,11 @@ abbrev meant : tie.Start → Answer ℤ
 meant s = let a = s.args in rounded_distance a.num a.den a.mag a.resolution a.n
 
 -- what the reader answered
-answer-is : (p : tie.After-round-distance) → rounded_answer p.round-distance.result ≡ meant p.before.before.before
-answer-is p = let f = p.before.before.before.ranges in simp (to_z-of_z, f.num, f.den, f.mag, f.n) at p.round-distance.ensures
+answer_is : (p : tie.After-round-distance) → rounded_answer p.round-distance.result ≡ meant p.before.before.before
+answer_is p = let f = p.before.before.before.ranges in simp (to_z-of_z, f.num, f.den, f.mag, f.n) at p.round-distance.ensures
 
 returns : tie.Need-returns
-returns c = let s = c.before.before in leaves-short 1 signed_numbers s.args.answer.now (meant s) (omega (arith, c.if1.true))
+returns c = let s = c.before.before in leaves_short 1 signed_numbers s.args.answer.now (meant s) (omega (arith, c.if1.true))
 
 round-distance-requires : tie.Need-round-distance-requires
 round-distance-requires c κs = search rules
@@ -59,8 +59,8 @@ returns-2 c =
     let n = c.before.before.before.before.before.before.before.distance.given.0.0 in
     let e : to_z w64 (of_z w64 n) ≡ n = search rules in
     let word = c.before.before.before.before.before.word_of.ensures ∙ ap (to_twos (2 ^ 64)) e in
-    leaves-given 1 signed_numbers s.args.answer.now (meant s) (omega (arith, p.before.if1.false)) _
-    (sym (answer-is p) ∙ ap rounded_answer c.before.before.before.before.before.before.before.distance.given.1) g.result g.new.0
+    leaves_given 1 signed_numbers s.args.answer.now (meant s) (omega (arith, p.before.if1.false)) _
+    (sym (answer_is p) ∙ ap rounded_answer c.before.before.before.before.before.before.before.distance.given.1) g.result g.new.0
     (g.ensures.0, g.ensures.1 ∙ ap (λ (w : ℕ). in_front (w ∷ []) s.args.answer.now) word)
 
 same-length-2 : tie.Need-same-length-2
@@ -71,8 +71,8 @@ returns-3 c =
     let p = c.before.before.before.before.before.before.before in
     let s = p.before.before.before in
     let g = c.before.before.refuse in
-    leaves-refused 1 signed_numbers s.args.answer.now (meant s) (omega (arith, p.before.if1.false)) _ _
-    (sym (answer-is p) ∙ ap rounded_answer c.before.before.before.before.before.number.given.1) g.result g.new.0 g.ensures
+    leaves_refused 1 signed_numbers s.args.answer.now (meant s) (omega (arith, p.before.if1.false)) _ _
+    (sym (answer_is p) ∙ ap rounded_answer c.before.before.before.before.before.number.given.1) g.result g.new.0 g.ensures
 
 pub hurlyburn_round_distance_spec : {M : Type 1} → statement M
 hurlyburn_round_distance_spec =

@@ -12,7 +12,7 @@ use Rattle.numbers.specs.Signs.{to_twos}
 use Rattle.scaling.specs.Scaling.{fix_word, scaled_width}
 use Rattle.reader.specs.Answers.{scaled_answer}
 use Rattle.clib.specs.Answers.{in_front, signed_numbers}
-use Rattle.clib.proofs.Endings.{leaves-short, leaves-given, leaves-refused}
+use Rattle.clib.proofs.Endings.{leaves_short, leaves_given, leaves_refused}
 use Rattle.clib.proofs.hurlyburn_scale_width.Statement.{statement}
 use Rattle.clib.proofs.hurlyburn_scale_width.Tie as tie
 
@@ -20,11 +20,11 @@ abbrev meant : tie.Start → Answer ℤ
 meant s = let a = s.args in scaled_width a.scale (fix_word a.b0 a.b1 a.b2 a.b3)
 
 -- what the reader answered
-answer-is : (p : tie.After-scale-width) → scaled_answer p.scale-width.result ≡ meant p.before.before.before
-answer-is p = p.scale-width.ensures
+answer_is : (p : tie.After-scale-width) → scaled_answer p.scale-width.result ≡ meant p.before.before.before
+answer_is p = p.scale-width.ensures
 
 returns : tie.Need-returns
-returns c = let s = c.before.before in leaves-short 1 signed_numbers s.args.answer.now (meant s) (omega (arith, c.if1.true))
+returns c = let s = c.before.before in leaves_short 1 signed_numbers s.args.answer.now (meant s) (omega (arith, c.if1.true))
 
 scale-width-requires : tie.Need-scale-width-requires
 scale-width-requires c κs = search rules
@@ -58,8 +58,8 @@ returns-2 c =
     let n = c.before.before.before.before.before.before.before.width.given.0.0 in
     let e : to_z w64 (of_z w64 n) ≡ n = search rules in
     let word = c.before.before.before.before.before.word_of.ensures ∙ ap (to_twos (2 ^ 64)) e in
-    leaves-given 1 signed_numbers s.args.answer.now (meant s) (omega (arith, p.before.if1.false)) _
-    (sym (answer-is p) ∙ ap scaled_answer c.before.before.before.before.before.before.before.width.given.1) g.result g.new.0
+    leaves_given 1 signed_numbers s.args.answer.now (meant s) (omega (arith, p.before.if1.false)) _
+    (sym (answer_is p) ∙ ap scaled_answer c.before.before.before.before.before.before.before.width.given.1) g.result g.new.0
     (g.ensures.0, g.ensures.1 ∙ ap (λ (w : ℕ). in_front (w ∷ []) s.args.answer.now) word)
 
 same-length-2 : tie.Need-same-length-2
@@ -70,8 +70,8 @@ returns-3 c =
     let p = c.before.before.before.before.before.before.before in
     let s = p.before.before.before in
     let g = c.before.before.refuse in
-    leaves-refused 1 signed_numbers s.args.answer.now (meant s) (omega (arith, p.before.if1.false)) _ _
-    (sym (answer-is p) ∙ ap scaled_answer c.before.before.before.before.before.number.given.1) g.result g.new.0 g.ensures
+    leaves_refused 1 signed_numbers s.args.answer.now (meant s) (omega (arith, p.before.if1.false)) _ _
+    (sym (answer_is p) ∙ ap scaled_answer c.before.before.before.before.before.number.given.1) g.result g.new.0 g.ensures
 
 pub hurlyburn_scale_width_spec : {M : Type 1} → statement M
 hurlyburn_scale_width_spec =

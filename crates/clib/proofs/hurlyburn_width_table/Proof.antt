@@ -11,7 +11,7 @@ use Rattle.packed.specs.Table.{table_made, records_made, table_area}
 use Rattle.reader.specs.declared.TableMade as reader
 use Rattle.reader.specs.Answers.{made_answer}
 use Rattle.clib.specs.Answers.{if_room, table_numbers}
-use Rattle.clib.proofs.Endings.{too_short, long-enough, leaves-short, leaves-given, leaves-refused}
+use Rattle.clib.proofs.Endings.{too_short, long_enough, leaves_short, leaves_given, leaves_refused}
 use Rattle.clib.proofs.hurlyburn_width_table.Statement.{statement}
 use Rattle.clib.proofs.hurlyburn_width_table.Tie as tie
 
@@ -19,7 +19,7 @@ returns : tie.Need-returns
 returns c =
     let a = c.before.before.before.before.args in
     let made = table_made a.pk.now a.scale (length a.area.now) in
-    let left = leaves-short 1 table_numbers a.answer.now (records_made made) (omega (arith, c.if1.true)) in
+    let left = leaves_short 1 table_numbers a.answer.now (records_made made) (omega (arith, c.if1.true)) in
     (left.0, (left.1, too_short 1 a.answer.now _ _ (omega (arith, c.if1.true))))
 
 width-table-requires : tie.Need-width-table-requires
@@ -57,11 +57,11 @@ module _ (p : tie.After-width-table) where
   room : 1 ≤ length array
   room = omega (arith, p.before.before.if1.left)
 
-  counts-are : (r : reader.TableMade) → p.width-table.result ≡ r → records_made made ≡ made_answer r
-  counts-are r e = sym p.width-table.ensures.0 ∙ ap made_answer e
+  counts_are : (r : reader.TableMade) → p.width-table.result ≡ r → records_made made ≡ made_answer r
+  counts_are r e = sym p.width-table.ensures.0 ∙ ap made_answer e
 
   area_is : table_area area made ≡ if_room 1 array (table_area area made) area
-  area_is = long-enough 1 array (table_area area made) area room
+  area_is = long_enough 1 array (table_area area made) area room
 
 same_length : tie.Need-same-length
 same_length c = search rules
@@ -73,8 +73,8 @@ returns-2 : tie.Need-returns-2
 returns-2 c =
     let p = c.before.before.before.before.before.before.before.before.before.before in
     let g = c.before.before.give in
-    let left = leaves-given 1 table_numbers (array p) (records_made (made p)) (room p) _
-    (counts-are p _ c.before.before.before.before.before.before.records.given.1) g.result g.new.0 g.ensures in
+    let left = leaves_given 1 table_numbers (array p) (records_made (made p)) (room p) _
+    (counts_are p _ c.before.before.before.before.before.before.records.given.1) g.result g.new.0 g.ensures in
     (left.0, (left.1, p.width-table.ensures.1.0 ∙ area_is p))
 
 same-length-3 : tie.Need-same-length-3
@@ -87,8 +87,8 @@ returns-3 : tie.Need-returns-3
 returns-3 c =
     let p = c.before.before.before.before.before.before.before.before.before in
     let g = c.before.before.refuse in
-    let left = leaves-refused 1 table_numbers (array p) (records_made (made p)) (room p) _ _
-    (counts-are p _ c.before.before.before.before.before.number.given.1) g.result g.new.0 g.ensures in
+    let left = leaves_refused 1 table_numbers (array p) (records_made (made p)) (room p) _ _
+    (counts_are p _ c.before.before.before.before.before.number.given.1) g.result g.new.0 g.ensures in
     (left.0, (left.1, p.width-table.ensures.1.0 ∙ area_is p))
 
 pub hurlyburn_width_table_spec : {M : Type 1} → statement M

@@ -7,7 +7,7 @@ use lib.Seq.{drop-drop}
 use borrow.Author.Rules.{rules}
 use Rattle.commands.specs.declared.Kind.TheVariants.{Special, Define, Pre}
 use Rattle.numbers.proofs.Bytes.{unsigned_one, unsigned_drop}
-use Rattle.commands.proofs.Lengths.{fixed_of, inner-special, inner-define, inner-pre, inner_below, inner-above}
+use Rattle.commands.proofs.Lengths.{fixed_of, inner_special, inner_define, inner_pre, inner_below, inner_above}
 use Rattle.commands.proofs.Opcodes.{range_kind}
 use Rattle.commands.proofs.inner_length.Statement.{statement}
 use Rattle.commands.proofs.inner_length.Tie as tie
@@ -63,22 +63,22 @@ add-result c = search rules
 returns : tie.Need-returns
 returns c =
     let a = c.before.before.before.before.before.args in
-    rw (inner-pre _ _ (range_kind Pre {opcode = a.opcode} (omega arith) (omega arith)), unsigned_drop, unsigned_one) c.wide.ensures.0
+    rw (inner_pre _ _ (range_kind Pre {opcode = a.opcode} (omega arith) (omega arith)), unsigned_drop, unsigned_one) c.wide.ensures.0
 
 returns-2 : tie.Need-returns-2
-returns-2 c = let a = c.before.before.before.before.before.args in rw (inner-special a.opcode _ (range_kind Special (omega arith) (omega arith)), unsigned_drop, add-zero) c.unsigned-at.ensures.0
+returns-2 c = let a = c.before.before.before.before.before.args in rw (inner_special a.opcode _ (range_kind Special (omega arith) (omega arith)), unsigned_drop, add-zero) c.unsigned-at.ensures.0
 
 returns-3 : tie.Need-returns-3
 returns-3 c =
     let a = c.before.before.before.before.before.before.before.before.before.before.before.args in
-    rw (inner-define a.opcode _ (range_kind Define (omega arith) (omega arith)))
+    rw (inner_define a.opcode _ (range_kind Define (omega arith) (omega arith)))
     (simp (unsigned_drop, unsigned_one, drop-drop) (ap₂ ◌+◌ c.before.before.before.wide2.ensures.0 c.wide3.ensures.0))
 
 returns-4 : tie.Need-returns-4
 returns-4 c = sym (inner_below _ _ (omega arith))
 
 returns-5 : tie.Need-returns-5
-returns-5 c = sym (inner-above _ _ (omega arith))
+returns-5 c = sym (inner_above _ _ (omega arith))
 
 pub inner_length_spec : {M : Type 1} → statement M
 inner_length_spec =

@@ -2,18 +2,18 @@
 use native.Mathlib.Omega.{arith}
 use borrow.Author.Rules.{rules}
 use Rattle.commands.specs.Lengths.{size_of}
-use Rattle.commands.proofs.Readings.{read-end, read-undefined, read-cut, read_whole}
+use Rattle.commands.proofs.Readings.{read_end, read_undefined, read_cut, read_whole}
 use Rattle.commands.proofs.read_by.Statement.{statement}
 use Rattle.commands.proofs.read_by.Tie as tie
 
 returns : tie.Need-returns
-returns c = read-end _ _ (omega arith)
+returns c = read_end _ _ (omega arith)
 
 shared-slice-read-opcode : tie.Need-shared-slice-read-opcode
 shared-slice-read-opcode c = search rules
 
 returns-2 : tie.Need-returns-2
-returns-2 c = read-undefined _ _ (omega arith) (omega arith)
+returns-2 c = read_undefined _ _ (omega arith) (omega arith)
 
 add_start : tie.Need-overflow-add-start
 add_start c = search rules
@@ -26,14 +26,14 @@ fixed-length-requires c κs = search rules
 
 returns-3 : tie.Need-returns-3
 unfolding size_of
-returns-3 c = read-cut _ _ (omega arith) (omega arith) (omega arith)
+returns-3 c = read_cut _ _ (omega arith) (omega arith) (omega arith)
 
 inner-length-requires : tie.Need-inner-length-requires
 inner-length-requires c κs = search rules
 
 returns-4 : tie.Need-returns-4
 unfolding size_of
-returns-4 c = read-cut _ _ (omega arith) (omega arith) (omega arith)
+returns-4 c = read_cut _ _ (omega arith) (omega arith) (omega arith)
 
 add-size : tie.Need-overflow-add-size
 add-size c = search rules

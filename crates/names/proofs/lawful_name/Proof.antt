@@ -1,5 +1,5 @@
 -- `names::lawful_name` meets its contract: up to the first zero what is left of the bytes decides, and from there on the zeros. Assumes nothing.
-use Rattle.names.proofs.NameLaws.{name-ends, name-later}
+use Rattle.names.proofs.NameLaws.{name_ends, name_later}
 use Rattle.names.specs.Names.{name_then_zeros}
 use lib.ListN.{length, drop, drop_of_length-le}
 use native.Mathlib.Numerals.{add-one}
@@ -25,7 +25,7 @@ only-zeros-requires : tie.Need-only-zeros-requires invariant-loop decreases-loop
 only-zeros-requires c κs = tt
 
 returns : tie.Need-returns invariant-loop decreases-loop
-returns c = c.only-zeros.ensures ∙ sym (c.before.before.before.before.loop.invariant ∙ name-ends c.before.before.before.before.before.before.args.bytes.now c.before.before.before.before.loop.index (omega arith) c.before.if1.true)
+returns c = c.only-zeros.ensures ∙ sym (c.before.before.before.before.loop.invariant ∙ name_ends c.before.before.before.before.before.before.args.bytes.now c.before.before.before.before.loop.index (omega arith) c.before.if1.true)
 
 add-index : tie.Need-overflow-add-index invariant-loop decreases-loop
 add-index c = omega arith
@@ -34,7 +34,7 @@ loop-less : tie.Need-loop-smaller invariant-loop decreases-loop
 loop-less c = omega arith
 
 loop-again : tie.Need-loop-preserved invariant-loop decreases-loop
-loop-again c = c.before.before.before.loop.invariant ∙ name-later c.before.before.before.before.before.args.bytes.now c.before.before.before.loop.index (omega arith) c.if1.false ∙ ap (λ (n : ℕ). name_then_zeros (drop n c.before.before.before.before.before.args.bytes.now)) (sym (add-one c.before.before.before.loop.index))
+loop-again c = c.before.before.before.loop.invariant ∙ name_later c.before.before.before.before.before.args.bytes.now c.before.before.before.loop.index (omega arith) c.if1.false ∙ ap (λ (n : ℕ). name_then_zeros (drop n c.before.before.before.before.before.args.bytes.now)) (sym (add-one c.before.before.before.loop.index))
 
 returns-2 : tie.Need-returns-2 invariant-loop decreases-loop
 returns-2 c = sym (c.before.loop.invariant ∙ ap name_then_zeros (drop_of_length-le c.before.before.before.args.bytes.now {i = c.before.loop.index} (omega arith)))

@@ -1,5 +1,5 @@
 -- `names::only_zeros` meets its contract: what is left of the bytes decides. Assumes nothing.
-use Rattle.names.proofs.NameLaws.{zeros-broken, zeros-later}
+use Rattle.names.proofs.NameLaws.{zeros_broken, zeros_later}
 use Rattle.names.specs.Names.{all_zeros}
 use lib.ListN.{length, drop, drop_of_length-le}
 use native.Mathlib.Numerals.{add-one}
@@ -22,7 +22,7 @@ shared-slice-read-if1 : tie.Need-shared-slice-read-if1 invariant-loop decreases-
 shared-slice-read-if1 c = omega arith
 
 returns : tie.Need-returns invariant-loop decreases-loop
-returns c = sym (c.before.before.before.loop.invariant ∙ zeros-broken c.before.before.before.before.args.bytes.now c.before.before.before.loop.index (omega arith) c.if1.true)
+returns c = sym (c.before.before.before.loop.invariant ∙ zeros_broken c.before.before.before.before.args.bytes.now c.before.before.before.loop.index (omega arith) c.if1.true)
 
 add-index : tie.Need-overflow-add-index invariant-loop decreases-loop
 add-index c = omega arith
@@ -31,7 +31,7 @@ loop-less : tie.Need-loop-smaller invariant-loop decreases-loop
 loop-less c = omega arith
 
 loop-again : tie.Need-loop-preserved invariant-loop decreases-loop
-loop-again c = c.before.before.before.loop.invariant ∙ zeros-later c.before.before.before.before.args.bytes.now c.before.before.before.loop.index (omega arith) c.if1.false ∙ ap (λ (n : ℕ). all_zeros (drop n c.before.before.before.before.args.bytes.now)) (sym (add-one c.before.before.before.loop.index))
+loop-again c = c.before.before.before.loop.invariant ∙ zeros_later c.before.before.before.before.args.bytes.now c.before.before.before.loop.index (omega arith) c.if1.false ∙ ap (λ (n : ℕ). all_zeros (drop n c.before.before.before.before.args.bytes.now)) (sym (add-one c.before.before.before.loop.index))
 
 returns-2 : tie.Need-returns-2 invariant-loop decreases-loop
 returns-2 c = sym (c.before.loop.invariant ∙ ap all_zeros (drop_of_length-le c.before.before.args.bytes.now {i = c.before.loop.index} (omega arith)))

@@ -15,8 +15,8 @@ use Rattle.printing.proofs.size.Statement.{statement}
 use Rattle.printing.proofs.size.Tie as tie
 
 -- −a − 1 + 1 is −a
-next-is : (a : ℕ) → negsuc a +ℤ pos 1 ≡ neg_ℤ (pos a)
-next-is a = same (negsuc a +ℤ pos 1) (neg_ℤ (pos a)) (omega (arith, sum (negsuc a) (pos 1), up_neg (pos a), dn_neg (pos a)))
+next_is : (a : ℕ) → negsuc a +ℤ pos 1 ≡ neg_ℤ (pos a)
+next_is a = same (negsuc a +ℤ pos 1) (neg_ℤ (pos a)) (omega (arith, sum (negsuc a) (pos 1), up_neg (pos a), dn_neg (pos a)))
 
 turned : (a : ℕ) → pos 0 -ℤ (negsuc a +ℤ pos 1) ≡ pos a
 turned a = same (pos 0 -ℤ (negsuc a +ℤ pos 1)) (pos a) (omega (arith, sum (negsuc a) (pos 1), diff (pos 0) (negsuc a +ℤ pos 1)))
@@ -34,7 +34,7 @@ negative (negsuc a) f e =
     let l : a < 2 ^ 63 = f.sfits in
     let m : suc a - 1 ≡ a = omega arith in
     record {
-      next = subst (SFits w64) (sym (next-is a)) (fits (neg_ℤ (pos a)) (omega (arith, abs_neg (pos a))));
+      next = subst (SFits w64) (sym (next_is a)) (fits (neg_ℤ (pos a)) (omega (arith, abs_neg (pos a))));
       turn = turned a ∙ ap pos (sym m);
       some = omega arith;
       most = omega arith;

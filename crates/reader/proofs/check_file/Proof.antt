@@ -1,7 +1,7 @@
 -- `reader::check_file` meets its contract: what the room answers, and what is accepted is exactly what is lawful. Assumes nothing.
 use mathlib.Core.Path.{sym, ap, ◌∙◌}
 use borrow.Author.Rules.{rules}
-use Rattle.refusals.proofs.Answer.{given-not-refused}
+use Rattle.refusals.proofs.Answer.{given_not_refused}
 use Rattle.volume.specs.Steps.{check_answer}
 use Rattle.volume.proofs.Accepts.{accepts_lawful, lawful_accepted}
 use Rattle.reader.proofs.check_file.Statement.{statement}
@@ -30,7 +30,7 @@ returns-2 c =
       judgement,
       (
         λ accepted. absurd accepted,
-        λ lawful. let accepted = lawful_accepted file lawful in given-not-refused accepted.0 refusal.number refusal.place (sym accepted.1 ∙ sym judgement),
+        λ lawful. let accepted = lawful_accepted file lawful in given_not_refused accepted.0 refusal.number refusal.place (sym accepted.1 ∙ sym judgement),
       ),
     )
 

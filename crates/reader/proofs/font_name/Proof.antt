@@ -39,8 +39,8 @@ enum-known-part : tie.Need-enum-known-part
 enum-known-part c = search rules
 
 -- what `name_place` answered is what is meant
-answer-is : (c : tie.After-name-place) (r : Named) → c.name-place.result ≡ r → named_answer r ≡ name_place c.before.before.args.file.now c.before.before.args.font
-answer-is c r e = let s = c.before.before in ap named_answer (sym e) ∙ c.name-place.ensures.0 ∙ ap (name_place s.args.file.now) (cast_is s.ranges.font)
+answer_is : (c : tie.After-name-place) (r : Named) → c.name-place.result ≡ r → named_answer r ≡ name_place c.before.before.args.file.now c.before.before.args.font
+answer_is c r e = let s = c.before.before in ap named_answer (sym e) ∙ c.name-place.ensures.0 ∙ ap (name_place s.args.file.now) (cast_is s.ranges.font)
 
 -- the part lies within the file
 inside : (c : tie.After-known-told) → let p = c.before.part.given.0.0 in (p.start ≤ p.end) × (p.end ≤ length c.before.before.before.before.before.args.file.now)
@@ -73,7 +73,7 @@ returns c =
     let a = p.before.before.args in
     let file = a.file.now in
     let part = c.before.before.part.given.0.0 in
-    let e = answer-is p _ c.before.before.part.given.1 in
+    let e = answer_is p _ c.before.before.part.given.1 in
     let end_is = part_end file part (inside c.before) in
     let told : name_answer 0 part.start (length (part_of file (given part))) ≡ name_place file a.font =
     ap (λ (end : ℕ). given (record { start = part.start; end = end })) end_is ∙ e in
@@ -85,7 +85,7 @@ returns-2 c =
     let a = p.before.before.args in
     let file = a.file.now in
     let why = c.before.before.refusal.given.0.0 in
-    let e = answer-is p _ c.before.before.refusal.given.1 in
+    let e = answer_is p _ c.before.before.refusal.given.1 in
     let low = (subst Listed (sym e) (name_listed file a.font)).0 in
     let told : name_answer why.number why.place 0 ≡ name_place file a.font = refusal_answer why.number why.place 0 low ∙ e in
     (ap (part_of file) e, (ap (starts a.file.ptr) e, (told, λ z. absurd (omega (arith, low, z)))))

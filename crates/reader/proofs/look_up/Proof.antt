@@ -66,9 +66,9 @@ metric-of-requires c κs =
     (judged f.before.before.before, subst (Among f.before.before.before.before.records.given.0.0) c.before.index.given.1 f.seek.ensures.1)
 
 -- the search found what is found for the code's byte by the name that is sought
-found-is : (c : tie.After-seek) → let a = c.before.before.before.before.before.before.before.before.before.args in
+found_is : (c : tie.After-seek) → let a = c.before.before.before.before.before.before.before.before.before.args in
     found_at a.table.now c.seek.result ≡ looked_for c.before.before.before.before.records.given.0.0 a.table.now a.checksum a.scale (name_number (sought_name a.name.now)) (code_byte a.code)
-found-is c =
+found_is c =
     let a = c.before.before.before.before.before.before.before.before.before.args in
     let looked : Name → ℕ → LookUp = λ name byte. looked_for c.before.before.before.before.records.given.0.0 a.table.now a.checksum a.scale (name_number name) byte in
     c.seek.ensures.0 ∙ ap₂ looked c.before.sought-name.ensures.0 (byte-is c.before.before)
@@ -76,7 +76,7 @@ found-is c =
 -- what is looked up stands at the place that the search found
 looked-is : (c : tie.After-seek) → let a = c.before.before.before.before.before.before.before.before.before.args in
     looked_up a.table.now a.checksum a.scale a.name.now a.code ≡ given (found_at a.table.now c.seek.result)
-looked-is c = rw (judged c.before.before.before, found-is c)
+looked-is c = rw (judged c.before.before.before, found_is c)
 
 returns : tie.Need-returns
 returns c =

@@ -27,8 +27,8 @@ module _ (p : tie.After-narrow-table) where
   abbrev meant : Answer ℕ
   meant = narrow_table start.args.table.now (length start.args.out.now)
 
-  answer-is : (r : Converted) → p.narrow-table.result ≡ r → converted_says r ≡ meant
-  answer-is r e = ap converted_says (sym e) ∙ p.narrow-table.ensures.0
+  answer_is : (r : Converted) → p.narrow-table.result ≡ r → converted_says r ≡ meant
+  answer_is r e = ap converted_says (sym e) ∙ p.narrow-table.ensures.0
 
 same_length : tie.Need-same-length
 same_length c = search rules
@@ -36,7 +36,7 @@ same_length c = search rules
 returns : tie.Need-returns
 returns c =
     let p = c.before.before.before.before.before in
-    (answer-is p _ c.before.records.given.1, (p.narrow-table.ensures.1, λ refuses. absurd refuses))
+    (answer_is p _ c.before.records.given.1, (p.narrow-table.ensures.1, λ refuses. absurd refuses))
 
 same-length-2 : tie.Need-same-length-2
 same-length-2 c = search rules
@@ -44,7 +44,7 @@ same-length-2 c = search rules
 returns-2 : tie.Need-returns-2
 returns-2 c =
     let p = c.before.before.before.before.before in
-    let said = answer-is p _ c.before.wrong.given.1 in
+    let said = answer_is p _ c.before.wrong.given.1 in
     (said, (p.narrow-table.ensures.1, λ refuses. p.narrow-table.ensures.1 ∙ ap (narrowed_area (start p).args.table.now (start p).args.out.now) (sym said)))
 
 pub narrow_table_spec : {M : Type 1} → statement M

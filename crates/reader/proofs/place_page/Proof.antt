@@ -28,8 +28,8 @@ module _ (p : tie.After-place-page) where
   abbrev meant : Answer Contents
   meant = placed_page start.args.file.now start.args.widths.now start.args.resolution start.args.page (length start.args.out.now)
 
-  answer-is : (r : PagePlaced) → p.place-page.result ≡ r → place_answer r ≡ placed_counts meant
-  answer-is r e = ap place_answer (sym e) ∙ p.place-page.ensures.0
+  answer_is : (r : PagePlaced) → p.place-page.result ≡ r → place_answer r ≡ placed_counts meant
+  answer_is r e = ap place_answer (sym e) ∙ p.place-page.ensures.0
 
 same_length : tie.Need-same-length
 same_length c = search rules
@@ -37,7 +37,7 @@ same_length c = search rules
 returns : tie.Need-returns
 returns c =
     let p = c.before.before.before.before.before in
-    (answer-is p _ c.before.counts.given.1, (p.place-page.ensures.1, λ refuses. absurd refuses))
+    (answer_is p _ c.before.counts.given.1, (p.place-page.ensures.1, λ refuses. absurd refuses))
 
 same-length-2 : tie.Need-same-length-2
 same-length-2 c = search rules
@@ -46,7 +46,7 @@ returns-2 : tie.Need-returns-2
 returns-2 c =
     let p = c.before.before.before.before.before in
     let r = c.before.why.given in
-    let said = answer-is p _ r.1 in
+    let said = answer_is p _ r.1 in
     (said, (p.place-page.ensures.1, λ refuses. p.place-page.ensures.1 ∙ refused_kept (meant p) (start p).args.out.now r.0.0.number r.0.0.place (sym said)))
 
 pub place_page_spec : {M : Type 1} → statement M

@@ -91,8 +91,8 @@ enum-known-k : tie.Need-enum-known-k
 enum-known-k c = search rules
 
 -- what `unit_of` gave
-unit-is : (c : tie.After-unit-of) → let a = c.before.before.before.before.args in unit_answer c.unit-of.result ≡ unit_of (nat_abs a.num) (nat_abs a.den) (nat_abs a.mag) a.resolution
-unit-is c =
+unit_is : (c : tie.After-unit-of) → let a = c.before.before.before.before.args in unit_answer c.unit-of.result ≡ unit_of (nat_abs a.num) (nat_abs a.den) (nat_abs a.mag) a.resolution
+unit_is c =
     let s = c.before.before.before.before in
     c.unit-of.ensures ∙ simp (to_z-of_z, s.ranges.num, s.ranges.den, s.ranges.mag)
 
@@ -105,7 +105,7 @@ distance_is c = cast_is c.before.before.before.before.before.before.before.range
 
 -- K was given
 given_is : (c : tie.After-known-told2) → let a = c.before.before.before.before.before.before.before.args in unit_of (nat_abs a.num) (nat_abs a.den) (nat_abs a.mag) a.resolution ≡ given c.before.k.given.0.0
-given_is c = sym (unit-is c.before.before.before) ∙ ap unit_answer c.before.k.given.1
+given_is c = sym (unit_is c.before.before.before) ∙ ap unit_answer c.before.k.given.1
 
 round-requires : tie.Need-round-requires
 round-requires c κs =
@@ -121,7 +121,7 @@ returns-4 : tie.Need-returns-4
 returns-4 c =
     let e = c.before.before.before.before in
     let next : Ratio → Answer ℤ = λ k. given (rounded k e.before.before.before.args.n) in
-    sym (goes_on e ∙ ap (λ (a : Answer Ratio). and_then a next) (sym (unit-is c.before.before.before) ∙ ap unit_answer c.before.refusal.given.1))
+    sym (goes_on e ∙ ap (λ (a : Answer Ratio). and_then a next) (sym (unit_is c.before.before.before) ∙ ap unit_answer c.before.refusal.given.1))
 
 returns-5 : tie.Need-returns-5
 returns-5 c =

@@ -29,8 +29,8 @@ module _ (p : tie.After-width-table) where
   abbrev meant : Answer (List Entry)
   meant = table_made start.args.pk.now start.args.scale (length start.args.out.now)
 
-  answer-is : (r : Made) → p.width-table.result ≡ r → made_says r ≡ records_made meant
-  answer-is r e = ap made_says (sym e) ∙ p.width-table.ensures.0
+  answer_is : (r : Made) → p.width-table.result ≡ r → made_says r ≡ records_made meant
+  answer_is r e = ap made_says (sym e) ∙ p.width-table.ensures.0
 
 same_length : tie.Need-same-length
 same_length c = search rules
@@ -38,7 +38,7 @@ same_length c = search rules
 returns : tie.Need-returns
 returns c =
     let p = c.before.before.before.before.before in
-    (answer-is p _ c.before.records.given.1, (p.width-table.ensures.1, λ refuses. absurd refuses))
+    (answer_is p _ c.before.records.given.1, (p.width-table.ensures.1, λ refuses. absurd refuses))
 
 same-length-2 : tie.Need-same-length-2
 same-length-2 c = search rules
@@ -47,7 +47,7 @@ returns-2 : tie.Need-returns-2
 returns-2 c =
     let p = c.before.before.before.before.before in
     let r = c.before.reason.given in
-    let said = answer-is p _ r.1 in
+    let said = answer_is p _ r.1 in
     (said, (p.width-table.ensures.1, λ refuses. p.width-table.ensures.1 ∙ refused_kept (meant p) (start p).args.out.now r.0.0.number r.0.0.place (sym said)))
 
 pub width_table_spec : {M : Type 1} → statement M

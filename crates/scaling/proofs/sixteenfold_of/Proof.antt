@@ -4,7 +4,7 @@ use Prim.Native.Nat.{ℕ, ◌*◌}
 use native.Mathlib.Omega.{arith}
 use Rattle.scaling.specs.Scaling.{Halved}
 use Rattle.scaling.specs.Steps.{sixteenfold_of}
-use Rattle.scaling.proofs.Halving.{Left, start, turn, done, alpha-small}
+use Rattle.scaling.proofs.Halving.{Left, start, turn, done, alpha_small}
 use Rattle.scaling.proofs.sixteenfold_of.Statement.{statement}
 use Rattle.scaling.proofs.sixteenfold_of.Tie as tie
 
@@ -20,7 +20,7 @@ loop-holds c = (4, start c.args.scale c.requires)
 mul-alpha : tie.Need-overflow-mul-alpha invariant-loop decreases-loop
 mul-alpha c =
     let l = c.before.loop in
-    omega (arith, alpha-small l.invariant.0 l.alpha l.invariant.1.full)
+    omega (arith, alpha_small l.invariant.0 l.alpha l.invariant.1.full)
 
 loop-less : tie.Need-loop-smaller invariant-loop decreases-loop
 loop-less c = omega arith

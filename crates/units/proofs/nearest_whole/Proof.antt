@@ -3,7 +3,7 @@ use mathlib.Core.Path.{refl}
 use native.Mathlib.Omega.{arith}
 use borrow.Author.Rules.{rules}
 use Rattle.units.specs.Rounding.{nearest_whole}
-use Rattle.units.proofs.Rounding.{twice-small}
+use Rattle.units.proofs.Rounding.{twice_small}
 use Rattle.units.proofs.nearest_whole.Statement.{statement}
 use Rattle.units.proofs.nearest_whole.Tie as tie
 
@@ -11,10 +11,10 @@ mul-result : tie.Need-overflow-mul-result
 mul-result c = search rules
 
 mul-result-2 : tie.Need-overflow-mul-result-2
-mul-result-2 c = omega (arith, twice-small c.requires.0 c.args.m c.requires.1)
+mul-result-2 c = omega (arith, twice_small c.requires.0 c.args.m c.requires.1)
 
 add-result : tie.Need-overflow-add-result
-add-result c = omega (arith, twice-small c.requires.0 c.args.m c.requires.1)
+add-result c = omega (arith, twice_small c.requires.0 c.args.m c.requires.1)
 
 mul-result-3 : tie.Need-overflow-mul-result-3
 mul-result-3 c = search rules

@@ -6,7 +6,7 @@ use lib.IntN.{nat_abs}
 use mir.Facts.{to_z-of_z}
 use Rattle.numbers.specs.Signs.{with_sign}
 use Rattle.units.specs.Rounding.{nearest_whole}
-use Rattle.units.proofs.Rounding.{nearest-half}
+use Rattle.units.proofs.Rounding.{nearest_half}
 use Rattle.units.proofs.round.Statement.{statement}
 use Rattle.units.proofs.round.Tie as tie
 
@@ -22,7 +22,7 @@ nearest-whole-requires c κs = (c.before.requires.0, omega (arith, magnitude-is 
 
 with-sign-requires : tie.Need-with-sign-requires
 with-sign-requires c κs =
-    omega (arith, nearest-half c.before.before.requires.0 c.before.magnitude.result, (nearest-whole-requires c.before κs).1)
+    omega (arith, nearest_half c.before.before.requires.0 c.before.magnitude.result, (nearest-whole-requires c.before κs).1)
 
 returns : tie.Need-returns
 returns c =

@@ -12,8 +12,8 @@ use Rattle.asking.proofs.spelled.byte_of_pair.Tie as tie
 
 -- a pair, by the values of its signs
 module _ (high low upper lower : ℕ) (upper_is : upper ≡ digit_of high) (lower-is : lower ≡ digit_of low) where
-  no-upper : 15 < upper → Byte.Not ≡ byte_of_pair high low
-  no-upper h = simp (lt-leb (digit_of high) 15 (omega (arith, upper_is)))
+  no_upper : 15 < upper → Byte.Not ≡ byte_of_pair high low
+  no_upper h = simp (lt-leb (digit_of high) 15 (omega (arith, upper_is)))
 
   no_lower : 15 < lower → Byte.Not ≡ byte_of_pair high low
   no_lower h = simp (lt-leb (digit_of low) 15 (omega (arith, lower-is)), and_false)
@@ -30,7 +30,7 @@ digit-requires-2 : tie.Need-digit-requires-2
 digit-requires-2 c κs = search rules
 
 returns : tie.Need-returns
-returns c = let a = c.before.before.before.args in no-upper a.high a.low _ _ c.before.before.digit.ensures.0 c.before.digit2.ensures.0 c.if1.true
+returns c = let a = c.before.before.before.args in no_upper a.high a.low _ _ c.before.before.digit.ensures.0 c.before.digit2.ensures.0 c.if1.true
 
 returns-2 : tie.Need-returns-2
 returns-2 c = let a = c.before.before.before.before.args in no_lower a.high a.low _ _ c.before.before.before.digit.ensures.0 c.before.before.digit2.ensures.0 c.if2.true

@@ -6,13 +6,13 @@ use borrow.Author.Rules.{rules}
 use lib.ListN.{length}
 use Rattle.refusals.specs.Answer.{Answer, given, and_then}
 use Rattle.names.specs.Names.{name_size}
-use Rattle.widths.proofs.TableLaws.{table-size}
+use Rattle.widths.proofs.TableLaws.{table_size}
 use Rattle.widths.specs.Steps.{table_says}
 use Rattle.widths.specs.Table.{old_record_size, checked_table}
 use Rattle.converting.specs.Steps.{named_says}
 use Rattle.converting.specs.Converting.{unnamed_from, narrowed_area}
-use Rattle.converting.proofs.Answered.{known, answered-refused, answered-short, answered-given, too_few, enough}
-use Rattle.converting.proofs.Unnamed.{unnamed-all}
+use Rattle.converting.proofs.Answered.{known, answered_refused, answered_short, answered_given, too_few, enough}
+use Rattle.converting.proofs.Unnamed.{unnamed_all}
 use Rattle.converting.proofs.converting.narrow_table.Statement.{statement}
 use Rattle.converting.proofs.converting.narrow_table.Tie as tie
 
@@ -44,7 +44,7 @@ unnamed : (c : tie.After-enum-told) → judgedOf c.before.before.before.before �
 unnamed c =
     let records = c.before.before.before.before.records.given.0.0 in
     let answer : named_says c.before.before.first-named.result ≡ given c.enum_told.given.0.0 = ap named_says c.enum_told.given.1 in
-    let count : 0 + records ≡ c.enum_told.given.0.0 = (unnamed-all c.before.before.before.before.before.before.before.before.before.args.widths.now records 0 c.enum_told.given.0.0 (λ j h. absurd (omega arith)) (sym c.before.before.first-named.ensures ∙ answer)).0 in
+    let count : 0 + records ≡ c.enum_told.given.0.0 = (unnamed_all c.before.before.before.before.before.before.before.before.before.args.widths.now records 0 c.enum_told.given.0.0 (λ j h. absurd (omega arith)) (sym c.before.before.first-named.ensures ∙ answer)).0 in
     let same : c.enum_told.given.0.0 ≡ records = omega arith in
     searched c.before.before ∙ answer ∙ ap given same
 
@@ -65,26 +65,26 @@ returns : tie.Need-returns
 returns c =
     let s = c.before.before.before.before.before.before.before.before.before.before in
     let room = length s.args.out.now in
-    known (narrowed_area s.args.widths.now s.args.out.now) (answered-short (judgedOf c.before.before.before.before.before) room old_record_size (unnamed c.before) (too_few room old_record_size _ (omega arith) c.if1.true))
+    known (narrowed_area s.args.widths.now s.args.out.now) (answered_short (judgedOf c.before.before.before.before.before) room old_record_size (unnamed c.before) (too_few room old_record_size _ (omega arith) c.if1.true))
 
 write-records-requires : tie.Need-write-records-requires
 write-records-requires c κs =
     let s = c.before.before.before.before.before.before.before.before.before.before.before in
     let records = c.before.before.before.before.before.before.records.given.0.0 in
-    (omega arith, omega arith, omega (arith, table-size name_size s.args.widths.now records (right c.before.before.before.before.before.before)), fits c.before)
+    (omega arith, omega arith, omega (arith, table_size name_size s.args.widths.now records (right c.before.before.before.before.before.before)), fits c.before)
 
 returns-2 : tie.Need-returns-2
 returns-2 c =
     let s = c.before.before.before.before.before.before in
     known (narrowed_area s.args.widths.now s.args.out.now)
-    (answered-refused (and_then (checked_table s.args.widths.now) (λ records. unnamed_from records s.args.widths.now 0)) (length s.args.out.now) old_record_size
+    (answered_refused (and_then (checked_table s.args.widths.now) (λ records. unnamed_from records s.args.widths.now 0)) (length s.args.out.now) old_record_size
     (ap (λ (a : Answer ℕ). and_then a (λ records. unnamed_from records s.args.widths.now 0)) (sym c.before.before.before.check-table.ensures ∙ ap table_says c.before.place.given.1)))
 
 returns-3 : tie.Need-returns-3
 returns-3 c =
     let s = c.before.before.before.before.before.before.before.before.before.before in
     known (narrowed_area s.args.widths.now s.args.out.now)
-    (answered-refused (judgedOf c.before.before.before.before.before) (length s.args.out.now) old_record_size (searched c.before.before.before ∙ ap named_says c.before.place2.given.1))
+    (answered_refused (judgedOf c.before.before.before.before.before) (length s.args.out.now) old_record_size (searched c.before.before.before ∙ ap named_says c.before.place2.given.1))
 
 same_length : tie.Need-same-length
 same_length c = search rules
@@ -93,7 +93,7 @@ returns-4 : tie.Need-returns-4
 returns-4 c =
     let s = c.before.before.before.before.before.before.before.before.before.before.before.before.before.before in
     let room = length s.args.out.now in
-    let (says, area) = known (narrowed_area s.args.widths.now s.args.out.now) (answered-given (judgedOf c.before.before.before.before.before.before.before.before.before) room old_record_size (unnamed c.before.before.before.before.before) (fits c.before.before.before.before)) in
+    let (says, area) = known (narrowed_area s.args.widths.now s.args.out.now) (answered_given (judgedOf c.before.before.before.before.before.before.before.before.before) room old_record_size (unnamed c.before.before.before.before.before) (fits c.before.before.before.before)) in
     (says, c.before.before.write-records.ensures ∙ area)
 
 pub narrow_table_spec : {M : Type 1} → statement M

@@ -5,7 +5,7 @@ use native.Mathlib.Omega.{arith}
 use borrow.Author.Rules.{rules}
 use lib.Seq.{sets, length-take-le}
 use lib.ListN.{length, take, drop, replicate}
-use Rattle.converting.proofs.Written.{part_length, three-pasted, record_parts}
+use Rattle.converting.proofs.Written.{part_length, three_pasted, record_parts}
 use Rattle.converting.proofs.converting.put_record.Statement.{statement}
 use Rattle.converting.proofs.converting.put_record.Tie as tie
 
@@ -76,7 +76,7 @@ returns c =
     let x-long : length (take (at + 8 - at) (drop at table)) ≡ 8 = part_length table at 8 (omega arith) in
     let y-long : length (take to (replicate {A = ℕ} 16 0)) ≡ to = length-take-le {A = ℕ} to (replicate 16 0) s.requires.1 in
     let z-long : length (take (behind + 8 - behind) (drop behind table)) ≡ 8 = part_length table behind 8 (omega arith) in
-    three-pasted s.args.out.now s.args.written (s.args.written + 8) (s.args.written + 8 + to)
+    three_pasted s.args.out.now s.args.written (s.args.written + 8) (s.args.written + 8 + to)
     (take (at + 8 - at) (drop at table)) (take to (replicate 16 0)) (take (behind + 8 - behind) (drop behind table))
     (omega arith) (omega arith) (omega (arith, s.requires.2)) c.before.before.before.before.before.before.before.before.before.before.before.before.paste.new.0 c.before.before.before.before.before.before.before.paste2.new.0 c.before.before.paste3.new.0
     c.before.before.before.before.before.before.before.before.before.before.before.before.paste.ensures c.before.before.before.before.before.before.before.paste2.ensures c.before.before.paste3.ensures

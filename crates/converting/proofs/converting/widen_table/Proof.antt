@@ -5,11 +5,11 @@ use native.Mathlib.Omega.{arith}
 use borrow.Author.Rules.{rules}
 use lib.ListN.{length}
 use Rattle.refusals.specs.Answer.{given}
-use Rattle.widths.proofs.TableLaws.{table-size}
+use Rattle.widths.proofs.TableLaws.{table_size}
 use Rattle.widths.specs.Steps.{table_says}
 use Rattle.widths.specs.Table.{old_table, width_record_size}
 use Rattle.converting.specs.Converting.{widened_area}
-use Rattle.converting.proofs.Answered.{known, answered-refused, answered-short, answered-given, too_few, enough}
+use Rattle.converting.proofs.Answered.{known, answered_refused, answered_short, answered_given, too_few, enough}
 use Rattle.converting.proofs.converting.widen_table.Statement.{statement}
 use Rattle.converting.proofs.converting.widen_table.Tie as tie
 
@@ -35,18 +35,18 @@ returns c =
     let s = c.before.before.before.before.before.before.before in
     let room = length s.args.out.now in
     let judged = right c.before.before in
-    known (widened_area s.args.old.now s.args.out.now) (answered-short (old_table s.args.old.now) room width_record_size judged (too_few room width_record_size _ (omega arith) c.if1.true))
+    known (widened_area s.args.old.now s.args.out.now) (answered_short (old_table s.args.old.now) room width_record_size judged (too_few room width_record_size _ (omega arith) c.if1.true))
 
 write-records-requires : tie.Need-write-records-requires
 write-records-requires c κs =
     let s = c.before.before.before.before.before.before.before.before in
     let records = c.before.before.before.records.given.0.0 in
-    (omega arith, omega arith, omega (arith, table-size 0 s.args.old.now records (right c.before.before.before)), fits c.before)
+    (omega arith, omega arith, omega (arith, table_size 0 s.args.old.now records (right c.before.before.before)), fits c.before)
 
 returns-2 : tie.Need-returns-2
 returns-2 c =
     let s = c.before.before.before.before.before.before in
-    known (widened_area s.args.old.now s.args.out.now) (answered-refused (old_table s.args.old.now) (length s.args.out.now) width_record_size (sym c.before.before.before.check-old.ensures ∙ ap table_says c.before.place.given.1))
+    known (widened_area s.args.old.now s.args.out.now) (answered_refused (old_table s.args.old.now) (length s.args.out.now) width_record_size (sym c.before.before.before.check-old.ensures ∙ ap table_says c.before.place.given.1))
 
 same_length : tie.Need-same-length
 same_length c = search rules
@@ -55,7 +55,7 @@ returns-3 : tie.Need-returns-3
 returns-3 c =
     let s = c.before.before.before.before.before.before.before.before.before.before.before in
     let room = length s.args.out.now in
-    let (says, area) = known (widened_area s.args.old.now s.args.out.now) (answered-given (old_table s.args.old.now) room width_record_size (right c.before.before.before.before.before.before) (fits c.before.before.before.before)) in
+    let (says, area) = known (widened_area s.args.old.now s.args.out.now) (answered_given (old_table s.args.old.now) room width_record_size (right c.before.before.before.before.before.before) (fits c.before.before.before.before)) in
     (says, c.before.before.write-records.ensures ∙ area)
 
 pub widen_table_spec : {M : Type 1} → statement M

@@ -9,7 +9,7 @@ use lib.Seq.{sets, length-sets}
 use Rattle.widths.specs.Table.{size_with}
 use Rattle.converting.specs.Converting.{in_form}
 use Rattle.converting.proofs.Written.{all_written}
-use Rattle.converting.proofs.Forms.{record_fits, next_place, form-written}
+use Rattle.converting.proofs.Forms.{record_fits, next_place, form_written}
 use Rattle.converting.proofs.converting.write_records.Statement.{statement}
 use Rattle.converting.proofs.converting.write_records.Tie as tie
 
@@ -67,7 +67,7 @@ loop-again c =
       next_place (size_with from) l.done l.at l.invariant.1,
       next_place (size_with to) l.done l.written l.invariant.2,
       c.before.before.put_record.ensures ∙ ap (λ (out : List ℕ). sets out l.written (in_form from to 1 (drop l.at s.args.table.now))) l.invariant.3
-          ∙ form-written from to l.done s.args.table.now s.args.out.now l.at l.written (omega (arith, here c.before.before.before.before.before (omega arith), l.invariant.1)) l.invariant.1 l.invariant.2,
+          ∙ form_written from to l.done s.args.table.now s.args.out.now l.at l.written (omega (arith, here c.before.before.before.before.before (omega arith), l.invariant.1)) l.invariant.1 l.invariant.2,
     )
 
 same_length : tie.Need-same-length invariant-loop decreases-loop

@@ -12,7 +12,7 @@ use Rattle.numbers.specs.Sizes.{lawful_size}
 use Rattle.numbers.proofs.Bytes.{unsigned_more, unsigned_join}
 use Rattle.widths.specs.Table.{old_record_size, record_in}
 use Rattle.widths.specs.Steps.{Checking}
-use Rattle.widths.proofs.TableLaws.{check-starts, check-ends, check-cut, here, keyRight, check-key, check-rest, check-turns}
+use Rattle.widths.proofs.TableLaws.{check_starts, check_ends, check_cut, here, key_right, check_key, check_rest, check_turns}
 use Rattle.converting.specs.declared.old.OldKey.{OldKey}
 use Rattle.converting.specs.Steps.{old_key_number, OldKeyAt, old_reaches, OldLeastKey}
 use Rattle.converting.proofs.old.check_old.Statement.{statement}
@@ -35,7 +35,7 @@ sub-whole : tie.Need-overflow-sub-whole invariant-loop decreases-loop
 sub-whole c = omega arith
 
 loop-holds : tie.Need-loop-init invariant-loop decreases-loop
-loop-holds c = (omega arith, (omega arith, λ h. absurd (omega arith)), check-starts 0 c.before.args.table.now)
+loop-holds c = (omega arith, (omega arith, λ h. absurd (omega arith)), check_starts 0 c.before.args.table.now)
 
 -- the record of a turn lies within the table
 inside : (c : tie.In-loop invariant-loop decreases-loop) → c.before.loop.at + old_record_size ≤ length c.before.before.before.args.table.now
@@ -64,8 +64,8 @@ module _ (c : tie.After-lawful-key invariant-loop decreases-loop) where
       let inv = head.loop.inv.2 in
       old-key-is table inv.index c.before.key-at.result (subst (λ (n : ℕ). OldKeyAt table n c.before.key-at.result) inv.place c.before.key-at.ensures)
 
-  key-test : c.lawful-key.result ≡ keyRight 0 table head.loop.at least head.loop.inv.2
-  key-test =
+  key_test : c.lawful-key.result ≡ key_right 0 table head.loop.at least head.loop.inv.2
+  key_test =
       let k = c.before.key-at in
       let scale_is : k.result.head % 2 ^ 32 ≡ unsigned_at table (head.loop.at + 4) 4 = omega (arith, k.ensures.head_is, k.ensures.scale_below) in
       c.lawful-key.ensures
@@ -76,7 +76,7 @@ returns : tie.Need-returns invariant-loop decreases-loop
 returns c =
     let k = c.before in
     let l = (head k).loop in
-    check-key 0 (table k) l.at (least k) l.inv.2 (inside k.before.before) (sym (key-test k) ∙ not_true _ c.if1.true)
+    check_key 0 (table k) l.at (least k) l.inv.2 (inside k.before.before) (sym (key_test k) ∙ not_true _ c.if1.true)
 
 lawful-rest-requires : tie.Need-lawful-rest-requires invariant-loop decreases-loop
 lawful-rest-requires c κs = inside c.before.before.before
@@ -85,8 +85,8 @@ returns-2 : tie.Need-returns-2 invariant-loop decreases-loop
 returns-2 c =
     let k = c.before.before.before in
     let l = (head k).loop in
-    check-rest 0 (table k) l.at (least k) l.inv.2 (inside k.before.before)
-    (sym (key-test k) ∙ not-false _ c.before.before.if1.false) (sym c.before.lawful-rest.ensures ∙ not_true _ c.if2.true)
+    check_rest 0 (table k) l.at (least k) l.inv.2 (inside k.before.before)
+    (sym (key_test k) ∙ not-false _ c.before.before.if1.false) (sym c.before.lawful-rest.ensures ∙ not_true _ c.if2.true)
 
 add-next-code : tie.Need-overflow-add-next-code invariant-loop decreases-loop
 add-next-code c = omega arith
@@ -102,21 +102,21 @@ loop-again c =
     let k = c.before.before.before.before in
     let l = (head k).loop in
     let key = k.before.key-at in
-    let right : keyRight 0 (table k) l.at (least k) l.inv.2 ≡ true = sym (key-test k) ∙ not-false _ c.before.before.before.if1.false in
+    let right : key_right 0 (table k) l.at (least k) l.inv.2 ≡ true = sym (key_test k) ∙ not-false _ c.before.before.before.if1.false in
     let lawful : lawful_size (key.result.head % 2 ^ 32) ≡ true = ((and-eq-true_iff (old_reaches key.result l.least) (lawful_size (key.result.head % 2 ^ 32))).0 (sym k.lawful-key.ensures ∙ not-false _ c.before.before.before.if1.false)).1 in
-    let next = check-turns 0 (table k) l.at (least k) l.inv.2 (inside k.before.before) right (sym c.before.before.lawful-rest.ensures ∙ not-false _ c.before.if2.false) in
+    let next = check_turns 0 (table k) l.at (least k) l.inv.2 (inside k.before.before) right (sym c.before.before.lawful-rest.ensures ∙ not-false _ c.before.if2.false) in
     let e : here 0 (table k) l.at (least k) l.inv.2 + 1 ≡ key.result.head * 256 + (key.result.code + 1) = omega (arith, key_here k) in
     (omega (arith, l.inv.2.place), (omega (arith, key.ensures.code_below), λ h. lawful), subst (Checking 0 (table k) (l.at + old_record_size)) e next)
 
 returns-3 : tie.Need-returns-3 invariant-loop decreases-loop
 returns-3 c =
     let l = c.before.before.loop in
-    check-cut 0 c.before.before.before.before.args.table.now l.at (old_key_number l.least) l.invariant.2 (omega arith) (omega arith)
+    check_cut 0 c.before.before.before.before.args.table.now l.at (old_key_number l.least) l.invariant.2 (omega arith) (omega arith)
 
 returns-4 : tie.Need-returns-4 invariant-loop decreases-loop
 returns-4 c =
     let l = c.before.before.loop in
-    check-ends 0 c.before.before.before.before.args.table.now l.at (old_key_number l.least) l.invariant.2 (omega arith)
+    check_ends 0 c.before.before.before.before.args.table.now l.at (old_key_number l.least) l.invariant.2 (omega arith)
 
 pub check_old_spec : {M : Type 1} → statement M
 check_old_spec =

@@ -1,5 +1,5 @@
 -- `cutting::choosing::right_list` meets its contract. Assumes nothing.
-use Rattle.cutting.proofs.Rising.{Judging, not-rising, not_there, judged-on, judged-all}
+use Rattle.cutting.proofs.Rising.{Judging, not_rising, not_there, judged_on, judged_all}
 use lib.ListN.{length}
 use borrow.Author.Rules.{rules}
 use native.Mathlib.Numerals.{add-one}
@@ -31,7 +31,7 @@ returns : tie.Need-returns invariant-loop decreases-loop
 returns c =
     let a = c.before.before.before.before.before.before.args in
     let w = c.before.widened.ensures in
-    not-rising a.last a.list.now c.before.before.before.before.loop.before c.before.before.before.before.loop.index c.before.before.before.before.loop.invariant c.before.before.before.loop-test.true (omega (arith, w, c.if1.true))
+    not_rising a.last a.list.now c.before.before.before.before.loop.before c.before.before.before.before.loop.index c.before.before.before.before.loop.invariant c.before.before.before.loop-test.true (omega (arith, w, c.if1.true))
 
 returns-2 : tie.Need-returns-2 invariant-loop decreases-loop
 returns-2 c =
@@ -49,10 +49,10 @@ loop-again : tie.Need-loop-preserved invariant-loop decreases-loop
 loop-again c =
     let a = c.before.before.before.before.before.before.before.args in
     let w = c.before.before.widened.ensures in
-    rw (w, add-one c.before.before.before.before.before.loop.index) (judged-on a.last a.list.now c.before.before.before.before.before.loop.before c.before.before.before.before.before.loop.index c.before.before.before.before.before.loop.invariant c.before.before.before.before.loop-test.true (omega (arith, w, c.before.if1.false)) (omega (arith, w, c.if2.false)))
+    rw (w, add-one c.before.before.before.before.before.loop.index) (judged_on a.last a.list.now c.before.before.before.before.before.loop.before c.before.before.before.before.before.loop.index c.before.before.before.before.before.loop.invariant c.before.before.before.before.loop-test.true (omega (arith, w, c.before.if1.false)) (omega (arith, w, c.if2.false)))
 
 returns-3 : tie.Need-returns-3 invariant-loop decreases-loop
-returns-3 c = let a = c.before.before.before.args in judged-all a.last a.list.now c.before.loop.before c.before.loop.index c.before.loop.invariant (omega (arith, c.loop-test.false))
+returns-3 c = let a = c.before.before.before.args in judged_all a.last a.list.now c.before.loop.before c.before.loop.index c.before.loop.invariant (omega (arith, c.loop-test.false))
 
 pub right_list_spec : {M : Type 1} → statement M
 right_list_spec =

@@ -2,7 +2,7 @@
 use Rattle.cutting.specs.Steps.{forms_of}
 use Rattle.cutting.specs.CutFile.{bytes_cut, cut_file, cut_area}
 use Rattle.cutting.proofs.Pasted.{pasted_sets}
-use Rattle.cutting.proofs.NewFiles.{rising, fillers_few, file-length, cut_short, cut_given, area-filled}
+use Rattle.cutting.proofs.NewFiles.{rising, fillers_few, file_length, cut_short, cut_given, area_filled}
 use Rattle.cutting.specs.Chosen.{is_in}
 use Rattle.cutting.specs.CutList.{cut_past, fillers_at}
 use Rattle.volume.specs.History.{history}
@@ -86,11 +86,11 @@ returns-2 c =
     let filled : count ≡ fillers_at (place new) = c.before.before.before.before.before.before.before.before.before.before.before.fillers-at.ensures ∙ ap fillers_at n.all_is in
     let fits : place new + fillers_at (place new) ≤ length entry = omega (arith, n.all_is, filled, c.before.before.before.before.before.before.before.before.before.before.if1.false) in
     let made = cut_given file list (length entry) fits in
-    let bytes : size + count ≡ length (cut_file file list) = omega (arith, n.all_is, filled, file-length file list) in
+    let bytes : size + count ≡ length (cut_file file list) = omega (arith, n.all_is, filled, file_length file list) in
     let long = length-take-le {A = ℕ} count (replicate 7 223) (omega (arith, filled, fillers_few (place new))) in
     let room : size + length {A = ℕ} (take count (replicate 7 223)) ≤ length c.before.before.before.before.before.before.before.write.new.1.1.1.1.0 = omega (arith, long, c.before.before.before.before.before.before.before.before.before.before.if1.false, c.before.before.before.before.before.before.before.write.auto.1.1.1.1.0) in
     let tailed = pasted_sets c.before.before.before.before.before.before.before.write.new.1.1.1.1.0 size (take count (replicate 7 223)) c.before.before.paste.new.0 room c.before.before.paste.ensures in
-    (ap given bytes ∙ sym (ap bytes_cut made), tailed ∙ tail-there entry (forms_of new) c.before.before.before.before.before.before.before.write.new.1.1.1.1.0 size (place new) count (fillers_at (place new)) c.before.before.before.before.before.before.before.write.ensures n.all_is filled ∙ area-filled file list entry fits ∙ sym (ap (cut_area entry) made))
+    (ap given bytes ∙ sym (ap bytes_cut made), tailed ∙ tail-there entry (forms_of new) c.before.before.before.before.before.before.before.write.new.1.1.1.1.0 size (place new) count (fillers_at (place new)) c.before.before.before.before.before.before.before.write.ensures n.all_is filled ∙ area_filled file list entry fits ∙ sym (ap (cut_area entry) made))
 
 pub cut_accepted_spec : {M : Type 1} → statement M
 cut_accepted_spec =

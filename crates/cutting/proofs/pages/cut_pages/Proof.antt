@@ -1,5 +1,5 @@
 -- `cutting::pages::cut_pages` meets its contract. Assumes nothing.
-use Rattle.cutting.proofs.NewFiles.{cut-refused, cut-wrong, cut_right}
+use Rattle.cutting.proofs.NewFiles.{cut_refused, cut_wrong, cut_right}
 use mathlib.Core.Bool.{Bool, true, false, not, true≢false}
 use Rattle.cutting.specs.CutFile.{bytes_cut, cut_area}
 use Rattle.cutting.specs.Chosen.{wrong_list}
@@ -55,7 +55,7 @@ returns c =
     let r = c.before in
     let a = (start r).args in
     let wrong = wrong-there (wrong_list (found r).pages a.list.now) r.right-list.result r.right-list.ensures c.if1.true in
-    let made = cut-wrong a.file.now a.list.now (length a.out.now) (found r) (accepted r) wrong in
+    let made = cut_wrong a.file.now a.list.now (length a.out.now) (found r) (accepted r) wrong in
     (sym (ap bytes_cut made), sym (ap (cut_area a.out.now) made))
 
 cut-accepted-requires : tie.Need-cut-accepted-requires
@@ -70,7 +70,7 @@ returns-2 : tie.Need-returns-2
 returns-2 c =
     let a = c.before.before.before.before.before.before.before.args in
     let refusal = c.before.refusal.given.0.0 in
-    let made = cut-refused a.file.now a.list.now (length a.out.now) refusal.number refusal.place (sym c.before.before.before.check-file.ensures ∙ ap check_answer c.before.refusal.given.1) in
+    let made = cut_refused a.file.now a.list.now (length a.out.now) refusal.number refusal.place (sym c.before.before.before.check-file.ensures ∙ ap check_answer c.before.refusal.given.1) in
     (sym (ap bytes_cut made), sym (ap (cut_area a.out.now) made))
 
 same_length : tie.Need-same-length
@@ -82,7 +82,7 @@ returns-3 c =
     let a = (start r).args in
     let right = right_there (wrong_list (found r).pages a.list.now) r.right-list.result r.right-list.ensures c.before.before.before.before.if1.false in
     let made = cut_right a.file.now a.list.now (length a.out.now) (found r) (accepted r) right in
-    (c.before.before.cut-accepted.ensures.0 ∙ sym (ap bytes_cut made), c.before.before.cut-accepted.ensures.1 ∙ sym (ap (cut_area a.out.now) made))
+    (c.before.before.cut_accepted_lem.ensures.0 ∙ sym (ap bytes_cut made), c.before.before.cut_accepted_lem.ensures.1 ∙ sym (ap (cut_area a.out.now) made))
 
 pub cut_pages_spec : {M : Type 1} → statement M
 cut_pages_spec =

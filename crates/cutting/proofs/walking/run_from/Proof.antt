@@ -10,7 +10,7 @@ use borrow.Author.Tests.{not_true, not-false}
 use Rattle.volume.proofs.Going.{forward}
 use Rattle.cutting.specs.declared.Run.{Run}
 use Rattle.cutting.specs.Steps.{run_at, Runs, runs_none, RunTo}
-use Rattle.cutting.proofs.IdleRuns.{runs_shallow, runs_reached, runs-plain, runs-short}
+use Rattle.cutting.proofs.IdleRuns.{runs_shallow, runs_reached, runs_plain, runs_short}
 use Rattle.cutting.proofs.walking.run_from.Statement.{statement}
 use Rattle.cutting.proofs.walking.run_from.Tie as tie
 
@@ -41,7 +41,7 @@ module _ (c : tie.After-pass-plain invariant-loop decreases-loop) where
   from = run_at entered.args.at entered.args.depth entered.args.greatest
 
   passed : Runs entered.args.file.now from reached
-  passed = runs-plain c.before.loop.invariant (runs_reached entered.pre.3 c.before.loop.invariant) c.pass-plain.ensures
+  passed = runs_plain c.before.loop.invariant (runs_reached entered.pre.3 c.before.loop.invariant) c.pass-plain.ensures
 
   run : RunTo entered.args.file.now entered.args.p.on from reached
   run =
@@ -80,7 +80,7 @@ loop-less c = omega (arith, forward c.before.before.before.before.before.before.
 loop-again : tie.Need-loop-preserved invariant-loop decreases-loop
 loop-again c =
     let short = sym c.before.before.before.before.is-short.ensures ∙ not-false _ c.before.before.before.if3.false in
-    runs-short (passed c.before.before.before.before.before.before.before) (omega arith) short c.before.before.kind-of.ensures c.before.next-depth.ensures c.greater.ensures
+    runs_short (passed c.before.before.before.before.before.before.before) (omega arith) short c.before.before.kind-of.ensures c.before.next-depth.ensures c.greater.ensures
 
 pub run_from_spec : {M : Type 1} → statement M
 run_from_spec =

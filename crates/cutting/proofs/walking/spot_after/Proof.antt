@@ -38,7 +38,7 @@ begun list p chosen e = rw e refl
 returns : tie.Need-returns
 returns c =
     let a = c.before.before.before.before.before.args in
-    let next = sym c.if1.true ∙ c.before.is-next.ensures in
+    let next = sym c.if1.true ∙ c.before.is_next.ensures in
     ap (λ (b : Bool). record { pages = a.p.pages + 1; met = a.p.met + 1; on = true; here = b; late = a.p.late }) c.if1.true
     ∙ begun a.list.now a.p true next
     ∙ ap (λ (k : Kind). spot_after a.list.now k a.p) (sym c.before.before.enum_told.given.1)
@@ -46,7 +46,7 @@ returns c =
 returns-2 : tie.Need-returns-2
 returns-2 c =
     let a = c.before.before.before.before.before.args in
-    let next = sym c.if1.false ∙ c.before.is-next.ensures in
+    let next = sym c.if1.false ∙ c.before.is_next.ensures in
     ap (λ (b : Bool). record { pages = a.p.pages + 1; met = a.p.met; on = true; here = b; late = a.p.late }) c.if1.false
     ∙ begun a.list.now a.p false next
     ∙ ap (λ (k : Kind). spot_after a.list.now k a.p) (sym c.before.before.enum_told.given.1)

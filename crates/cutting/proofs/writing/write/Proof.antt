@@ -1,15 +1,15 @@
 -- `cutting::writing::write` meets its contract. Assumes nothing.
-use Rattle.cutting.proofs.WriteTurns.{Writing, writing-first, room-to-copy, room-to-turn, writing-run, writing-on, writing-last, writing-same, room-same, made-same, area_same}
+use Rattle.cutting.proofs.WriteTurns.{Writing, writing_first, room_to_copy, room_to_turn, writing_run, writing_on, writing_last, writing_same, room_same, made_same, area_same}
 use Rattle.cutting.proofs.WriteLaws.{area_length}
 use Rattle.cutting.proofs.IdleRuns.{run_ahead}
 use Rattle.cutting.proofs.Standing.{spot_small}
-use Rattle.cutting.proofs.Walks.{never-refused, inside}
+use Rattle.cutting.proofs.Walks.{never_refused, inside}
 use Rattle.cutting.specs.Steps.{spot_after, fate_of, made_after, area_turned}
 use Rattle.cutting.specs.declared.Fate.{Fate}
 use Rattle.cutting.specs.declared.Made.{Made}
 use Rattle.cutting.specs.declared.Spot.{Spot}
 use Rattle.list.proofs.Arms.{kind_others}
-use Rattle.commands.proofs.Readings.{command_at, Reads, given-reads}
+use Rattle.commands.proofs.Readings.{command_at, Reads, given_reads}
 use Rattle.commands.specs.Steps.{read_answer}
 use Rattle.commands.specs.Commands.{Command, kind_of_command}
 use Rattle.commands.specs.Kinds.{is}
@@ -38,7 +38,7 @@ start-requires c κs = tt
 loop-holds : tie.Need-loop-init invariant-loop decreases-loop
 loop-holds c =
     let s = c.before.before.before.before in
-    writing-same s.args.file.now s.args.list.now s.args.counted s.args.out.now s.requires.1 refl c.start.ensures refl refl (writing-first s.args.file.now s.args.list.now s.args.counted s.args.out.now s.requires.1)
+    writing_same s.args.file.now s.args.list.now s.args.counted s.args.out.now s.requires.1 refl c.start.ensures refl refl (writing_first s.args.file.now s.args.list.now s.args.counted s.args.out.now s.requires.1)
 
 run-from-requires : tie.Need-run-from-requires invariant-loop decreases-loop
 run-from-requires c κs =
@@ -48,7 +48,7 @@ run-from-requires c κs =
 run-passed-requires : tie.Need-run-passed-requires invariant-loop decreases-loop
 run-passed-requires c κs =
     let s = c.before.before.before.before.before.before.before in
-    room-to-copy s.args.file.now s.args.list.now s.args.counted s.args.out.now s.requires.1 c.before.before.loop.invariant
+    room_to_copy s.args.file.now s.args.list.now s.args.counted s.args.out.now s.requires.1 c.before.before.loop.invariant
 
 -- behind a run
 module _ (c : tie.After-run-passed invariant-loop decreases-loop) where
@@ -58,11 +58,11 @@ module _ (c : tie.After-run-passed invariant-loop decreases-loop) where
   abbrev entered : tie.Start invariant-loop decreases-loop
   entered = looped.before.before.before.before.before
 
-  abbrev in-file : List ℕ
-  in-file = entered.args.file.now
+  abbrev in_file : List ℕ
+  in_file = entered.args.file.now
 
-  abbrev of-list : List ℕ
-  of-list = entered.args.list.now
+  abbrev of_list : List ℕ
+  of_list = entered.args.list.now
 
   abbrev at_entry : List ℕ
   at_entry = entered.args.out.now
@@ -77,12 +77,12 @@ module _ (c : tie.After-run-passed invariant-loop decreases-loop) where
   area = c.run-passed.new.1.0
 
   ahead : looped.loop.at ≤ run
-  ahead = run_ahead in-file looped.loop.p.on _ c.before.before.run-from.result c.before.before.run-from.ensures
+  ahead = run_ahead in_file looped.loop.p.on _ c.before.before.run-from.result c.before.before.run-from.ensures
 
-  held : Writing in-file of-list at_entry run looped.loop.p made area
+  held : Writing in_file of_list at_entry run looped.loop.p made area
   held =
-      writing-same in-file of-list entered.args.counted at_entry entered.pre.1 refl refl c.run-passed.ensures.0 c.run-passed.ensures.1
-      (writing-run in-file of-list entered.args.counted at_entry entered.pre.1 looped.loop.inv _ _ c.before.before.run-from.result c.before.before.run-from.ensures)
+      writing_same in_file of_list entered.args.counted at_entry entered.pre.1 refl refl c.run-passed.ensures.0 c.run-passed.ensures.1
+      (writing_run in_file of_list entered.args.counted at_entry entered.pre.1 looped.loop.inv _ _ c.before.before.run-from.result c.before.before.run-from.ensures)
 
 -- the command that was read there
 module _ (c : tie.After-known-told invariant-loop decreases-loop) where
@@ -92,12 +92,12 @@ module _ (c : tie.After-known-told invariant-loop decreases-loop) where
   abbrev reading : Reading
   reading = c.before.reading.given.0.0
 
-  read : Reads (in-file passed) (run passed) reading
+  read : Reads (in_file passed) (run passed) reading
   read =
-      given-reads (in-file passed) (run passed) reading (sym c.before.before.before.read_by_lem.ensures ∙ ap read_answer c.before.reading.given.1)
+      given_reads (in_file passed) (run passed) reading (sym c.before.before.before.read_by_lem.ensures ∙ ap read_answer c.before.reading.given.1)
 
   abbrev command : Command
-  command = command_at (in-file passed) reading
+  command = command_at (in_file passed) reading
 
   ends_there : reading.next ≡ run passed + (1 + length command.params)
   ends_there = omega (arith, read.starts, read.nexts)
@@ -114,7 +114,7 @@ same_length c = area_length _ _ _ _ (held c.before.before.before.before.before).
 returns : tie.Need-returns invariant-loop decreases-loop
 returns c =
     let refusal = c.enum_told.given.0.0 in
-    absurd (never-refused (held c.before.before.before.before.before).walk refusal.number refusal.place (sym c.before.before.read_by_lem.ensures ∙ ap read_answer c.enum_told.given.1))
+    absurd (never_refused (held c.before.before.before.before.before).walk refusal.number refusal.place (sym c.before.before.read_by_lem.ensures ∙ ap read_answer c.enum_told.given.1))
 
 enum-known-reading : tie.Need-enum-known-reading invariant-loop decreases-loop
 enum-known-reading c = search rules
@@ -138,15 +138,15 @@ turn-requires c κs =
     let k = f.before.before.before in
     let b = passed k in
     let s = entered b in
-    room-same (of-list b) (in-file b) (looped b).loop.p f.before.spot-after.result f.before.before.kind-of.result (kind_of_command (command k)) f.fate-of.result (run b) (reading k).next _ (made b) f.before.before.kind-of.ensures f.before.spot-after.ensures f.fate-of.ensures (ends_there k) (length (area b)) (room-to-turn (in-file b) (of-list b) s.args.counted (at_entry b) s.pre.1 (held b) (command k) _ (read k).ahead)
+    room_same (of_list b) (in_file b) (looped b).loop.p f.before.spot-after.result f.before.before.kind-of.result (kind_of_command (command k)) f.fate-of.result (run b) (reading k).next _ (made b) f.before.before.kind-of.ensures f.before.spot-after.ensures f.fate-of.ensures (ends_there k) (length (area b)) (room_to_turn (in_file b) (of_list b) s.args.counted (at_entry b) s.pre.1 (held b) (command k) _ (read k).ahead)
 
 -- and what is written of it
 module _ (c : tie.After-turn invariant-loop decreases-loop) where
-  abbrev read-there : tie.After-fate-of invariant-loop decreases-loop
-  read-there = c.before.before
+  abbrev read_there : tie.After-fate-of invariant-loop decreases-loop
+  read_there = c.before.before
 
   abbrev known : tie.After-known-told invariant-loop decreases-loop
-  known = read-there.before.before.before
+  known = read_there.before.before.before
 
   abbrev before : tie.After-run-passed invariant-loop decreases-loop
   before = passed known
@@ -161,24 +161,24 @@ module _ (c : tie.After-turn invariant-loop decreases-loop) where
   next = run before + (1 + length (command known).params)
 
   abbrev fate : Fate
-  fate = fate_of kind (spot_after (of-list before) kind spot).here spot
+  fate = fate_of kind (spot_after (of_list before) kind spot).here spot
 
-  kind-is : read-there.before.before.kind-of.result ≡ kind
-  kind-is = read-there.before.before.kind-of.ensures
+  kind_is : read_there.before.before.kind-of.result ≡ kind
+  kind_is = read_there.before.before.kind-of.ensures
 
-  spot_is : read-there.before.spot-after.result ≡ spot_after (of-list before) kind spot
-  spot_is = read-there.before.spot-after.ensures ∙ ap (λ (k : Kind). spot_after (of-list before) k spot) kind-is
+  spot_is : read_there.before.spot-after.result ≡ spot_after (of_list before) kind spot
+  spot_is = read_there.before.spot-after.ensures ∙ ap (λ (k : Kind). spot_after (of_list before) k spot) kind_is
 
-  made-is : c.turn.result ≡ made_after fate kind (run before) next (made before)
-  made-is =
-      made-same (of-list before) (in-file before) spot read-there.before.spot-after.result read-there.before.before.kind-of.result kind read-there.fate-of.result
-      (run before) (reading known).next next (made before) kind-is read-there.before.spot-after.ensures read-there.fate-of.ensures (ends_there known) c.turn.result
+  made_is : c.turn.result ≡ made_after fate kind (run before) next (made before)
+  made_is =
+      made_same (of_list before) (in_file before) spot read_there.before.spot-after.result read_there.before.before.kind-of.result kind read_there.fate-of.result
+      (run before) (reading known).next next (made before) kind_is read_there.before.spot-after.ensures read_there.fate-of.ensures (ends_there known) c.turn.result
       c.turn.ensures.0
 
-  area_is : c.turn.new.1.0 ≡ area_turned fate kind (entered before).args.counted.greatest spot.met (in-file before) (run before) next (made before) (area before)
+  area_is : c.turn.new.1.0 ≡ area_turned fate kind (entered before).args.counted.greatest spot.met (in_file before) (run before) next (made before) (area before)
   area_is =
-      area_same (of-list before) (in-file before) spot read-there.before.spot-after.result read-there.before.before.kind-of.result kind read-there.fate-of.result
-      (run before) (reading known).next next (made before) kind-is read-there.before.spot-after.ensures read-there.fate-of.ensures (ends_there known)
+      area_same (of_list before) (in_file before) spot read_there.before.spot-after.result read_there.before.before.kind-of.result kind read_there.fate-of.result
+      (run before) (reading known).next next (made before) kind_is read_there.before.spot-after.ensures read_there.fate-of.ensures (ends_there known)
       (entered before).args.counted.greatest spot.met (area before) c.turn.new.1.0 c.turn.ensures.1
 
 enum-told-2 : tie.Need-enum-told-2 invariant-loop decreases-loop
@@ -192,7 +192,7 @@ returns-2 c =
     let n = c.before.before.before.before in
     let b = before n in
     let s = entered b in
-    area_is n ∙ writing-last (in-file b) (of-list b) s.args.counted (at_entry b) s.pre.1 (held b) (command (known n)) _ (read (known n)).ahead (sym (kind-is n) ∙ c.enum-told2.given.1)
+    area_is n ∙ writing_last (in_file b) (of_list b) s.args.counted (at_entry b) s.pre.1 (held b) (command (known n)) _ (read (known n)).ahead (sym (kind_is n) ∙ c.enum-told2.given.1)
 
 loop-less : tie.Need-loop-smaller invariant-loop decreases-loop
 loop-less c = let n = c.before.before.before in omega (arith, ahead (before n), ends_there (known n), (read (known n)).inside)
@@ -202,7 +202,7 @@ loop-again c =
     let n = c.before.before.before in
     let b = before n in
     let s = entered b in
-    writing-same (in-file b) (of-list b) s.args.counted (at_entry b) s.pre.1 (ends_there (known n)) (spot_is n) (made-is n) (area_is n) (writing-on (in-file b) (of-list b) s.args.counted (at_entry b) s.pre.1 (held b) (command (known n)) _ (read (known n)).ahead (ap (λ (k : Kind). is k PostPost) (sym (kind-is n)) ∙ sym (kind_others (λ k. false) (λ k. is k PostPost) (PostPost ∷ []) refl (read-there n).before.before.kind-of.result c.match2.keys2)))
+    writing_same (in_file b) (of_list b) s.args.counted (at_entry b) s.pre.1 (ends_there (known n)) (spot_is n) (made_is n) (area_is n) (writing_on (in_file b) (of_list b) s.args.counted (at_entry b) s.pre.1 (held b) (command (known n)) _ (read (known n)).ahead (ap (λ (k : Kind). is k PostPost) (sym (kind_is n)) ∙ sym (kind_others (λ k. false) (λ k. is k PostPost) (PostPost ∷ []) refl (read_there n).before.before.kind-of.result c.match2.keys2)))
 
 pub write_spec : {M : Type 1} → statement M
 write_spec =

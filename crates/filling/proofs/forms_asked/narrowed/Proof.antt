@@ -3,7 +3,7 @@ use mathlib.Core.Path.{sym, ap, ◌∙◌}
 use Prim.Native.Nat.{◌*◌, ◌≤◌}
 use native.Mathlib.Omega.{arith}
 use lib.ListN.{length}
-use Rattle.converting.proofs.Named.{narrow-given}
+use Rattle.converting.proofs.Named.{narrow_given}
 use Rattle.reader.specs.Answers.{made_answer}
 use borrow.Author.Rules.{rules}
 use Rattle.filling.proofs.forms_asked.narrowed.Statement.{statement}
@@ -14,7 +14,7 @@ records-fit : (p : tie.After-records) → p.records.given.0.0 * 16 ≤ length p.
 records-fit p =
     let called = p.before.before.before.before.narrow-table in
     let a = p.before.before.before.before.before.before.before.before.args in
-    ((narrow-given a.widths.now (length a.area.now) _).0 (sym (ap made_answer (sym p.records.given.1) ∙ called.ensures.0))).2
+    ((narrow_given a.widths.now (length a.area.now) _).0 (sym (ap made_answer (sym p.records.given.1) ∙ called.ensures.0))).2
 
 narrow-table-requires : tie.Need-narrow-table-requires
 narrow-table-requires c κs = search rules

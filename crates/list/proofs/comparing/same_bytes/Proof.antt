@@ -7,7 +7,7 @@ use Prim.Native.Nat.{◌+◌, ◌-◌}
 use native.Mathlib.Omega.{arith}
 use lib.ListN.{length}
 use borrow.Author.Rules.{rules}
-use Rattle.list.proofs.SameBytes.{Decides, other_length, at_end, one-other, one_same}
+use Rattle.list.proofs.SameBytes.{Decides, other_length, at_end, one_other, one_same}
 use Rattle.list.proofs.comparing.same_bytes.Statement.{statement}
 use Rattle.list.proofs.comparing.same_bytes.Tie as tie
 
@@ -42,7 +42,7 @@ loop-again c =
       l.invariant.0,
       ⊎_elim
           (λ other. subst (λ (differ : Bool). Decides a.a.now a.b.now differ (l.at + 1)) (sym other.1)
-          (one-other a.a.now a.b.now l.differ l.at l.invariant.0 l.invariant.1 (omega arith) other.0.taken))
+          (one_other a.a.now a.b.now l.differ l.at l.invariant.0 l.invariant.1 (omega arith) other.0.taken))
           (λ same. subst (λ (differ : Bool). Decides a.a.now a.b.now differ (l.at + 1)) (sym same.1)
           (one_same a.a.now a.b.now l.differ l.at l.invariant.0 l.invariant.1 (omega arith) same.0.left))
           c.if2.branch,

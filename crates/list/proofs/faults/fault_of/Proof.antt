@@ -12,7 +12,7 @@ use Rattle.commands.specs.declared.Kind.TheVariants.{SetCharacter, PutCharacter,
 use Rattle.list.specs.Rules.{fault}
 use Rattle.list.specs.Steps.{command, standing_or, character_fault, Agrees}
 use Rattle.list.proofs.Arms.{kind_arm, kind_others}
-use Rattle.list.proofs.FaultLaws.{later_fault, held-at-start, held-later}
+use Rattle.list.proofs.FaultLaws.{later_fault, held_at_start, held_later}
 use Rattle.list.proofs.faults.fault_of.Statement.{statement}
 use Rattle.list.proofs.faults.fault_of.Tie as tie
 
@@ -33,7 +33,7 @@ as-kind : (c : tie.Else1) {kind : Kind} → (entry c).args.kind ≡ kind → (pa
     → Agrees (entry c).args.file.now page (entry c).args.v (entry c).args.fonts.now (entry c).args.again.now past
     → faultAs c past kind ≡ fault past (told c)
 as-kind c e page past agrees =
-    ap (faultAs c past) (sym e) ∙ sym (held-later page past agrees.state _ (entry c).requires.0.0 _ c.before.at-start.ensures c.if1.false)
+    ap (faultAs c past) (sym e) ∙ sym (held_later page past agrees.state _ (entry c).requires.0.0 _ c.before.at-start.ensures c.if1.false)
 
 opcode-of : (c : tie.Else1) {kind : Kind} → (entry c).args.kind ≡ kind → kind_of (entry c).args.opcode ≡ kind
 opcode-of c e = sym (entry c).requires.0.0 ∙ e
@@ -47,7 +47,7 @@ first-fault-requires : tie.Need-first-fault-requires
 first-fault-requires c κs = λ pre. omega (arith, fixed_of c.before.before.before.before.args.opcode (sym c.before.before.before.before.requires.0.0 ∙ pre), c.before.before.before.before.requires.0.2)
 
 returns : tie.Need-returns
-returns c page past agrees = c.first-fault.ensures ∙ sym (held-at-start page past agrees.state _ c.before.before.before.before.before.requires.0.0 c.before.before.before.before.before.args.params.now c.before.before.at-start.ensures c.before.if1.true)
+returns c page past agrees = c.first-fault.ensures ∙ sym (held_at_start page past agrees.state _ c.before.before.before.before.before.requires.0.0 c.before.before.before.before.before.args.params.now c.before.before.at-start.ensures c.before.if1.true)
 
 enum_told : tie.Need-enum-told
 enum_told c = search rules

@@ -23,7 +23,7 @@ use Rattle.list.specs.declared.Stage.{Stage}
 use Rattle.list.specs.Past.{is_after_post, Definition, definition_of}
 use Rattle.list.specs.Rules.{lawful_font, says, lawful_definition}
 use Rattle.list.specs.Steps.{command}
-use Rattle.list.proofs.FontTables.{told-yes, told_none, told-says, in_turn, wrong-number, wrong-scale, wrong-design-size, turn-decides, twice-after, once_after, twice-before, once-before, said_all}
+use Rattle.list.proofs.FontTables.{told_yes, told_none, told_says, in_turn, wrong_number, wrong_scale_lem, wrong_design_size, turn_decides, twice_after, once_after, twice_before, once_before, said_all}
 use Rattle.list.proofs.fonts.lawful_definition.Statement.{statement}
 use Rattle.list.proofs.fonts.lawful_definition.Tie as tie
 
@@ -41,17 +41,17 @@ number c = defined_font c.args.opcode c.args.params.now
 abbrev said : tie.Start → List ℕ
 said c = definition c.args.opcode c.args.params.now
 
-opcode-in : (c : tie.Start) → (243 ≤ c.args.opcode) × (c.args.opcode ≤ 246) × (c.args.opcode - 228 ≤ length c.args.params.now)
-opcode-in c =
+opcode_in : (c : tie.Start) → (243 ≤ c.args.opcode) × (c.args.opcode ≤ 246) × (c.args.opcode - 228 ≤ length c.args.params.now)
+opcode_in c =
     let (low, high) = kind_range c.args.opcode (omega arith) c.requires.0 in
     (low, high, omega (arith, fixed_of c.args.opcode c.requires.0))
 
 -- the part of the parameters that the code cuts off
-said-is : (c : tie.Start) → take (length c.args.params.now - definition_number_size c.args.opcode) (drop (definition_number_size c.args.opcode) c.args.params.now) ≡ said c
-said-is c = said_all c.args.params.now (definition_number_size c.args.opcode)
+said_is : (c : tie.Start) → take (length c.args.params.now - definition_number_size c.args.opcode) (drop (definition_number_size c.args.opcode) c.args.params.now) ≡ said c
+said_is c = said_all c.args.params.now (definition_number_size c.args.opcode)
 
-said-long : (c : tie.Start) → definition_name ≤ length (said c)
-said-long c = omega (arith, opcode-in c, length-drop (definition_number_size c.args.opcode) c.args.params.now)
+said_long : (c : tie.Start) → definition_name ≤ length (said c)
+said_long c = omega (arith, opcode_in c, length-drop (definition_number_size c.args.opcode) c.args.params.now)
 
 -- ---- the tests
 
@@ -67,7 +67,7 @@ number-lawful c = sym (number-tested c.before) ∙ not-false _ c.if1.false
 scale-tested : (c : tie.After-lawful-size) → c.lawful-size.result ≡ lawful_size (font_scale (said c.before.before.before.before.before.before.before.before))
 scale-tested c =
     c.lawful-size.ensures
-    ∙ ap lawful_size (c.before.unsigned-in.ensures.0 ∙ ap font_scale (said-is c.before.before.before.before.before.before.before.before))
+    ∙ ap lawful_size (c.before.unsigned-in.ensures.0 ∙ ap font_scale (said_is c.before.before.before.before.before.before.before.before))
 
 scale-lawful : (c : tie.Else2) → lawful_size (font_scale (said c.before.before.before.before.before.before.before.before.before)) ≡ true
 scale-lawful c = sym (scale-tested c.before) ∙ not-false _ c.if2.false
@@ -75,12 +75,12 @@ scale-lawful c = sym (scale-tested c.before) ∙ not-false _ c.if2.false
 design-size-tested : (c : tie.After-lawful-size2) → c.lawful-size2.result ≡ lawful_size (font_design_size (said c.before.before.before.before.before.before.before.before.before.before.before))
 design-size-tested c =
     c.lawful-size2.ensures
-    ∙ ap lawful_size (c.before.unsigned-in2.ensures.0 ∙ ap font_design_size (said-is c.before.before.before.before.before.before.before.before.before.before.before))
+    ∙ ap lawful_size (c.before.unsigned-in2.ensures.0 ∙ ap font_design_size (said_is c.before.before.before.before.before.before.before.before.before.before.before))
 
 lawful-by-turn : (c : tie.Else3) (past : List Command)
     → in_turn past (number (begun c)) (said (begun c)) ≡ lawful_definition past (command (begun c).args.opcode (begun c).args.params.now)
 lawful-by-turn c past =
-    turn-decides past (begun c).args.opcode (begun c).args.params.now (number-lawful (numbered c)) (scale-lawful c.before.before.before) (sym (design-size-tested c.before) ∙ not-false _ c.if3.false)
+    turn_decides past (begun c).args.opcode (begun c).args.params.now (number-lawful (numbered c)) (scale-lawful c.before.before.before) (sym (design-size-tested c.before) ∙ not-false _ c.if3.false)
 
 -- ---- the stage, and the tables' entries
 
@@ -97,7 +97,7 @@ late_is : (c : tie.After-entry-of2) → c.entry-of2.result ≡ get_or (begun c.b
 late_is c = c.entry-of2.ensures ∙ ap (λ (n : ℤ). get_or (begun c.before.before.before.before).args.again.now (nat_abs n) 0) (number_is (numbered c.before.before.before.before).before.before)
 
 defined-font-requires : tie.Need-defined-font-requires
-defined-font-requires c κs = let (low, high, long) = opcode-in c.before.before in (low, high, omega arith)
+defined-font-requires c κs = let (low, high, long) = opcode_in c.before.before in (low, high, omega arith)
 
 lawful-font-requires : tie.Need-lawful-font-requires
 lawful-font-requires c κs = search rules
@@ -106,25 +106,25 @@ returns : tie.Need-returns
 returns c =
     let s = c.before.before.before.before.before in
     λ past early late standing Stage-is count_is.
-    wrong-number past s.args.opcode s.args.params.now (sym (number-tested c.before) ∙ not_true _ c.if1.true)
+    wrong_number past s.args.opcode s.args.params.now (sym (number-tested c.before) ∙ not_true _ c.if1.true)
 
 sub-from : tie.Need-overflow-sub-from
-sub-from c = omega (arith, opcode-in c.before.before.before.before.before)
+sub-from c = omega (arith, opcode_in c.before.before.before.before.before)
 
 cast-from : tie.Need-overflow-cast-from
 cast-from c = search rules
 
 sub-said : tie.Need-overflow-sub-said
-sub-said c = omega (arith, opcode-in c.before.before.before.before.before)
+sub-said c = omega (arith, opcode_in c.before.before.before.before.before)
 
 part-said-start : tie.Need-slice-bounds-said-start
-part-said-start c = omega (arith, opcode-in c.before.before.before.before.before)
+part-said-start c = omega (arith, opcode_in c.before.before.before.before.before)
 
 part-said-end : tie.Need-slice-bounds-said-end
 part-said-end c = search rules
 
 unsigned-in-requires : tie.Need-unsigned-in-requires
-unsigned-in-requires c κs = rw (said-is c.before.before.before.before.before.before) (omega (arith, said-long c.before.before.before.before.before.before), omega arith)
+unsigned-in-requires c κs = rw (said_is c.before.before.before.before.before.before) (omega (arith, said_long c.before.before.before.before.before.before), omega arith)
 
 lawful-size-requires : tie.Need-lawful-size-requires
 lawful-size-requires c κs = search rules
@@ -133,10 +133,10 @@ returns-2 : tie.Need-returns-2
 returns-2 c =
     let s = c.before.before.before.before.before.before.before.before.before in
     λ past early late standing Stage-is count_is.
-    wrong-scale past s.args.opcode s.args.params.now (number-lawful c.before.before.before.before) (sym (scale-tested c.before) ∙ not_true _ c.if2.true)
+    wrong_scale_lem past s.args.opcode s.args.params.now (number-lawful c.before.before.before.before) (sym (scale-tested c.before) ∙ not_true _ c.if2.true)
 
 unsigned-in-requires-2 : tie.Need-unsigned-in-requires-2
-unsigned-in-requires-2 c κs = rw (said-is c.before.before.before.before.before.before.before.before.before) (omega (arith, said-long c.before.before.before.before.before.before.before.before.before), omega arith)
+unsigned-in-requires-2 c κs = rw (said_is c.before.before.before.before.before.before.before.before.before) (omega (arith, said_long c.before.before.before.before.before.before.before.before.before), omega arith)
 
 lawful-size-requires-2 : tie.Need-lawful-size-requires-2
 lawful-size-requires-2 c κs = search rules
@@ -144,7 +144,7 @@ lawful-size-requires-2 c κs = search rules
 returns-3 : tie.Need-returns-3
 returns-3 c =
     λ past early late standing Stage-is count_is.
-    wrong-design-size past c.before.before.before.before.before.before.before.before.before.before.before.before.args.opcode c.before.before.before.before.before.before.before.before.before.before.before.before.args.params.now (number-lawful c.before.before.before.before.before.before.before) (scale-lawful c.before.before.before) (sym (design-size-tested c.before) ∙ not_true _ c.if3.true)
+    wrong_design_size past c.before.before.before.before.before.before.before.before.before.before.before.before.args.opcode c.before.before.before.before.before.before.before.before.before.before.before.before.args.params.now (number-lawful c.before.before.before.before.before.before.before) (scale-lawful c.before.before.before) (sym (design-size-tested c.before) ∙ not_true _ c.if3.true)
 
 entry-of-requires : tie.Need-entry-of-requires
 entry-of-requires c κs = ap lawful_font (number_is (numbered c).before.before) ∙ number-lawful (numbered c)
@@ -160,7 +160,7 @@ returns-4 c =
     let t = c.before.before.before.before.before in
     let s = begun t in
     λ past early late standing Stage-is count_is.
-    twice-after past (number s) (said s) (post-passed c.before.before Stage-is) (told-yes late (number s) (number-lawful (numbered t)) (late_is c.before) c.if5.true)
+    twice_after past (number s) (said s) (post-passed c.before.before Stage-is) (told_yes late (number s) (number-lawful (numbered t)) (late_is c.before) c.if5.true)
     ∙ lawful-by-turn t past
 
 returns-5 : tie.Need-returns-5
@@ -183,8 +183,8 @@ returns-6 c =
     let t = c.before.before.before.before.before.before.before in
     let s = begun t in
     λ past early late standing Stage-is count_is.
-    told-says early (number s) (number-lawful (numbered t)) (early-is c.before.before.before.before.before.before) s.args.file.now standing c.before.if6.false _ _ c.same_definition.ensures
-    ∙ ap (says (definition_of false (number s) past)) (said-is s)
+    told_says early (number s) (number-lawful (numbered t)) (early-is c.before.before.before.before.before.before) s.args.file.now standing c.before.if6.false _ _ c.same_definition.ensures
+    ∙ ap (says (definition_of false (number s) past)) (said_is s)
     ∙ once_after past (number s) (said s) (post-passed c.before.before.before.before Stage-is) (told_none late (number s) (number-lawful (numbered t)) (late_is c.before.before.before) c.before.before.if5.false)
     ∙ lawful-by-turn t past
 
@@ -193,7 +193,7 @@ returns-7 c =
     let t = c.before.before.before.before in
     let s = begun t in
     λ past early late standing Stage-is count_is.
-    twice-before past (number s) (said s) (post-ahead c.before Stage-is) (told-yes early (number s) (number-lawful (numbered t)) (early-is c.before.before.before) c.if7.true)
+    twice_before past (number s) (said s) (post-ahead c.before Stage-is) (told_yes early (number s) (number-lawful (numbered t)) (early-is c.before.before.before) c.if7.true)
     ∙ lawful-by-turn t past
 
 returns-8 : tie.Need-returns-8
@@ -202,7 +202,7 @@ returns-8 c =
     let s = begun t in
     λ past early late standing Stage-is count_is.
     ap (λ (count : ℕ). ltb count most_fonts) count_is
-    ∙ once-before past (number s) (said s) (post-ahead c.before Stage-is) (told_none early (number s) (number-lawful (numbered t)) (early-is c.before.before.before) c.if7.false)
+    ∙ once_before past (number s) (said s) (post-ahead c.before Stage-is) (told_none early (number s) (number-lawful (numbered t)) (early-is c.before.before.before) c.if7.false)
     ∙ lawful-by-turn t past
 
 pub lawful_definition_spec : {M : Type 1} → statement M

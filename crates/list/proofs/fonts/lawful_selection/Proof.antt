@@ -16,7 +16,7 @@ use Rattle.commands.proofs.Opcodes.{kind_range}
 use Rattle.commands.proofs.Lengths.{fixed_of}
 use Rattle.list.specs.Past.{is_defined}
 use Rattle.list.specs.Rules.{lawful_font}
-use Rattle.list.proofs.FontTables.{told-defined}
+use Rattle.list.proofs.FontTables.{told_defined}
 use Rattle.list.proofs.fonts.lawful_selection.Statement.{statement}
 use Rattle.list.proofs.fonts.lawful_selection.Tie as tie
 
@@ -45,7 +45,7 @@ returns-2 c = λ past tells lawfully.
     let lawful : lawful_font (selected_font c.before.before.before.before.before.args.opcode c.before.before.before.before.before.args.params.now) ≡ true =
     ap lawful_font (sym (number_is c.before.before.before)) ∙ sym c.before.before.lawful-font.ensures ∙ not-false _ c.before.if1.false in
     ap (λ (entry : ℕ). not (eqb entry 0)) (c.entry_of.ensures ∙ ap (λ (number : ℤ). get_or c.before.before.before.before.before.args.fonts.now (nat_abs number) 0) (number_is c.before.before.before))
-    ∙ told-defined tells _ lawful
+    ∙ told_defined tells _ lawful
 
 pub lawful_selection_spec : {M : Type 1} → statement M
 lawful_selection_spec =

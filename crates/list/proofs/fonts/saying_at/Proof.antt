@@ -3,7 +3,7 @@ use mathlib.Core.Path.{ap₂}
 use Prim.Native.Nat.{ℕ}
 use native.Mathlib.Omega.{arith}
 use borrow.Author.Rules.{rules}
-use Rattle.list.proofs.Sayings.{inside, opcode-between, start_is, end_is}
+use Rattle.list.proofs.Sayings.{inside, opcode_between, start_is, end_is}
 use Rattle.list.proofs.fonts.saying_at.Statement.{statement}
 use Rattle.list.proofs.fonts.saying_at.Tie as tie
 
@@ -18,12 +18,12 @@ shared-slice-read-opcode c = search rules
 returns-2 : tie.Need-returns-2
 returns-2 c =
     let a = c.before.before.before.before.args in
-    (omega arith, omega arith, λ d rest ahead define. absurd (omega (arith, opcode-between a.file.now a.at ahead define, c.if2.true)))
+    (omega arith, omega arith, λ d rest ahead define. absurd (omega (arith, opcode_between a.file.now a.at ahead define, c.if2.true)))
 
 returns-3 : tie.Need-returns-3
 returns-3 c =
     let a = c.before.before.before.before.before.args in
-    (omega arith, omega arith, λ d rest ahead define. absurd (omega (arith, opcode-between a.file.now a.at ahead define, c.if3.true)))
+    (omega arith, omega arith, λ d rest ahead define. absurd (omega (arith, opcode_between a.file.now a.at ahead define, c.if3.true)))
 
 add_start : tie.Need-overflow-add-start
 add_start c = search rules

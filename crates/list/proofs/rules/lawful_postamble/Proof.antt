@@ -13,8 +13,8 @@ use Rattle.list.proofs.rules.lawful_postamble.Tie as tie
 too_small : (stated reached : ℕ) → stated < reached → right_depth stated reached ≡ false
 too_small stated reached h = lt-leb reached stated h
 
-large-enough : (stated reached : ℕ) → reached ≤ stated → right_depth stated reached ≡ true
-large-enough stated reached h = le-leb reached stated h
+large_enough : (stated reached : ℕ) → reached ≤ stated → right_depth stated reached ≡ true
+large_enough stated reached h = le-leb reached stated h
 
 unsigned-in-requires : tie.Need-unsigned-in-requires
 unsigned-in-requires c κs = search rules
@@ -44,7 +44,7 @@ unsigned-in-requires-5 : tie.Need-unsigned-in-requires-5
 unsigned-in-requires-5 c κs = search rules
 
 returns-5 : tie.Need-returns-5
-returns-5 c = rw (← c.before.before.before.before.before.before.before.before.unsigned-in.ensures.0, eq-eqb _ _ c.before.before.before.before.before.before.before.if1.false, ← c.before.before.before.before.before.before.unsigned-in2.ensures.0, eq-eqb _ _ c.before.before.before.before.before.if2.false, ← c.before.before.before.before.unsigned-in3.ensures.0, eq-eqb _ _ c.before.before.before.if3.false, ← c.before.before.unsigned-in4.ensures.0, large-enough _ c.before.before.before.before.before.before.before.before.before.before.args.greatest c.before.if4.false)
+returns-5 c = rw (← c.before.before.before.before.before.before.before.before.unsigned-in.ensures.0, eq-eqb _ _ c.before.before.before.before.before.before.before.if1.false, ← c.before.before.before.before.before.before.unsigned-in2.ensures.0, eq-eqb _ _ c.before.before.before.before.before.if2.false, ← c.before.before.before.before.unsigned-in3.ensures.0, eq-eqb _ _ c.before.before.before.if3.false, ← c.before.before.unsigned-in4.ensures.0, large_enough _ c.before.before.before.before.before.before.before.before.before.before.args.greatest c.before.if4.false)
     (ap (λ (stated : ℕ). eqb stated c.before.before.before.before.before.before.before.before.before.before.args.pages) c.unsigned-in5.ensures.0)
 
 pub lawful_postamble_spec : {M : Type 1} → statement M

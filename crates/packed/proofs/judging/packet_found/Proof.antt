@@ -1,5 +1,5 @@
 -- `packed::judging::packet_found` meets its contract. Assumes nothing.
-use Rattle.packed.proofs.Says.{says-short, says-wrong, says-right}
+use Rattle.packed.proofs.Says.{says_short, says_wrong, says_right}
 use Rattle.packed.proofs.Forms.{form_known}
 use lib.ListN.{drop}
 use mathlib.Core.Path.{◌∙◌, sym}
@@ -23,7 +23,7 @@ sub-if1 c = let k = form_known _ _ c.before.before.form_of.ensures in omega (ari
 returns : tie.Need-returns
 returns c = let a = c.before.before.before.before.before.args in
     let k = form_known _ _ c.before.before.before.form_of.ensures in
-    says-short a.places.now a.flag (drop a.from a.pk.now) a.from a.next (omega (arith, k.length_is, k.code_is, k.fields_are)) _
+    says_short a.places.now a.flag (drop a.from a.pk.now) a.from a.next (omega (arith, k.length_is, k.code_is, k.fields_are)) _
 
 packet-at-requires : tie.Need-packet-at-requires
 packet-at-requires c κs = let k = form_known _ _ c.before.before.before.form_of.ensures in omega (arith, k.length_is, k.code_is, k.fields_are, c.before.before.before.before.before.requires)
@@ -34,12 +34,12 @@ is-wrong-requires c κs = search rules
 returns-2 : tie.Need-returns-2
 returns-2 c = let a = c.before.before.before.before.before.before.before.before.args in
     let k = form_known _ _ c.before.before.before.before.before.before.form_of.ensures in
-    says-wrong a.places.now a.flag (drop a.from a.pk.now) a.from a.next (omega (arith, k.length_is, k.code_is, k.fields_are)) c.before.before.packet-at.result c.before.before.packet-at.ensures (sym c.before.is-wrong.ensures ∙ c.if2.true) _
+    says_wrong a.places.now a.flag (drop a.from a.pk.now) a.from a.next (omega (arith, k.length_is, k.code_is, k.fields_are)) c.before.before.packet-at.result c.before.before.packet-at.ensures (sym c.before.is-wrong.ensures ∙ c.if2.true) _
 
 returns-3 : tie.Need-returns-3
 returns-3 c = let a = c.before.before.before.before.before.before.before.before.args in
     let k = form_known _ _ c.before.before.before.before.before.before.form_of.ensures in
-    says-right a.places.now a.flag (drop a.from a.pk.now) a.from a.next (omega (arith, k.length_is, k.code_is, k.fields_are)) c.before.before.packet-at.result c.before.before.packet-at.ensures (sym c.before.is-wrong.ensures ∙ c.if2.false)
+    says_right a.places.now a.flag (drop a.from a.pk.now) a.from a.next (omega (arith, k.length_is, k.code_is, k.fields_are)) c.before.before.packet-at.result c.before.before.packet-at.ensures (sym c.before.is-wrong.ensures ∙ c.if2.false)
 
 pub packet_found_spec : {M : Type 1} → statement M
 packet_found_spec =

@@ -9,7 +9,7 @@ use lib.ListN.{length, get_or}
 use borrow.Author.Rules.{rules}
 use Rattle.refusals.specs.Answer.{refuse_if, given}
 use Rattle.packed.specs.Commands.{is_postamble}
-use Rattle.packed.proofs.Going.{Going, going_start, going-refused, going_on, going_end, says_refused, says_noted}
+use Rattle.packed.proofs.Going.{Going, going_start, going_refused, going_on, going_end, says_refused, says_noted}
 use Rattle.packed.proofs.judging.scan.Statement.{statement}
 use Rattle.packed.proofs.judging.scan.Tie as tie
 
@@ -39,7 +39,7 @@ returns c =
     refl
     refl
     some
-    (going-refused pk l.at l.ended l.places l.packets l.invariant (omega arith) found.result found.ensures some)
+    (going_refused pk l.at l.ended l.places l.packets l.invariant (omega arith) found.result found.ensures some)
 
 note-requires : tie.Need-note-requires invariant-loop decreases-loop
 note-requires c κs = let l = c.before.before.before.before.before.loop in omega (arith, l.invariant.few, c.before.before.before.before.before.before.before.well-formed.0)
@@ -69,13 +69,13 @@ loop-again c =
     let ended_is : (is_postamble (get_or pk l.at 0) || l.ended) ≡ c.ended-after.result =
     sym (c.ended-after.ensures ∙ ap (λ (n : ℕ). is_postamble n || l.ended) c.before.wide.ensures.0) in
     let places_are = sym noted.ensures.0 in
-    let packets-are = sym noted.ensures.1 in
+    let packets_are = sym noted.ensures.1 in
     subst
     (λ (e : Bool). Going pk found.result.next e noted.new.0 noted.result)
     ended_is
     (subst
     (λ (n : ℕ). Going pk found.result.next (is_postamble (get_or pk l.at 0) || l.ended) noted.new.0 n)
-    packets-are
+    packets_are
     (subst
     (λ (s : List ℕ). Going pk found.result.next (is_postamble (get_or pk l.at 0) || l.ended) s (cond (ltb found.result.code 256) (l.packets + 1) l.packets))
     places_are

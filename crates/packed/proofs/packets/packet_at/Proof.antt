@@ -12,7 +12,7 @@ use Rattle.numbers.proofs.Bytes.{power_le}
 use Rattle.numbers.proofs.Signed.{fits, read_pos}
 use Rattle.packed.specs.Packets.{nearest}
 use Rattle.packed.proofs.Forms.{Known, form_known}
-use Rattle.packed.proofs.Fields.{code_read, width_read, dm-read, dx-read}
+use Rattle.packed.proofs.Fields.{code_read, width_read, dm_read, dx_read}
 use Rattle.packed.proofs.packets.packet_at.Statement.{statement}
 use Rattle.packed.proofs.packets.packet_at.Tie as tie
 
@@ -69,7 +69,7 @@ returns c =
           back
           ∙ far.ensures.0
           ∙ ap nearest (to_z-of_z (sfits_of dx.type-inv) ∙ dx.ensures.0)
-          ∙ dx-read pk a.from a.flag f.result f.ensures _ (omega arith) (eq-eqb _ 7 c.before.before.if1.true);
+          ∙ dx_read pk a.from a.flag f.result f.ensures _ (omega arith) (eq-eqb _ 7 c.before.before.if1.true);
       in_bytes =
           record {
             code_below = omega (arith, code.ensures.1, power_le f.result.code 4 k.sized.code_small);
@@ -104,7 +104,7 @@ returns-2 c =
       escapement_is =
           read_pos dm.result (omega arith)
           ∙ ap pos dm.ensures.0
-          ∙ dm-read pk a.from a.flag f.result f.ensures _ (omega arith) (ne_eqb _ 7 c.before.if1.false);
+          ∙ dm_read pk a.from a.flag f.result f.ensures _ (omega arith) (ne_eqb _ 7 c.before.if1.false);
       in_bytes =
           record {
             code_below = omega (arith, code.ensures.1, power_le f.result.code 4 k.sized.code_small);

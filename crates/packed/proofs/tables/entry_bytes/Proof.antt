@@ -44,7 +44,7 @@ whole : (e : Entry) (before behind zeros once twice : List ℕ) → once ≡ tak
     → twice ≡ take (8 + name_size) once ++ behind ++ drop (8 + name_size + length behind) once → zeros ≡ replicate width_record_size 0 → before ≡ bytes_of 4 e.checksum ++ bytes_of 4 e.scale
     → behind ≡ bytes_of 1 e.code ++ (bytes_of 1 0 ++ (signed_bytes_of 2 e.escapement ++ bytes_of 4 e.width)) → twice ≡ entry_bytes e
 unfolding entry_bytes bytes_of
-whole e before behind zeros once twice once_is twice-is blank before-is behind-is = rw (twice-is, once_is, before-is, behind-is, blank) refl
+whole e before behind zeros once twice once_is twice-is blank before-is behind_is = rw (twice-is, once_is, before-is, behind_is, blank) refl
 
 returns : tie.Need-returns
 returns c =

@@ -64,11 +64,11 @@ returns-2 c =
     let some : ltb 0 a.at ≡ true = lt-ltb 0 a.at (omega arith) in
     let bytes = c.before.before.before.before.before.entry-bytes in
     let packet = c.before.before.before.before.before.before.packet-at in
-    let bytes-are : bytes.result ≡ entry_bytes here =
+    let bytes_are : bytes.result ≡ entry_bytes here =
     bytes.ensures ∙ ap entry_bytes (read_entry a.checksum a.scale c.before.before.before.before.before.before.before.wide.result a.at pk packet.result c.before.before.before.before.before.before.before.wide.ensures.0 packet.ensures) in (
       rw some refl,
       c.before.before.paste.ensures
-          ∙ ap (λ (l : List ℕ). take a.written area ++ l ++ drop (a.written + length l) area) bytes-are
+          ∙ ap (λ (l : List ℕ). take a.written area ++ l ++ drop (a.written + length l) area) bytes_are
           ∙ ap (λ (n : ℕ). take a.written area ++ entry_bytes here ++ drop (a.written + n) area) (entry_length here)
           ∙ sym (ap (λ (t : Bool). cond t (take a.written area ++ entry_bytes here ++ drop (a.written + width_record_size) area) area) some),
     )

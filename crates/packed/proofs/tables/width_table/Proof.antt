@@ -7,7 +7,7 @@ use lib.ListN.{length}
 use Rattle.refusals.specs.Answer.{given}
 use Rattle.widths.specs.Table.{width_record_size}
 use Rattle.packed.specs.Table.{font_table, records_made, table_area}
-use Rattle.packed.proofs.MadeLaws.{made-scale, made-refused, made-short, made-given, told-refused, told-noted, records_are}
+use Rattle.packed.proofs.MadeLaws.{made_scale, made_refused, made_short, made_given, told_refused, told_noted, records_are}
 use borrow.Author.Rules.{rules}
 use Rattle.packed.proofs.tables.width_table.Statement.{statement}
 use Rattle.packed.proofs.tables.width_table.Tie as tie
@@ -28,7 +28,7 @@ returns : tie.Need-returns
 returns c =
     let a = c.before.before.before.before.args in
     let area = a.out.now in
-    let made = made-scale a.pk.now a.scale (length area) (not-lawful _ _ c.before.lawful-size.ensures c.if1.true) in
+    let made = made_scale a.pk.now a.scale (length area) (not-lawful _ _ c.before.lawful-size.ensures c.if1.true) in
     (sym (ap records_made made), sym (ap (table_area area) made))
 
 scan-requires : tie.Need-scan-requires
@@ -40,8 +40,8 @@ returns-2 c =
     let area = a.out.now in
     let scanned = c.before.scan in
     let right = lawful _ _ c.before.before.before.lawful-size.ensures c.before.before.if1.false in
-    let judged = told-refused a.pk.now scanned.result scanned.ensures (omega arith) in
-    let made = made-refused a.pk.now a.scale (length area) right scanned.result.number scanned.result.place judged in
+    let judged = told_refused a.pk.now scanned.result scanned.ensures (omega arith) in
+    let made = made_refused a.pk.now a.scale (length area) right scanned.result.number scanned.result.place judged in
     (sym (ap records_made made), sym (ap (table_area area) made))
 
 returns-3 : tie.Need-returns-3
@@ -51,9 +51,9 @@ returns-3 c =
     let pk = a.pk.now in
     let scanned = c.before.before.scan in
     let right = lawful _ _ c.before.before.before.before.lawful-size.ensures c.before.before.before.if1.false in
-    let told = told-noted pk scanned.result scanned.ensures (omega arith) in
-    let short : length area < width_record_size * length (font_table a.scale told.past) = omega (arith, records_are pk a.scale told.past told.judged, told.packets-are) in
-    let made = made-short pk a.scale (length area) right told.past told.judged short in
+    let told = told_noted pk scanned.result scanned.ensures (omega arith) in
+    let short : length area < width_record_size * length (font_table a.scale told.past) = omega (arith, records_are pk a.scale told.past told.judged, told.packets_are) in
+    let made = made_short pk a.scale (length area) right told.past told.judged short in
     (sym (ap records_made made), sym (ap (table_area area) made))
 
 write-records-requires : tie.Need-write-records-requires
@@ -62,12 +62,12 @@ write-records-requires c κs =
     let area = a.out.now in
     let pk = a.pk.now in
     let scanned = c.before.before.before.before.before.scan in
-    let told = told-noted pk scanned.result scanned.ensures (omega arith) in
+    let told = told_noted pk scanned.result scanned.ensures (omega arith) in
     record {
       past = told.past;
       judged = told.judged;
       places_are = told.places_are;
-      enough = omega (arith, records_are pk a.scale told.past told.judged, told.packets-are);
+      enough = omega (arith, records_are pk a.scale told.past told.judged, told.packets_are);
     }
 
 same_length : tie.Need-same-length
@@ -80,11 +80,11 @@ returns-4 c =
     let pk = a.pk.now in
     let scanned = c.before.before.before.before.before.before.before.before.scan in
     let right = lawful _ _ c.before.before.before.before.before.before.before.before.before.before.lawful-size.ensures c.before.before.before.before.before.before.before.before.before.if1.false in
-    let told = told-noted pk scanned.result scanned.ensures (omega arith) in
+    let told = told_noted pk scanned.result scanned.ensures (omega arith) in
     let count = records_are pk a.scale told.past told.judged in
-    let enough : width_record_size * length (font_table a.scale told.past) ≤ length area = omega (arith, count, told.packets-are) in
-    let made = made-given pk a.scale (length area) right told.past told.judged enough in (
-      ap given (told.packets-are ∙ sym count) ∙ sym (ap records_made made),
+    let enough : width_record_size * length (font_table a.scale told.past) ≤ length area = omega (arith, count, told.packets_are) in
+    let made = made_given pk a.scale (length area) right told.past told.judged enough in (
+      ap given (told.packets_are ∙ sym count) ∙ sym (ap records_made made),
       c.before.before.write-records.ensures told.past told.judged ∙ sym (ap (table_area area) made),
     )
 

@@ -8,7 +8,7 @@ use lib.Dec.{ltb}
 use lib.ListN.{get_or}
 use borrow.Author.Rules.{rules}
 use Rattle.widths.specs.Table.{width_record_size}
-use Rattle.packed.proofs.Writing.{Writing, judged_preambled, writing_start, putting, writing-on, writing-length, writing-end}
+use Rattle.packed.proofs.Writing.{Writing, judged_preambled, writing_start, putting, writing_on, writing_length, writing_end}
 use Rattle.packed.proofs.tables.write_records.Statement.{statement}
 use Rattle.packed.proofs.tables.write_records.Tie as tie
 
@@ -59,7 +59,7 @@ loop-again c =
     let a = c.before.before.before.before.before.before.before.before.before.before.args in
     let l = c.before.before.before.before.before.before.loop in
     let put = c.before.before.put_record in
-    let on = writing-on a.pk.now a.scale a.places.now a.out.now c.before.before.before.before.before.before.before.checksum-of.result l.out l.written l.code l.invariant (omega arith) in
+    let on = writing_on a.pk.now a.scale a.places.now a.out.now c.before.before.before.before.before.before.before.checksum-of.result l.out l.written l.code l.invariant (omega arith) in
     subst
     (λ (n : ℕ). Writing a.pk.now a.scale a.places.now a.out.now c.before.before.before.before.before.before.before.checksum-of.result put.new.1.1.1.1.0 n (l.code + 1))
     (sym put.ensures.0)
@@ -72,13 +72,13 @@ same_length : tie.Need-same-length invariant-loop decreases-loop
 same_length c =
     let a = c.before.before.before.before.before.args in
     let l = c.before.loop in
-    writing-length a.pk.now a.scale a.places.now a.out.now c.before.before.checksum-of.result l.out l.written l.code l.invariant
+    writing_length a.pk.now a.scale a.places.now a.out.now c.before.before.checksum-of.result l.out l.written l.code l.invariant
 
 returns : tie.Need-returns invariant-loop decreases-loop
 returns c =
     let a = c.before.before.before.before.before.args in
     let l = c.before.loop in
-    writing-end a.pk.now a.scale a.places.now a.out.now c.before.before.checksum-of.result l.out l.written l.code l.invariant (omega arith)
+    writing_end a.pk.now a.scale a.places.now a.out.now c.before.before.checksum-of.result l.out l.written l.code l.invariant (omega arith)
 
 pub write_records_spec : {M : Type 1} → statement M
 write_records_spec =

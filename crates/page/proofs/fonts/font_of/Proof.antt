@@ -15,9 +15,9 @@ use Rattle.commands.specs.Commands.{Command}
 use Rattle.commands.specs.Parameters.{font_name}
 use Rattle.list.specs.Rules.{lawful_font}
 use Rattle.list.proofs.FontTables.{lawful_in}
-use Rattle.volume.proofs.NameLaws.{Leads, leads, said-long}
+use Rattle.volume.proofs.NameLaws.{Leads, leads, said_long}
 use Rattle.page.specs.Steps.{Told}
-use Rattle.page.proofs.FontLaws.{unselected_known, no-lawful-number, no_definition, font-is, scale_in}
+use Rattle.page.proofs.FontLaws.{unselected_known, no_lawful_number, no_definition, font_is, scale_in}
 use Rattle.page.proofs.fonts.font_of.Statement.{statement}
 use Rattle.page.proofs.fonts.font_of.Tie as tie
 
@@ -30,7 +30,7 @@ test-is c = c.lawful-font.ensures ∙ ap lawful_font (to_z-of_z c.before.before.
 
 returns : tie.Need-returns
 returns c past told =
-    (no-lawful-number told c.before.before.before.args.number (sym (test-is c.before) ∙ not_true c.before.lawful-font.result c.if1.true), unselected_known)
+    (no_lawful_number told c.before.before.before.args.number (sym (test-is c.before) ∙ not_true c.before.lawful-font.result c.if1.true), unselected_known)
 
 lawful : (c : tie.Else1) → lawful_font c.before.before.before.args.number ≡ true
 lawful c = sym (test-is c.before) ∙ not-false c.before.lawful-font.result c.if1.false
@@ -53,15 +53,15 @@ saying-at-requires c κs = search rules
 
 -- the entry leads to a definition, whatever commands the table tells of
 module _ (c : tie.Else2) (past : List Command) (told : Told c.before.before.before.before.before.args.file.now c.before.before.before.before.before.args.fonts.now past) where
-  abbrev Definition-at : ℕ → Type 0
-  Definition-at place =
+  abbrev Definition_at : ℕ → Type 0
+  Definition_at place =
       let a = c.before.before.before.before.before.args in
       Leads a.file.now a.fonts.now a.number past told.tells told.standing (lawful c.before.before) place
 
-  definition : Definition-at (c.before.entry_of.result - 1)
+  definition : Definition_at (c.before.entry_of.result - 1)
   definition =
       let a = c.before.before.before.before.before.args in
-      subst Definition-at (ap (λ (n : ℕ). n - 1) (sym (entry-is c.before)))
+      subst Definition_at (ap (λ (n : ℕ). n - 1) (sym (entry-is c.before)))
       (leads a.file.now a.fonts.now a.number past told.tells told.standing (lawful c.before.before) (λ e. c.if2.false (entry-is c.before ∙ e)))
 
 sub-said : tie.Need-overflow-sub-said
@@ -78,7 +78,7 @@ returns-3 c past told =
     let a = c.before.before.before.before.before.before.before.before.args in
     let e = c.before.before.before in
     let s = c.before.before.saying-at in
-    absurd (omega (arith, said-long a.file.now a.fonts.now a.number past told.tells told.standing (lawful e.before.before) (definition e past told) s.result s.ensures, c.if3.true))
+    absurd (omega (arith, said_long a.file.now a.fonts.now a.number past told.tells told.standing (lawful e.before.before) (definition e past told) s.result s.ensures, c.if3.true))
 
 cast-which : tie.Need-overflow-cast-which
 cast-which c =
@@ -109,7 +109,7 @@ returns-4 c past told =
       ap (λ (z : ℤ). record { number = nat_abs z; checksum = checksum.result; scale = scale.result; name = name.result }) (to_z-of_z s.ranges.number)
           ∙ ap (λ (called : Name). record { number = nat_abs s.args.number; checksum = checksum.result; scale = scale.result; name = called }) name.ensures.0
           ∙ ap₂ (λ (sum size : ℕ). record { number = nat_abs s.args.number; checksum = sum; scale = size; name = sought_name (font_name said) }) checksum.ensures.0 scale.ensures.0
-          ∙ font-is told s.args.number legal l part.result part.ensures,
+          ∙ font_is told s.args.number legal l part.result part.ensures,
       record { checksum_small = checksum.ensures.1; scale_small = subst (λ (n : ℕ). n ≤ 134217727) (sym scale.ensures.0) (scale_in told s.args.number legal l part.result part.ensures); name_in = name.ensures.1 },
     )
 

@@ -18,7 +18,7 @@ use Rattle.turns.specs.Placing.{Contents, placing}
 use Rattle.turns.specs.Steps.{terms_setting}
 use Rattle.page.specs.Steps.{zero_counts, finish, ending_of, Few}
 use Rattle.page.proofs.AnyRuler.{by_ruler, any_ruler, ends_alike}
-use Rattle.page.proofs.PlaceLaws.{Through, walk_through, walk-again, left-to, short-to, all-to}
+use Rattle.page.proofs.PlaceLaws.{Through, walk_through, walk_again, left_to, short_to, all_to}
 use Rattle.page.proofs.placing.place_commands.Statement.{statement}
 use Rattle.page.proofs.placing.place_commands.Tie as tie
 
@@ -51,8 +51,8 @@ module _ (w : tie.After-walk) where
   abbrev counting : Ruler
   counting = record { k = record { p = 0; q = 1 }; drift = 0 }
 
-  same-counts : finish [] zero_counts (by counting) ≡ finish [] zero_counts answer
-  same-counts =
+  same_counts : finish [] zero_counts (by counting) ≡ finish [] zero_counts answer
+  same_counts =
       ends_alike (by counting) answer
       (any_ruler counting start.args.terms.ruler (terms_setting start.args.terms start.args.widths.now (history start.args.file.now)) fresh_state (page_of start.args.terms.page (history start.args.file.now)))
 
@@ -68,7 +68,7 @@ module _ (w : tie.After-walk) where
   unchanged = ap (λ (area : List ℕ). area ++ entry) empty
 
   shows : (r : Walked) → w.walk.result ≡ r → ending_of w.walk.last.1.1.1.1.1.0 r ≡ finish [] zero_counts answer
-  shows r e = subst (λ (x : Walked). ending_of w.walk.last.1.1.1.1.1.0 x ≡ finish [] zero_counts answer) e (w.walk.ensures.0 ∙ same-counts)
+  shows r e = subst (λ (x : Walked). ending_of w.walk.last.1.1.1.1.1.0 x ≡ finish [] zero_counts answer) e (w.walk.ensures.0 ∙ same_counts)
 
   counted : (counts : Counts) → w.walk.result ≡ Walked.Through counts → Through [] answer w.walk.last.1.1.1.1.1.0 counts
   counted counts e = walk_through [] answer w.walk.last.1.1.1.1.1.0 counts (shows (Walked.Through counts) e)
@@ -102,7 +102,7 @@ returns c =
     let w = c.before.before.before.before.before.before.before.before in
     let v = c.before.before.before.before.counts.given in
     let few : length (entry w) < placement_record_size * v.0.0.records = subst (λ (area : List ℕ). length area < placement_record_size * v.0.0.records) (unchanged w) c.before.if1.true in
-    let both = short-to (answer w) (entry w) (counted w v.0.0 v.1) few in
+    let both = short_to (answer w) (entry w) (counted w v.0.0 v.1) few in
     (c.refused2.ensures ∙ both.0, unchanged w ∙ both.1)
 
 walk-requires-2 : tie.Need-walk-requires-2
@@ -115,7 +115,7 @@ returns-2 : tie.Need-returns-2
 returns-2 c =
     let w = c.before.before.before.before.before.before in
     let v = c.before.before.place.given in
-    let both = left-to (answer w) (entry w) v.0.0 (shows w (Walked.Left v.0.0) v.1) in
+    let both = left_to (answer w) (entry w) v.0.0 (shows w (Walked.Left v.0.0) v.1) in
     (c.refused.ensures ∙ both.0, unchanged w ∙ both.1)
 
 same-length-3 : tie.Need-same-length-3
@@ -129,8 +129,8 @@ returns-3 c =
     let first = counted w v.0.0 v.1 in
     let walk2 = c.before.before.walk2 in
     let ending = subst (λ (area : List ℕ). ending_of walk2.new.1.1.1.1.1.0 walk2.result ≡ finish area zero_counts (answer w)) (unchanged w) walk2.ensures.0 in
-    let (counts, second) = walk-again (entry w) walk2.result (answer w) walk2.new.1.1.1.1.1.0 first.answer-is ending in
-    all-to (answer w) (entry w) first room walk2.new.1.1.1.1.1.0 counts second
+    let (counts, second) = walk_again (entry w) walk2.result (answer w) walk2.new.1.1.1.1.1.0 first.answer_is ending in
+    all_to (answer w) (entry w) first room walk2.new.1.1.1.1.1.0 counts second
 
 pub place_commands_spec : {M : Type 1} → statement M
 place_commands_spec =

@@ -22,7 +22,7 @@ use Rattle.state.specs.declared.moving.Ruler.{Ruler}
 use Rattle.state.specs.Registers.{State, pushed, popped, moved_by, character_moved, direction_of, moved_by_register}
 use Rattle.state.specs.Steps.{zero_kept, level_in, kept_with_register, kept_moved_by, kept_past, RoundsLevel, RoundsBelow, page_state, saved_of, with_level, Ruled, Bounded}
 use Rattle.state.proofs.Levels.{bounded_moved, bounded_by_register, bounded_character, stored}
-use Rattle.state.proofs.Kept.{level_moved, level_by_register, rounds-at, rounds-register, rounds-pushed, rounds-popped}
+use Rattle.state.proofs.Kept.{level_moved, level_by_register, rounds_at, rounds_register, rounds_pushed, rounds_popped}
 use Rattle.turns.specs.declared.Turn.{Turn}
 use Rattle.turns.specs.declared.Turn.TheVariants as Turn
 use Rattle.turns.specs.declared.Step.{Step}
@@ -36,7 +36,7 @@ use Rattle.page.specs.Steps.{zero_seen, AllSeen}
 use Rattle.turns.proofs.Frames.{is_ending, depth_by}
 use Rattle.page.proofs.PageRuns.{runs_inside}
 use Rattle.page.proofs.Remembered.{none_kept, nothing_seen, seen_stored}
-use Rattle.page.proofs.WalkLaws.{Sound, state_sound, popped_bounded, popped_font, Walking, starting, advances, few, in-ranges, onwards, leveled, push-room, pop-room, ended, left}
+use Rattle.page.proofs.WalkLaws.{Sound, state_sound, popped_bounded, popped_font, Walking, starting, advances, few, in_ranges, onwards, leveled, push_room, pop_room, ended, left}
 use Rattle.turns.proofs.Words.{word, small_word}
 use Rattle.page.proofs.walking.walk.Statement.{statement}
 use Rattle.page.proofs.walking.walk.Tie as tie
@@ -96,7 +96,7 @@ module _ (c : tie.After-step-at invariant-loop decreases-loop) where
   ruled = record { unit = here.ready.unit; drift_small = here.ready.drift_small; scale_small = here.sound.known.scale_small }
 
   safe : (turn : Turn) → step.asked.turn ≡ turn → Safe (level_in head.loop.page.now) turn
-  safe turn turn_is = subst (Safe (level_in head.loop.page.now)) turn_is (in-ranges here step asks).1
+  safe turn turn_is = subst (Safe (level_in head.loop.page.now)) turn_is (in_ranges here step asks).1
 
   less : length entry.args.file.now - step.next < length entry.args.file.now - head.loop.at
   less = omega (arith, advances here step asks)
@@ -109,7 +109,7 @@ note-requires : tie.Need-note-requires invariant-loop decreases-loop
 note-requires c κs =
     let s = c.before.before in
     let w = here s in
-    (small s (head s).loop.counts.records w.few_records, small s (head s).loop.counts.missing w.few_missing, small s (head s).loop.counts.specials w.few_specials, (in-ranges w (step s) (asks s)).0)
+    (small s (head s).loop.counts.records w.few_records, small s (head s).loop.counts.missing w.few_missing, small s (head s).loop.counts.specials w.few_specials, (in_ranges w (step s) (asks s)).0)
 
 -- what holds as what the command adds has been noted
 module _ (n : tie.After-note invariant-loop decreases-loop) where
@@ -162,22 +162,22 @@ module _ (n : tie.After-note invariant-loop decreases-loop) where
   to_level : (turn : Turn) → (step read).asked.turn ≡ turn → turn_frame turn ≡ inside → (level : Level)
       → did setting (page_state before) turn (step read).asked.adds ≡ continues (with_numbers (page_state before) level) (added_of (step read).asked.adds)
       → (l : KeptLevel) → level_in l ≡ level → (page : Page) → page ≡ with_level before l → Bounded level → RoundsLevel ruler.k l → Next page keeps memory
-  to_level turn turn_is is-inside level led l stands-for page page-is bounded rounds = (
+  to_level turn turn_is is-inside level led l stands-for page page_is bounded rounds = (
     leveled (here read) (step read) (asks read) turn turn_is is-inside l
         (led ∙ ap (λ (x : Level). continues (with_numbers (page_state before) x) (added_of (step read).asked.adds)) (sym stands-for))
-        page page-is (subst Bounded (sym stands-for) bounded) rounds n.note.last.0 n.note.ensures.1 n.note.result n.note.ensures.0,
-    subst (λ (p : Page). KeptBy p.font keeps) (sym page-is) kept_for,
+        page page_is (subst Bounded (sym stands-for) bounded) rounds n.note.last.0 n.note.ensures.1 n.note.result n.note.ensures.0,
+    subst (λ (p : Page). KeptBy p.font keeps) (sym page_is) kept_for,
     remembers,
   )
 
   -- to another state
-  to-state : (turn : Turn) → (step read).asked.turn ≡ turn → is_ending (turn_frame turn) ≡ false → (s : State)
+  to_state : (turn : Turn) → (step read).asked.turn ≡ turn → is_ending (turn_frame turn) ≡ false → (s : State)
       → did setting (page_state before) turn (step read).asked.adds ≡ continues s (added_of (step read).asked.adds)
       → (page : Page) → page_state page ≡ s → page.depth ≡ depth_by (turn_frame turn) before.depth → Sound ruler.k page
       → (next : Kept) → KeptBy s.font next → (seen : List Seen) → Remembers seen → Next page next seen
-  to-state turn turn_is on s led page state-is depth_is sound next next-is seen seen-is = (
-    onwards (here read) (step read) (asks read) turn turn_is on s led page state-is depth_is sound n.note.last.0 n.note.ensures.1 n.note.result n.note.ensures.0,
-    subst (λ (x : State). KeptBy x.font next) (sym state-is) next-is,
+  to_state turn turn_is on s led page state_is depth_is sound next next_is seen seen-is = (
+    onwards (here read) (step read) (asks read) turn turn_is on s led page state_is depth_is sound n.note.last.0 n.note.ensures.1 n.note.result n.note.ensures.0,
+    subst (λ (x : State). KeptBy x.font next) (sym state_is) next_is,
     seen-is,
   )
 
@@ -189,13 +189,13 @@ module _ (n : tie.After-note invariant-loop decreases-loop) where
   module _ (direction : Direction) (stride : Stride) (z : ℤ) (turn : Turn) (turn_is : (step read).asked.turn ≡ turn) (is-inside : turn_frame turn ≡ inside)
       (ok : Stays direction (level_in before.now) z)
       (led : did setting (page_state before) turn (step read).asked.adds ≡ continues (with_numbers (page_state before) (moved_by direction stride ruler scale z (level_in before.now))) (added_of (step read).asked.adds)) where
-    to-moved : (page : Page) → page ≡ with_level before (kept_moved_by direction stride ruler scale (to_z w64 (of_z w64 z)) before.now) → Next page keeps memory
-    to-moved page page-is =
+    to_moved : (page : Page) → page ≡ with_level before (kept_moved_by direction stride ruler scale (to_z w64 (of_z w64 z)) before.now) → Next page keeps memory
+    to_moved page page_is =
         to_level turn turn_is is-inside (moved_by direction stride ruler scale z (level_in before.now)) led
         (kept_moved_by direction stride ruler scale z before.now) (level_moved direction stride ruler scale z before.now) page
-        (page-is ∙ ap (λ (y : ℤ). with_level before (kept_moved_by direction stride ruler scale y before.now)) (word z ok.0))
+        (page_is ∙ ap (λ (y : ℤ). with_level before (kept_moved_by direction stride ruler scale y before.now)) (word z ok.0))
         (bounded_moved direction stride ruler scale z (level_in before.now) (ruled read) bounded ok.1)
-        (rounds-at ruler.k direction _ before.now rounds)
+        (rounds_at ruler.k direction _ before.now rounds)
 
 enum_told : tie.Need-enum-told invariant-loop decreases-loop
 enum_told c = search rules
@@ -206,7 +206,7 @@ loop-less c = less (read c.before.before.before.before)
 loop-again : tie.Need-loop-preserved invariant-loop decreases-loop
 loop-again c =
     let n = c.before.before.before.before in
-    to-state n Turn.Stay c.enum_told.given.1 refl (page_state (before n)) refl (before n) refl refl (here (read n)).sound (keeps n) (kept_for n) (memory n) (remembers n)
+    to_state n Turn.Stay c.enum_told.given.1 refl (page_state (before n)) refl (before n) refl refl (here (read n)).sound (keeps n) (kept_for n) (memory n) (remembers n)
 
 enum-known-turn : tie.Need-enum-known-turn invariant-loop decreases-loop
 enum-known-turn c = search rules
@@ -225,7 +225,7 @@ loop-again-2 c =
     let n = c.before.before.before.before.before.before in
     let v = c.before.before.turn.given in
     let turn = Turn.Sideways v.0.0 v.0.1.0 in
-    to-moved n Direction.Sideways v.0.0 v.0.1.0 turn v.1 refl (safe (read n) turn v.1) refl c.sideways.result c.sideways.ensures.0
+    to_moved n Direction.Sideways v.0.0 v.0.1.0 turn v.1 refl (safe (read n) turn v.1) refl c.sideways.result c.sideways.ensures.0
 
 enum-known-turn-2 : tie.Need-enum-known-turn-2 invariant-loop decreases-loop
 enum-known-turn-2 c = search rules
@@ -244,7 +244,7 @@ loop-again-3 c =
     let n = c.before.before.before.before.before.before in
     let v = c.before.before.turn2.given in
     let turn = Turn.Down v.0.0 in
-    to-moved n Direction.Down Stride.Rounded v.0.0 turn v.1 refl (safe (read n) turn v.1) refl c.down.result c.down.ensures.0
+    to_moved n Direction.Down Stride.Rounded v.0.0 turn v.1 refl (safe (read n) turn v.1) refl c.down.result c.down.ensures.0
 
 enum-known-turn-3 : tie.Need-enum-known-turn-3 invariant-loop decreases-loop
 enum-known-turn-3 c = search rules
@@ -273,7 +273,7 @@ loop-again-4 c =
     (next z) (level_by_register register Stride.Rounded (ruler n) (scale n) z (before n).now) c.moved_to.result
     (c.moved_to.ensures ∙ ap (with_level (before n)) (c.before.moved-by-register.ensures.0 ∙ ap next (word z ok.0)))
     (bounded_by_register register Stride.Rounded (ruler n) (scale n) z (level_in (before n).now) (ruled (read n)) (bounded n) ok.0 ok.1)
-    (rounds-at (ruler n).k (direction_of register) _ (kept_with_register register z (before n).now) (rounds-register (ruler n).k register z (before n).now (rounds n)))
+    (rounds_at (ruler n).k (direction_of register) _ (kept_with_register register z (before n).now) (rounds_register (ruler n).k register z (before n).now (rounds n)))
 
 enum-known-turn-4 : tie.Need-enum-known-turn-4 invariant-loop decreases-loop
 enum-known-turn-4 c = search rules
@@ -299,14 +299,14 @@ loop-again-5 c =
     (c.past-character.ensures.0
     ∙ ap₂ (λ (width escapement : ℤ). with_level (before n) (kept_past (ruler n) width escapement (before n).now)) (word v.0.0 ok.0.0) (word v.0.1.0 ok.1))
     (bounded_character (ruler n) (scale n) v.0.0 v.0.1.0 (level_in (before n).now) (ruled (read n)) (bounded n) ok.0.1)
-    (rounds-at (ruler n).k Direction.Sideways _ (before n).now (rounds n))
+    (rounds_at (ruler n).k Direction.Sideways _ (before n).now (rounds n))
 
 enum-told-2 : tie.Need-enum-told-2 invariant-loop decreases-loop
 enum-told-2 c = search rules
 
 -- a push finds room
 room : (n : tie.After-note invariant-loop decreases-loop) → (step (read n)).asked.turn ≡ Turn.Push → (before n).depth < 100
-room n turn_is = push-room (here (read n)) (step (read n)) (asks (read n)) turn_is
+room n turn_is = push_room (here (read n)) (step (read n)) (asks (read n)) turn_is
 
 -- the level that was stored changes nothing of the state
 kept : (n : tie.After-note invariant-loop decreases-loop) → (step (read n)).asked.turn ≡ Turn.Push
@@ -331,13 +331,13 @@ loop-again-6 c =
     let n = c.before.before.before.before.before.before in
     let turn_is = c.before.before.enum-told2.given.1 in
     let sound = (here (read n)).sound in
-    let state-is = c.push.ensures.0 ∙ ap pushed (kept n turn_is).0 in
-    to-state n Turn.Push turn_is refl (pushed (page_state (before n))) refl c.push.result state-is c.push.ensures.1
-    (state_sound (ruler n).k c.push.result (pushed (page_state (before n))) state-is sound.bounded (sound.bounded, sound.saved_bounded)
+    let state_is = c.push.ensures.0 ∙ ap pushed (kept n turn_is).0 in
+    to_state n Turn.Push turn_is refl (pushed (page_state (before n))) refl c.push.result state_is c.push.ensures.1
+    (state_sound (ruler n).k c.push.result (pushed (page_state (before n))) state_is sound.bounded (sound.bounded, sound.saved_bounded)
     (subst (RoundsLevel (ruler n).k) (sym c.push.ensures.3) sound.rounds)
     (subst (λ (depth : ℕ). RoundsBelow (ruler n).k depth c.push.result.stack) (sym c.push.ensures.1)
     (subst (RoundsBelow (ruler n).k ((before n).depth + 1)) (sym c.push.ensures.2)
-    (rounds-pushed (ruler n).k (before n).depth (before n).stack (before n).now (omega (arith, room n turn_is, sound.full)) sound.rounds_below sound.rounds)))
+    (rounds_pushed (ruler n).k (before n).depth (before n).stack (before n).now (omega (arith, room n turn_is, sound.full)) sound.rounds_below sound.rounds)))
     sound.known
     (omega (arith, c.push.ensures.1, room n turn_is))
     (ap length c.push.ensures.2 ∙ length-set (before n).stack (before n).depth (before n).now ∙ sound.full))
@@ -348,7 +348,7 @@ enum-told-3 c = search rules
 
 -- a pop finds a level
 below : (n : tie.After-note invariant-loop decreases-loop) → (step (read n)).asked.turn ≡ Turn.Pop → 0 < (before n).depth
-below n turn_is = pop-room (here (read n)) (step (read n)) (asks (read n)) turn_is
+below n turn_is = pop_room (here (read n)) (step (read n)) (asks (read n)) turn_is
 
 sub-last : tie.Need-overflow-sub-last invariant-loop decreases-loop
 sub-last c = let n = c.before.before.before.before in below n c.enum-told3.given.1
@@ -373,11 +373,11 @@ loop-again-7 c =
     let s = page_state (before n) in
     let back = popped_bounded s s.saved sound.saved_bounded sound.bounded sound.saved_bounded in
     let same-font : s.font ≡ (popped s).font = sym (popped_font s s.saved) in
-    to-state n Turn.Pop turn_is refl (popped s) refl c.pop.result c.pop.ensures.0 c.pop.ensures.1
+    to_state n Turn.Pop turn_is refl (popped s) refl c.pop.result c.pop.ensures.0 c.pop.ensures.1
     (state_sound (ruler n).k c.pop.result (popped s) c.pop.ensures.0 back.0 back.1
     (subst (RoundsLevel (ruler n).k) (sym c.pop.ensures.3) (sound.rounds_below ((before n).depth - 1) (omega (arith, below n turn_is))))
     (subst (λ (depth : ℕ). RoundsBelow (ruler n).k depth c.pop.result.stack) (sym c.pop.ensures.1)
-    (subst (RoundsBelow (ruler n).k ((before n).depth - 1)) (sym c.pop.ensures.2) (rounds-popped (ruler n).k (before n).depth (before n).stack sound.rounds_below)))
+    (subst (RoundsBelow (ruler n).k ((before n).depth - 1)) (sym c.pop.ensures.2) (rounds_popped (ruler n).k (before n).depth (before n).stack sound.rounds_below)))
     (subst Known same-font sound.known)
     (omega (arith, c.pop.ensures.1, sound.shallow)) (ap length c.pop.ensures.2 ∙ sound.full))
     (keeps n) (subst (λ (font : Font). KeptBy n font (keeps n)) same-font (kept_for n)) (memory n) (remembers n)
@@ -429,7 +429,7 @@ loop-again-8 c =
     let number_is : found.result.number ≡ v.0.0 = found.ensures.1 ∙ word v.0.0 ok in
     let font = found.ensures.0.0 (history (entry (read n)).args.file.now) (here (read n)).ready.told in
     let chosen : found.result.font ≡ font_of (setting n) v.0.0 = font.0 ∙ ap (font_of (setting n)) number_is in
-    to-state n (Turn.Select v.0.0) v.1 refl (record { level = level_in (before n).now; saved = saved_of (before n).depth (before n).stack; font = font_of (setting n) v.0.0 }) refl
+    to_state n (Turn.Select v.0.0) v.1 refl (record { level = level_in (before n).now; saved = saved_of (before n).depth (before n).stack; font = font_of (setting n) v.0.0 }) refl
     c.select.result (ap page_state is ∙ ap (λ (f : Font). record { level = level_in (before n).now; saved = saved_of (before n).depth (before n).stack; font = f }) chosen) (ap (λ (page : Page). page.depth) is)
     (subst (Sound (ruler n).k) (sym is)
     (record { bounded = sound.bounded; saved_bounded = sound.saved_bounded; rounds = sound.rounds; rounds_below = sound.rounds_below; known = font.1; shallow = sound.shallow; full = sound.full }))

@@ -10,7 +10,7 @@ use mir.Val.{SFits}
 use mir.Facts.{to_z-of_z}
 use Rattle.numbers.proofs.Signed.{abs_sum}
 use Rattle.units.specs.Rounding.{rounded, rounded_up}
-use Rattle.units.proofs.Rounding.{rounded_half, up-within}
+use Rattle.units.proofs.Rounding.{rounded_half, up_within}
 use Rattle.state.specs.declared.moving.Stride.{Stride}
 use Rattle.state.specs.declared.moving.Stride.TheVariants.{Rounded}
 use Rattle.state.specs.Steps.{followed_to}
@@ -32,14 +32,14 @@ module _ (s : tie.Start) where
 
   -- a step that the code has worked out, and the pixel that has grown by it
   module _ (step given : ℤ) (small : nat_abs step ≤ 2 ^ 31) (is : given ≡ step) where
-    grown-fits : SFits w64 (as_word pixel +ℤ as_word given)
-    grown-fits = subst (λ (z : ℤ). SFits w64 (as_word pixel +ℤ as_word z)) (sym is) (word_sum_fits pixel step s.pre.2 small)
+    grown_fits : SFits w64 (as_word pixel +ℤ as_word given)
+    grown_fits = subst (λ (z : ℤ). SFits w64 (as_word pixel +ℤ as_word z)) (sym is) (word_sum_fits pixel step s.pre.2 small)
 
-    grown-is : as_word (as_word pixel +ℤ as_word given) ≡ pixel +ℤ step
-    grown-is = ap (λ (z : ℤ). as_word (as_word pixel +ℤ as_word z)) is ∙ word_sum pixel step s.pre.2 small
+    grown_is : as_word (as_word pixel +ℤ as_word given) ≡ pixel +ℤ step
+    grown_is = ap (λ (z : ℤ). as_word (as_word pixel +ℤ as_word z)) is ∙ word_sum pixel step s.pre.2 small
 
-    grown-small : nat_abs (as_word (as_word pixel +ℤ as_word given)) ≤ 2 ^ 32
-    grown-small = within (2 ^ 32) grown-is (omega (arith, abs_sum pixel step, s.pre.2, small))
+    grown_small : nat_abs (as_word (as_word pixel +ℤ as_word given)) ≤ 2 ^ 32
+    grown_small = within (2 ^ 32) grown_is (omega (arith, abs_sum pixel step, s.pre.2, small))
 
 enum_told : tie.Need-enum-told
 enum_told c = search rules
@@ -62,15 +62,15 @@ module _ (c : tie.After-round) where
   step_is = c.round.ensures ∙ ap (rounded start.args.ruler.k) (to_z-of_z start.fits.n)
 
 add-result : tie.Need-overflow-add-result
-add-result c = grown-fits (start c) (step c) c.round.result (step_small c) (step_is c)
+add-result c = grown_fits (start c) (step c) c.round.result (step_small c) (step_is c)
 
 returns : tie.Need-returns
 returns c =
     let s = start c in
     let z = as_word (as_word (pixel s) +ℤ as_word c.round.result) in (
       subst (Asked s z s.args.near) (sym c.before.before.enum_told.given.1)
-          (subst (λ (near : Bool). Asked s z near Rounded) (sym c.before.if1.true) (grown-is s (step c) c.round.result (step_small c) (step_is c))),
-      grown-small s (step c) c.round.result (step_small c) (step_is c),
+          (subst (λ (near : Bool). Asked s z near Rounded) (sym c.before.if1.true) (grown_is s (step c) c.round.result (step_small c) (step_is c))),
+      grown_small s (step c) c.round.result (step_small c) (step_is c),
     )
 
 -- far: to the centre
@@ -97,21 +97,21 @@ module _ (c : tie.After-round-up) where
   abbrev rise : ℤ
   rise = rounded_up from.args.ruler.k (n from)
 
-  rise-small : nat_abs rise ≤ 2 ^ 31
-  rise-small = omega (arith, up-within from.pre.0 (n from), from.pre.1)
+  rise_small : nat_abs rise ≤ 2 ^ 31
+  rise_small = omega (arith, up_within from.pre.0 (n from), from.pre.1)
 
-  rise-is : c.round_up.result ≡ rise
-  rise-is = c.round_up.ensures ∙ ap (rounded_up from.args.ruler.k) (to_z-of_z from.fits.n)
+  rise_is : c.round_up.result ≡ rise
+  rise_is = c.round_up.ensures ∙ ap (rounded_up from.args.ruler.k) (to_z-of_z from.fits.n)
 
 add-result-2 : tie.Need-overflow-add-result-2
-add-result-2 c = grown-fits (from c) (rise c) c.round_up.result (rise-small c) (rise-is c)
+add-result-2 c = grown_fits (from c) (rise c) c.round_up.result (rise_small c) (rise_is c)
 
 returns-3 : tie.Need-returns-3
 returns-3 c =
     let s = from c in
     let z = as_word (as_word (pixel s) +ℤ as_word c.round_up.result) in (
-      subst (Asked s z s.args.near) (sym c.before.enum-told2.given.1) (grown-is s (rise c) c.round_up.result (rise-small c) (rise-is c)),
-      grown-small s (rise c) c.round_up.result (rise-small c) (rise-is c),
+      subst (Asked s z s.args.near) (sym c.before.enum-told2.given.1) (grown_is s (rise c) c.round_up.result (rise_small c) (rise_is c)),
+      grown_small s (rise c) c.round_up.result (rise_small c) (rise_is c),
     )
 
 pub follow_spec : {M : Type 1} → statement M

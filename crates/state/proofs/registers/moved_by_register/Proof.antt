@@ -35,18 +35,18 @@ module _ (c : tie.After-spot-of) where
   abbrev holding : KeptLevel
   holding = kept_with_register start.args.register start.args.n start.args.level
 
-  direction-is : c.before.before.direction-of.result ≡ direction
-  direction-is = c.before.before.direction-of.ensures
+  direction_is : c.before.before.direction-of.result ≡ direction
+  direction_is = c.before.before.direction-of.ensures
 
-  holding-is : c.before.with-register.result ≡ holding
-  holding-is = c.before.with-register.ensures ∙ ap (λ (n : ℤ). kept_with_register start.args.register n start.args.level) (to_z-of_z start.fits.n)
+  holding_is : c.before.with-register.result ≡ holding
+  holding_is = c.before.with-register.ensures ∙ ap (λ (n : ℤ). kept_with_register start.args.register n start.args.level) (to_z-of_z start.fits.n)
 
   spot_is : c.spot_of_lem.result ≡ kept_spot_of direction holding
-  spot_is = c.spot_of_lem.ensures ∙ ap₂ kept_spot_of direction-is holding-is
+  spot_is = c.spot_of_lem.ensures ∙ ap₂ kept_spot_of direction_is holding_is
 
   -- a register does not move it
-  spot-there : c.spot_of_lem.result ≡ kept_spot_of direction start.args.level
-  spot-there = spot_is ∙ unmoved_by_register start.args.register direction start.args.n start.args.level
+  spot_there : c.spot_of_lem.result ≡ kept_spot_of direction start.args.level
+  spot_there = spot_is ∙ unmoved_by_register start.args.register direction start.args.n start.args.level
 
 move-by-requires : tie.Need-move-by-requires
 move-by-requires c κs =
@@ -54,7 +54,7 @@ move-by-requires c κs =
     let a = s.args in
     let small = kept_in (direction c) a.level s.pre.0.1 in
     let stays = subst (λ (spot : Spot). leaves (spot.position +ℤ a.n) ≡ false) (spot_kept (direction c) a.level) s.pre.1.1 in
-    rw (spot-there c, to_z-of_z s.fits.n) ((s.pre.0.0, s.pre.0.2, small.0, small.1), (s.pre.1.0, stays))
+    rw (spot_there c, to_z-of_z s.fits.n) ((s.pre.0.0, s.pre.0.2, small.0, small.1), (s.pre.1.0, stays))
 
 at-spot-requires : tie.Need-at-spot-requires
 at-spot-requires c κs = search rules
@@ -68,10 +68,10 @@ moves c =
     let moved_by = c.before.move-by in
     let leads : Direction → ℤ → KeptSpot → KeptSpot = λ way n spot. kept_spot a.ruler.k (moved way a.stride a.ruler a.scale n (spot_in spot)) in
     c.at-spot.ensures
-    ∙ ap₂ (λ (way : Direction) (level : KeptLevel). at_kept_spot way moved_by.result level) (direction-is before) (holding-is before)
+    ∙ ap₂ (λ (way : Direction) (level : KeptLevel). at_kept_spot way moved_by.result level) (direction_is before) (holding_is before)
     ∙ ap (λ (spot : KeptSpot). at_kept_spot (direction before) spot (holding before))
     (moved_by.ensures
-    ∙ ap (λ (way : Direction). leads way (as_word a.n) before.spot_of_lem.result) (direction-is before)
+    ∙ ap (λ (way : Direction). leads way (as_word a.n) before.spot_of_lem.result) (direction_is before)
     ∙ ap₂ (leads (direction before)) (to_z-of_z s.fits.n) (spot_is before))
 
 returns : tie.Need-returns

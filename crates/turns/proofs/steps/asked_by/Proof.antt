@@ -19,7 +19,7 @@ use Rattle.commands.specs.Commands.{Command, kind_of_command}
 use Rattle.commands.specs.Parameters.{character_code, selected_font}
 use Rattle.commands.specs.ByKind.{first, last, fixed_by}
 use Rattle.commands.proofs.Opcodes.{kind_range}
-use Rattle.commands.proofs.Lengths.{has_inner, whole-at-most, whole_plain}
+use Rattle.commands.proofs.Lengths.{has_inner, whole_at_most, whole_plain}
 use Rattle.list.proofs.Arms.{kind_arm, kind_others, is_kind}
 use Rattle.placements.specs.declared.Adds.TheVariants as Adds
 use Rattle.turns.specs.declared.Turn.{Turn}
@@ -28,7 +28,7 @@ use Rattle.turns.specs.declared.Asked.{Asked}
 use Rattle.turns.specs.Placing.{Setting, continues, font_of, after_kind}
 use Rattle.placements.specs.Records.{nothing}
 use Rattle.turns.specs.Steps.{state_with, did, Safe, Suits, terms_setting, Comes, CharacterAsks, command, MoveFits, CommandAsks}
-use Rattle.turns.proofs.TurnLaws.{only_turns, move_fits, turn-does, turn-suits, turn-safe, asks-by-kind, rule-sets, rule-puts}
+use Rattle.turns.proofs.TurnLaws.{only_turns, move_fits, turn_does, turn_suits, turn_safe, asks_by_kind, rule_sets, rule_puts}
 use Rattle.turns.proofs.Words.{small_word}
 use Rattle.turns.proofs.steps.asked_by.Statement.{statement}
 use Rattle.turns.proofs.steps.asked_by.Tie as tie
@@ -47,8 +47,8 @@ module _ (k : tie.After-kind-of) where
   abbrev setting : List Command → Setting
   setting volume = terms_setting start.args.terms start.args.widths.now volume
 
-  kind-is : {kind : Kind} → k.kind-of.result ≡ kind → kind_of_command asking ≡ kind
-  kind-is told = sym k.kind-of.ensures ∙ told
+  kind_is : {kind : Kind} → k.kind-of.result ≡ kind → kind_of_command asking ≡ kind
+  kind_is told = sym k.kind-of.ensures ∙ told
 
   bytes : (i : ℕ) → get_or start.args.params.now i 0 < 256
   bytes i = omega (arith, k.before.shared-slice-known2.given i)
@@ -57,11 +57,11 @@ module _ (k : tie.After-kind-of) where
   asks : (volume : List Command) {kind : Kind} → k.kind-of.result ≡ kind → (r : Asked)
       → Comes (setting volume) start.args.level start.args.font (λ s. after_kind kind (setting volume) s asking) r.turn r.adds → Suits kind r.turn
       → CommandAsks (setting volume) start.args.level start.args.font asking r
-  asks volume {kind} told r comes suits = asks-by-kind (setting volume) start.args.level start.args.font asking r kind (kind-is told) comes suits
+  asks volume {kind} told r comes suits = asks_by_kind (setting volume) start.args.level start.args.font asking r kind (kind_is told) comes suits
 
   -- the parameters of a command of one length are four bytes at most
   code_fits : {kind : Kind} → k.kind-of.result ≡ kind → has_inner kind ≡ false → fixed_by kind (last kind) ≤ 4 → length start.args.params.now ≤ 4
-  code_fits told plain short = omega (arith, whole-at-most asking start.pre.0 (kind-is told) plain, short)
+  code_fits told plain short = omega (arith, whole_at_most asking start.pre.0 (kind_is told) plain, short)
 
 -- the arm of characters: set or put
 characters : (k : tie.At-match-keys1) → (k.before.kind-of.result ≡ Kind.SetCharacter) ⊎ (k.before.kind-of.result ≡ Kind.PutCharacter)
@@ -87,7 +87,7 @@ enum_told c = search rules
 rule-requires : tie.Need-rule-requires
 rule-requires c κs =
     let k = c.before.before in
-    ((start k).requires.1.1, (start k).requires.1.3, omega (arith, whole_plain (asking k) (start k).requires.0 (kind-is k c.enum_told.given.1) refl))
+    ((start k).requires.1.1, (start k).requires.1.3, omega (arith, whole_plain (asking k) (start k).requires.0 (kind_is k c.enum_told.given.1) refl))
 
 enum-told-2 : tie.Need-enum-told-2
 enum-told-2 c = search rules
@@ -95,7 +95,7 @@ enum-told-2 c = search rules
 rule-requires-2 : tie.Need-rule-requires-2
 rule-requires-2 c κs =
     let k = c.before.before in
-    ((start k).requires.1.1, (start k).requires.1.3, omega (arith, whole_plain (asking k) (start k).requires.0 (kind-is k c.enum-told2.given.1) refl))
+    ((start k).requires.1.1, (start k).requires.1.3, omega (arith, whole_plain (asking k) (start k).requires.0 (kind_is k c.enum-told2.given.1) refl))
 
 enum-told-3 : tie.Need-enum-told-3
 enum-told-3 c = search rules
@@ -103,7 +103,7 @@ enum-told-3 c = search rules
 selected-font-requires : tie.Need-selected-font-requires
 selected-font-requires c κs =
     let k = c.before.before in
-    let e = kind-is k c.enum-told3.given.1 in
+    let e = kind_is k c.enum-told3.given.1 in
     let between = kind_range (start k).args.opcode (omega (arith, (start k).requires.0.defined)) e in
     (between.0, between.1, omega (arith, whole_plain (asking k) (start k).requires.0 e refl))
 
@@ -133,7 +133,7 @@ module _ (c : tie.After-character) where
       (to_z-of_z (sfits_of c.before.character-code.type-inv) ∙ c.before.character-code.ensures.0) asks)
 
   range : {kind : Kind} → kinded.kind-of.result ≡ kind → (first kind ≤ begun.args.opcode) × (begun.args.opcode ≤ last kind)
-  range told = kind_range begun.args.opcode (omega (arith, (start kinded).pre.0.defined)) (kind-is kinded told)
+  range told = kind_range begun.args.opcode (omega (arith, (start kinded).pre.0.defined)) (kind_is kinded told)
 
   abbrev Answered : Type 0
   Answered = (volume : List Command) → CommandAsks (setting kinded volume) begun.args.level begun.args.font (asking kinded) c.character.result
@@ -157,7 +157,7 @@ returns-2 : tie.Need-returns-2
 returns-2 c volume =
     let k = c.before.before.before in
     let s = (start k).args in
-    let both = rule-sets s.terms s.widths.now volume s.level s.font s.params.now (start k).requires.1.3 (bytes k) c.rule.result c.rule.ensures in
+    let both = rule_sets s.terms s.widths.now volume s.level s.font s.params.now (start k).requires.1.3 (bytes k) c.rule.result c.rule.ensures in
     let comes = both.0 in
     asks k volume c.before.enum_told.given.1 c.rule.result (record { does = comes.does; safe = comes.safe; words = comes.words }) both.1
 
@@ -165,7 +165,7 @@ returns-3 : tie.Need-returns-3
 returns-3 c volume =
     let k = c.before.before.before in
     let s = (start k).args in
-    let both = rule-puts s.terms s.widths.now volume s.level s.font s.params.now (start k).requires.1.3 (bytes k) c.rule2.result c.rule2.ensures in
+    let both = rule_puts s.terms s.widths.now volume s.level s.font s.params.now (start k).requires.1.3 (bytes k) c.rule2.result c.rule2.ensures in
     let comes = both.0 in
     asks k volume c.before.enum-told2.given.1 c.rule2.result (record { does = comes.does; safe = comes.safe; words = comes.words }) both.1
 
@@ -194,14 +194,14 @@ returns-6 c volume =
     let s = (start k).args in
     let kind = k.kind-of.result in
     let only = kind_others only_turns (λ j. true) (Kind.SetCharacter ∷ Kind.PutCharacter ∷ Kind.SetRule ∷ Kind.PutRule ∷ Kind.Select ∷ Kind.Special ∷ []) refl kind c.before.match.keys6 in
-    let turn_is = c.turn_of_lem.ensures in
-    asks k volume refl (record { turn = c.turn_of_lem.result; adds = Adds.Nothing; hint = s.hint })
+    let turn_is = c.turn_of.ensures in
+    asks k volume refl (record { turn = c.turn_of.result; adds = Adds.Nothing; hint = s.hint })
     (record {
-      does = λ saved. ap (λ (turn : Turn). did (setting k volume) (state_with s.level saved s.font) turn Adds.Nothing) turn_is ∙ turn-does (setting k volume) s.level saved s.font (asking k) kind only;
-      safe = subst (Safe s.level) (sym turn_is) (turn-safe s.params.now (bytes k) s.level (start k).requires.1.3 kind (subst (λ (j : Kind). MoveFits j s.params.now) (sym k.kind-of.ensures) (move_fits (asking k) (start k).requires.0)));
+      does = λ saved. ap (λ (turn : Turn). did (setting k volume) (state_with s.level saved s.font) turn Adds.Nothing) turn_is ∙ turn_does (setting k volume) s.level saved s.font (asking k) kind only;
+      safe = subst (Safe s.level) (sym turn_is) (turn_safe s.params.now (bytes k) s.level (start k).requires.1.3 kind (subst (λ (j : Kind). MoveFits j s.params.now) (sym k.kind-of.ensures) (move_fits (asking k) (start k).requires.0)));
       words = tt;
     })
-    (subst (Suits kind) (sym turn_is) (turn-suits s.level s.params.now kind))
+    (subst (Suits kind) (sym turn_is) (turn_suits s.level s.params.now kind))
 
 pub asked_by_spec : {M : Type 1} → statement M
 asked_by_spec =

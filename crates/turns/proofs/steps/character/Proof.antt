@@ -17,16 +17,16 @@ use Rattle.names.specs.Names.{name_size, name_number}
 use Rattle.widths.specs.LookUp.{found, code_byte, looked_for}
 use Rattle.scaling.specs.Steps.{width_from}
 use Rattle.widths.specs.Steps.{found_at, Among}
-use Rattle.scaling.proofs.OneDivision.{one-division, sixteenfold-small}
+use Rattle.scaling.proofs.OneDivision.{one_division, sixteenfold_small}
 use Rattle.widths.proofs.BlockSearch.{in_order}
-use Rattle.widths.proofs.TableLaws.{record-inside}
+use Rattle.widths.proofs.TableLaws.{record_inside}
 use Rattle.state.specs.declared.moving.Direction.TheVariants as Direction
 use Rattle.turns.specs.declared.Turn.{Turn}
 use Rattle.turns.specs.declared.Turn.TheVariants as Turn
 use Rattle.turns.specs.Placing.{look_in}
 use Rattle.turns.specs.Steps.{unless_left}
-use Rattle.turns.proofs.Found.{Hit, looked_found, found-width, found-escapement}
-use Rattle.turns.proofs.CharacterLaws.{absent_asks, Present, put-asks, set-asks}
+use Rattle.turns.proofs.Found.{Hit, looked_found, found_width, found_escapement}
+use Rattle.turns.proofs.CharacterLaws.{absent_asks, Present, put_asks, set_asks}
 use Rattle.turns.proofs.Words.{word}
 use Rattle.turns.proofs.steps.character.Statement.{statement}
 use Rattle.turns.proofs.steps.character.Tie as tie
@@ -80,22 +80,22 @@ add-hint : tie.Need-overflow-add-hint
 add-hint c =
     let k = c.before.before.before.before in
     let s = start c.before.before in
-    omega (arith, s.good.0, record-inside name_size s.args.widths.now s.args.terms.rows s.pre.0.0 k.index.given.0.0 (index_below k))
+    omega (arith, s.good.0, record_inside name_size s.args.widths.now s.args.terms.rows s.pre.0.0 k.index.given.0.0 (index_below k))
 
 sub-hint : tie.Need-overflow-sub-hint
 sub-hint c = omega (arith, byte-below c.before.before.before.before.before.before.before.before.before.before)
 
 -- the walk finds the metric that was read
-found-is : (c : tie.After-metric-of) → let a = (start c).args in
+found_is : (c : tie.After-metric-of) → let a = (start c).args in
     look_in a.widths.now a.terms.rows a.font a.code ≡ found c.metric-of.result
-found-is c =
+found_is c =
     let k = c.before.before in
     sym (looked-is k.before.before) ∙ ap (found_at (start c).args.widths.now) k.index.given.1 ∙ ap found (sym c.metric-of.ensures)
 
 hit : (c : tie.After-metric-of) → Hit (start c).args.widths.now c.metric-of.result
 hit c =
     let a = (start c).args in
-    looked_found a.widths.now a.font.checksum a.font.scale (name_number a.font.name) (code_byte a.code) c.metric-of.result a.terms.rows (found-is c)
+    looked_found a.widths.now a.font.checksum a.font.scale (name_number a.font.name) (code_byte a.code) c.metric-of.result a.terms.rows (found_is c)
 
 bytes : (c : tie.After-metric-of) (i : ℕ) → get_or (start c).args.widths.now i 0 < 256
 bytes c i = (c.before.before.before.before.before.before.before.before.before.shared-slice-known.given i).fits
@@ -105,22 +105,22 @@ present : (c : tie.After-metric-of) → let a = (start c).args in
 present c =
     let s = start c in
     record {
-      is = found-is c;
+      is = found_is c;
       bounded = s.pre.1.0;
       code_small = s.pre.1.1;
-      escapement_small = found-escapement (hit c) (bytes c);
-      width_small = found-width (hit c) (bytes c) s.args.font.scale s.pre.0.1.Scale-small;
+      escapement_small = found_escapement (hit c) (bytes c);
+      width_small = found_width (hit c) (bytes c) s.args.font.scale s.pre.0.1.Scale-small;
     }
 
 returns : tie.Need-returns
 returns c =
     let m = c.before.before.before in
-    put-asks (present m) (not_true (start m).args.sets c.if1.true)
+    put_asks (present m) (not_true (start m).args.sets c.if1.true)
 
 scaled-requires : tie.Need-scaled-requires
 scaled-requires c κs =
     let s = start c.before.before.before in
-    omega (arith, s.pre.1.2.sixteenfold_is, sixteenfold-small s.args.font.scale s.pre.0.1.Scale-small)
+    omega (arith, s.pre.1.2.sixteenfold_is, sixteenfold_small s.args.font.scale s.pre.0.1.Scale-small)
 
 width_is : (c : tie.After-scaled) → let m = c.before.before.before.before in
     to_z w64 (of_z w64 c.scaled.result) ≡ scaled_by (start m).args.font.scale m.metric-of.result.width
@@ -128,7 +128,7 @@ width_is c =
     let m = c.before.before.before.before in
     let s = start m in
     to_z-of_z (sfits_of c.scaled.type-inv) ∙ c.scaled.ensures ∙ ap (λ (sixteenfold : ℕ). width_from sixteenfold m.metric-of.result.width) s.pre.1.2.sixteenfold_is
-    ∙ one-division s.args.font.scale m.metric-of.result.width
+    ∙ one_division s.args.font.scale m.metric-of.result.width
 
 unless-left-requires : tie.Need-unless-left-requires
 unless-left-requires c κs =
@@ -149,7 +149,7 @@ returns-3 : tie.Need-returns-3
 returns-3 c =
     let m = c.before.before.before.before.before in
     let past : ℤ → ℤ → Turn = λ width escapement. unless_left Direction.Sideways (start m).args.level width (Turn.PastCharacter width escapement) in
-    set-asks (present m) (set c.before.before)
+    set_asks (present m) (set c.before.before)
     (c.unless-left.ensures ∙ ap₂ past (width_is c.before) (word m.metric-of.result.escapement (present m).escapement_small))
 
 pub character_spec : {M : Type 1} → statement M

@@ -18,10 +18,10 @@ module _ (c : tie.After-distance-of) where
   abbrev start : tie.Start
   start = c.before.before
 
-  in-direction : (way : Direction) → start.args.direction ≡ way → (r : Turn)
+  in_direction : (way : Direction) → start.args.direction ≡ way → (r : Turn)
       → r ≡ unless_left start.args.direction start.args.level (as_word c.distance-of.result) (rounded_turn way (as_word c.distance-of.result))
       → r ≡ plain_turn start.args.direction start.args.level start.args.params.now
-  in-direction way told r is =
+  in_direction way told r is =
       let a = start.args in
       is
       ∙ ap (λ (d : Direction). unless_left a.direction a.level (as_word c.distance-of.result) (rounded_turn d (as_word c.distance-of.result))) (sym told)
@@ -40,10 +40,10 @@ unless-left-requires-2 : tie.Need-unless-left-requires-2
 unless-left-requires-2 c κs = search rules
 
 returns : tie.Need-returns
-returns c = in-direction c.before.before.before _ c.before.enum_told.given.1 _ c.unless-left.ensures
+returns c = in_direction c.before.before.before _ c.before.enum_told.given.1 _ c.unless-left.ensures
 
 returns-2 : tie.Need-returns-2
-returns-2 c = in-direction c.before.before.before _ c.before.enum-told2.given.1 _ c.unless-left2.ensures
+returns-2 c = in_direction c.before.before.before _ c.before.enum-told2.given.1 _ c.unless-left2.ensures
 
 pub plain_turn_spec : {M : Type 1} → statement M
 plain_turn_spec =

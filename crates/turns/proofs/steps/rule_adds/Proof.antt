@@ -8,7 +8,7 @@ use lib.Signed.{lt_z, le_z}
 use mir.Facts.{to_z-of_z}
 use Rattle.numbers.proofs.Signed.{le_yes, le_no, yes_lt, no_lt}
 use Rattle.units.specs.Rounding.{rounded_up}
-use Rattle.units.proofs.Rounding.{up-within}
+use Rattle.units.proofs.Rounding.{up_within}
 use Rattle.placements.specs.Records.{rule_record, placed}
 use Rattle.placements.specs.Steps.{InWords}
 use Rattle.placements.proofs.RecordWords.{of_bits, read_record}
@@ -52,7 +52,7 @@ returns-3 c =
     let width : c.before.round-up2.result ≡ rounded_up k s.args.width = c.before.round-up2.ensures ∙ ap (rounded_up k) (to_z-of_z s.ranges.width) in
     let r = rule_record s.args.terms.page level (rounded_up k s.args.height) (rounded_up k s.args.width) in
     let words : InWords r =
-    record { hh_in = bounded.hh_in; vv_in = bounded.vv_in; content_in = omega (arith, up-within workable s.args.height); extent_in = omega (arith, up-within workable s.args.width) } in
+    record { hh_in = bounded.hh_in; vv_in = bounded.vv_in; content_in = omega (arith, up_within workable s.args.height); extent_in = omega (arith, up_within workable s.args.width) } in
     let is = ap₂ (λ (content extent : ℤ). of_bits (rule_record s.args.terms.page level content extent)) height width ∙ read_record r words in
     (ap placed is ∙ simp (height-shown c.before.before.before.before.before, width-shown c.before.before.before.before), subst InWords (sym is) words)
 

@@ -4,11 +4,11 @@ use Prim.Native.Nat.{◌+◌}
 use native.Mathlib.Omega.{arith}
 use borrow.Author.Rules.{rules}
 use lib.ListN.{length, drop}
-use Rattle.refusals.proofs.Answer.{given-not-refused}
+use Rattle.refusals.proofs.Answer.{given_not_refused}
 use Rattle.commands.specs.Commands.{Command, whole}
 use Rattle.commands.specs.Reading.{reading}
 use Rattle.commands.specs.Steps.{read_answer}
-use Rattle.commands.proofs.Readings.{command_at, Reads, given-reads}
+use Rattle.commands.proofs.Readings.{command_at, Reads, given_reads}
 use Rattle.turns.specs.Steps.{terms_setting, CommandAsks}
 use Rattle.turns.proofs.steps.step_at.Statement.{statement}
 use Rattle.turns.proofs.steps.step_at.Tie as tie
@@ -26,7 +26,7 @@ enum-known-reading c = search rules
 read : (c : tie.After-known-told)
     → Reads c.before.before.before.before.before.before.args.file.now c.before.before.before.before.before.before.args.at c.before.reading.given.0.0
 read c =
-    given-reads c.before.before.before.before.before.before.args.file.now c.before.before.before.before.before.before.args.at c.before.reading.given.0.0
+    given_reads c.before.before.before.before.before.before.args.file.now c.before.before.before.before.before.before.args.at c.before.reading.given.0.0
     (sym c.before.before.before.read_by_lem.ensures ∙ ap read_answer c.before.reading.given.1)
 
 sub-params : tie.Need-overflow-sub-params
@@ -48,7 +48,7 @@ returns : tie.Need-returns
 returns c volume command rest stands =
     let s = c.before.before.before.before.before in
     let answer = sym c.before.before.read_by_lem.ensures ∙ ap read_answer c.enum_told.given.1 in
-    absurd (given-not-refused _ c.enum_told.given.0.0.number c.enum_told.given.0.0.place (sym (ap (reading s.args.at) stands) ∙ answer))
+    absurd (given_not_refused _ c.enum_told.given.0.0.number c.enum_told.given.0.0.place (sym (ap (reading s.args.at) stands) ∙ answer))
 
 returns-2 : tie.Need-returns-2
 returns-2 c volume command rest stands =

@@ -25,19 +25,19 @@ module _ (c : tie.After-position-of) where
   abbrev position : ℤ
   position = (spot_of start.args.direction start.args.level).position
 
-  position-small : nat_abs position ≤ 2 ^ 31
-  position-small = (spot_in start.args.direction start.args.level start.pre.0).0
+  position_small : nat_abs position ≤ 2 ^ 31
+  position_small = (spot_in start.args.direction start.args.level start.pre.0).0
 
-  position-is : to_z w64 (of_z w64 c.position-of.result) ≡ position
-  position-is = ap (λ (z : ℤ). to_z w64 (of_z w64 z)) c.position-of.ensures ∙ word position position-small
+  position_is : to_z w64 (of_z w64 c.position-of.result) ≡ position
+  position_is = ap (λ (z : ℤ). to_z w64 (of_z w64 z)) c.position-of.ensures ∙ word position position_small
 
 leaves-range-requires : tie.Need-leaves-range-requires
 leaves-range-requires c κs =
-    (subst (λ (z : ℤ). nat_abs z ≤ 2 ^ 31) (sym (position-is c)) (position-small c), small_word (start c).args.n (start c).requires.1)
+    (subst (λ (z : ℤ). nat_abs z ≤ 2 ^ 31) (sym (position_is c)) (position_small c), small_word (start c).args.n (start c).requires.1)
 
 -- what the test says
 test-is : (c : tie.After-leaves-range) → c.leaves-range.result ≡ leaves (position c.before +ℤ (start c.before).args.n)
-test-is c = c.leaves-range.ensures ∙ ap₂ (λ (a b : ℤ). leaves (a +ℤ b)) (position-is c.before) (to_z-of_z (start c.before).fits.n)
+test-is c = c.leaves-range.ensures ∙ ap₂ (λ (a b : ℤ). leaves (a +ℤ b)) (position_is c.before) (to_z-of_z (start c.before).fits.n)
 
 returns : tie.Need-returns
 returns c =

@@ -12,7 +12,7 @@ use mir.Facts.{to_z-of_z}
 use Rattle.commands.specs.Commands.{Command}
 use Rattle.list.specs.Rules.{lawful_font}
 use Rattle.list.specs.Steps.{Tells, AllStanding}
-use Rattle.volume.proofs.NameLaws.{no_number, no_entry, Leads, leads, said-long, name_is}
+use Rattle.volume.proofs.NameLaws.{no_number, no_entry, Leads, leads, said_long, name_is}
 use Rattle.volume.proofs.names.named_by.Statement.{statement}
 use Rattle.volume.proofs.names.named_by.Tie as tie
 
@@ -49,15 +49,15 @@ saying-at-requires c κs = search rules
 
 -- the entry leads to a definition, whatever commands the table tells of
 module _ (c : tie.Else2) (past : List Command) (tells : Tells false c.before.before.before.before.before.args.fonts.now past) (standing : AllStanding c.before.before.before.before.before.args.file.now past) where
-  abbrev Definition-at : ℕ → Type 0
-  Definition-at place =
+  abbrev Definition_at : ℕ → Type 0
+  Definition_at place =
       let a = c.before.before.before.before.before.args in
       Leads a.file.now a.fonts.now a.number past tells standing (lawful c.before.before) place
 
-  definition : Definition-at (c.before.entry_of.result - 1)
+  definition : Definition_at (c.before.entry_of.result - 1)
   definition =
       let a = c.before.before.before.before.before.args in
-      subst Definition-at (ap (λ (n : ℕ). n - 1) (sym (entry-is c.before)))
+      subst Definition_at (ap (λ (n : ℕ). n - 1) (sym (entry-is c.before)))
       (leads a.file.now a.fonts.now a.number past tells standing (lawful c.before.before) (λ e. c.if2.false (entry-is c.before ∙ e)))
 
 sub-if3 : tie.Need-overflow-sub-if3
@@ -68,7 +68,7 @@ returns-3 c past tells standing lawfully =
     let a = c.before.before.before.before.before.before.before.args in
     let e = c.before.before in
     let s = c.before.saying-at in
-    absurd (omega (arith, said-long a.file.now a.fonts.now a.number past tells standing (lawful e.before.before) (definition e past tells standing) s.result s.ensures, c.if3.true))
+    absurd (omega (arith, said_long a.file.now a.fonts.now a.number past tells standing (lawful e.before.before) (definition e past tells standing) s.result s.ensures, c.if3.true))
 
 add-name : tie.Need-overflow-add-name
 add-name c = search rules

@@ -3,7 +3,7 @@ use mathlib.Core.Path.{sym, ◌∙◌}
 use mathlib.Core.Logic.{⊎_elim}
 use native.Mathlib.Omega.{arith}
 use borrow.Author.Rules.{rules}
-use Rattle.volume.proofs.ShortLaws.{may-select, may-below, may-above}
+use Rattle.volume.proofs.ShortLaws.{may_select, may_below, may_above}
 use Rattle.volume.proofs.plain.may_pass.Statement.{statement}
 use Rattle.volume.proofs.plain.may_pass.Tie as tie
 
@@ -20,13 +20,13 @@ may-push-or-pop-requires : tie.Need-may-push-or-pop-requires
 may-push-or-pop-requires c κs = tt
 
 returns : tie.Need-returns
-returns c = let a = c.before.before.before.args in sym (may-select a.fonts.now a.opcode a.depth (omega arith) (omega arith))
+returns c = let a = c.before.before.before.args in sym (may_select a.fonts.now a.opcode a.depth (omega arith) (omega arith))
 
 returns-2 : tie.Need-returns-2
 returns-2 c =
     let a = c.before.before.args in
     c.may-push-or-pop.ensures
-    ∙ ⊎_elim (λ below. sym (may-below a.fonts.now a.opcode a.depth (omega (arith, below.taken)))) (λ above. sym (may-above a.fonts.now a.opcode a.depth (omega (arith, above.1.left))))
+    ∙ ⊎_elim (λ below. sym (may_below a.fonts.now a.opcode a.depth (omega (arith, below.taken)))) (λ above. sym (may_above a.fonts.now a.opcode a.depth (omega (arith, above.1.left))))
     c.before.if1.branch
 
 pub may_pass_spec : {M : Type 1} → statement M

@@ -9,7 +9,7 @@ use borrow.Author.Rules.{rules}
 use borrow.Author.Tests.{not-false}
 use Rattle.list.specs.Steps.{changed}
 use Rattle.volume.specs.Steps.{Onward}
-use Rattle.volume.proofs.ShortLaws.{push-shallow, onward-depth}
+use Rattle.volume.proofs.ShortLaws.{push_shallow, onward_depth}
 use Rattle.volume.proofs.plain.pass_depths.Statement.{statement}
 use Rattle.volume.proofs.plain.pass_depths.Tie as tie
 
@@ -42,7 +42,7 @@ next-depth-requires : tie.Need-next-depth-requires invariant-loop decreases-loop
 next-depth-requires c κs = λ pushes.
     let l = c.before.before.before.before.before.loop in
     let may = sym c.before.before.may-push-or-pop.ensures ∙ not-false _ c.before.if1.false in
-    omega (arith, push-shallow (get_or c.before.before.before.before.before.before.before.args.file.now l.place 0) l.depth may (sym c.kind-of.ensures ∙ pushes))
+    omega (arith, push_shallow (get_or c.before.before.before.before.before.before.before.args.file.now l.place 0) l.depth may (sym c.kind-of.ensures ∙ pushes))
 
 greater-requires : tie.Need-greater-requires invariant-loop decreases-loop
 greater-requires c κs = tt
@@ -57,7 +57,7 @@ loop-again : tie.Need-loop-preserved invariant-loop decreases-loop
 loop-again c =
     let l = c.before.before.before.before.before.before.before.loop in
     let may = sym c.before.before.before.before.may-push-or-pop.ensures ∙ not-false _ c.before.before.before.if1.false in
-    (λ fonts. onward-depth c.before.before.before.before.before.before.before.before.before.requires (l.invariant.0 fonts) (omega arith) c.before.before.kind-of.ensures c.before.next-depth.ensures c.greater.ensures may, omega (arith, l.invariant.1))
+    (λ fonts. onward_depth c.before.before.before.before.before.before.before.before.before.requires (l.invariant.0 fonts) (omega arith) c.before.before.kind-of.ensures c.before.next-depth.ensures c.greater.ensures may, omega (arith, l.invariant.1))
 
 reached-requires-2 : tie.Need-reached-requires-2 invariant-loop decreases-loop
 reached-requires-2 c κs = tt

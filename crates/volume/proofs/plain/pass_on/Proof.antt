@@ -9,7 +9,7 @@ use borrow.Author.Tests.{not-false}
 use Rattle.list.specs.Steps.{changed}
 use Rattle.volume.specs.Steps.{Onward}
 use Rattle.volume.proofs.Going.{forward}
-use Rattle.volume.proofs.ShortLaws.{pass-shallow, onward-plain, onward-short}
+use Rattle.volume.proofs.ShortLaws.{pass_shallow, onward_plain, onward_short}
 use Rattle.volume.proofs.plain.pass_on.Statement.{statement}
 use Rattle.volume.proofs.plain.pass_on.Tie as tie
 
@@ -32,7 +32,7 @@ reached-requires c κs = tt
 returns : tie.Need-returns invariant-loop decreases-loop
 returns c =
     let s = c.before.before.before.before.before in
-    let onward = onward-plain s.requires.1 c.before.before.before.loop.invariant.0 s.requires.2 c.before.before.pass-plain.ensures in
+    let onward = onward_plain s.requires.1 c.before.before.before.loop.invariant.0 s.requires.2 c.before.before.pass-plain.ensures in
     rw c.reached.ensures (onward, omega (arith, c.before.before.before.loop.invariant.1, forward c.before.before.pass-plain.ensures))
 
 shared-slice-read-opcode : tie.Need-shared-slice-read-opcode invariant-loop decreases-loop
@@ -47,7 +47,7 @@ reached-requires-2 c κs = tt
 returns-2 : tie.Need-returns-2 invariant-loop decreases-loop
 returns-2 c =
     let s = c.before.before.before.before.before.before.before.before in
-    let onward = onward-plain s.requires.1 c.before.before.before.before.before.before.loop.invariant.0 s.requires.2 c.before.before.before.before.before.pass-plain.ensures in
+    let onward = onward_plain s.requires.1 c.before.before.before.before.before.before.loop.invariant.0 s.requires.2 c.before.before.before.before.before.pass-plain.ensures in
     rw c.reached2.ensures (onward, omega (arith, c.before.before.before.before.before.before.loop.invariant.1, forward c.before.before.before.before.before.pass-plain.ensures))
 
 kind-of-requires : tie.Need-kind-of-requires invariant-loop decreases-loop
@@ -57,7 +57,7 @@ next-depth-requires : tie.Need-next-depth-requires invariant-loop decreases-loop
 next-depth-requires c κs = λ pushes.
     let a = c.before.before.before.before.before.before.before.before.args in
     let may = sym c.before.before.may-pass.ensures ∙ not-false _ c.before.if2.false in
-    omega (arith, pass-shallow a.fonts.now (get_or a.file.now c.before.before.before.before.before.pass-plain.result 0) c.before.before.before.before.before.before.loop.depth may (sym c.kind-of.ensures ∙ pushes))
+    omega (arith, pass_shallow a.fonts.now (get_or a.file.now c.before.before.before.before.before.pass-plain.result 0) c.before.before.before.before.before.before.loop.depth may (sym c.kind-of.ensures ∙ pushes))
 
 greater-requires : tie.Need-greater-requires invariant-loop decreases-loop
 greater-requires c κs = tt
@@ -71,9 +71,9 @@ loop-less c = omega (arith, forward c.before.before.before.before.before.before.
 loop-again : tie.Need-loop-preserved invariant-loop decreases-loop
 loop-again c =
     let s = c.before.before.before.before.before.before.before.before.before.before in
-    let onward = onward-plain s.requires.1 c.before.before.before.before.before.before.before.before.loop.invariant.0 s.requires.2 c.before.before.before.before.before.before.before.pass-plain.ensures in
+    let onward = onward_plain s.requires.1 c.before.before.before.before.before.before.before.before.loop.invariant.0 s.requires.2 c.before.before.before.before.before.before.before.pass-plain.ensures in
     let may = sym c.before.before.before.before.may-pass.ensures ∙ not-false _ c.before.before.before.if2.false in
-    (onward-short s.requires.1 onward (omega arith) c.before.before.kind-of.ensures c.before.next-depth.ensures c.greater.ensures s.requires.2 may, omega (arith, c.before.before.before.before.before.before.before.before.loop.invariant.1, forward c.before.before.before.before.before.before.before.pass-plain.ensures))
+    (onward_short s.requires.1 onward (omega arith) c.before.before.kind-of.ensures c.before.next-depth.ensures c.greater.ensures s.requires.2 may, omega (arith, c.before.before.before.before.before.before.before.before.loop.invariant.1, forward c.before.before.before.before.before.before.before.pass-plain.ensures))
 
 pub pass_on_spec : {M : Type 1} → statement M
 pass_on_spec =

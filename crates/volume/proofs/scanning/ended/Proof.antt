@@ -5,7 +5,7 @@ use native.Mathlib.Omega.{arith}
 use lib.ListN.{length, drop}
 use Rattle.volume.specs.Judged.{tail}
 use Rattle.volume.specs.Steps.{summary_of}
-use Rattle.volume.proofs.Tails.{tail_step, tail-wrong, tail-short, tail-done}
+use Rattle.volume.proofs.Tails.{tail_step, tail_wrong, tail_short, tail_done}
 use Rattle.volume.proofs.scanning.ended.Statement.{statement}
 use Rattle.volume.proofs.scanning.ended.Tie as tie
 
@@ -29,7 +29,7 @@ returns : tie.Need-returns invariant-loop decreases-loop
 returns c =
     let l = c.before.before.before.loop in
     let a = c.before.before.before.before.args in
-    (sym (l.invariant.2 ∙ tail-wrong (summary_of a.v) a.file.now l.place (l.place - a.at) c.before.before.loop-test.true c.if1.true), tt)
+    (sym (l.invariant.2 ∙ tail_wrong (summary_of a.v) a.file.now l.place (l.place - a.at) c.before.before.loop-test.true c.if1.true), tt)
 
 add-place : tie.Need-overflow-add-place invariant-loop decreases-loop
 add-place c = omega arith
@@ -56,13 +56,13 @@ returns-2 : tie.Need-returns-2 invariant-loop decreases-loop
 returns-2 c =
     let l = c.before.before.loop in
     let a = c.before.before.before.args in
-    (sym (l.invariant.2 ∙ tail-short (summary_of a.v) a.file.now l.place (l.place - a.at) c.before.loop-test.false c.if2.true), tt)
+    (sym (l.invariant.2 ∙ tail_short (summary_of a.v) a.file.now l.place (l.place - a.at) c.before.loop-test.false c.if2.true), tt)
 
 returns-3 : tie.Need-returns-3 invariant-loop decreases-loop
 returns-3 c =
     let l = c.before.before.loop in
     let a = c.before.before.before.args in
-    (sym (l.invariant.2 ∙ tail-done (summary_of a.v) a.file.now l.place (l.place - a.at) c.before.loop-test.false c.if2.false), refl)
+    (sym (l.invariant.2 ∙ tail_done (summary_of a.v) a.file.now l.place (l.place - a.at) c.before.loop-test.false c.if2.false), refl)
 
 pub ended_spec : {M : Type 1} → statement M
 ended_spec =

@@ -11,14 +11,14 @@ use Rattle.commands.specs.declared.Kind.{Kind}
 use Rattle.commands.specs.declared.Kind.TheVariants.{PostPost}
 use Rattle.commands.specs.Kinds.{is}
 use Rattle.commands.specs.Steps.{read_answer}
-use Rattle.commands.proofs.Readings.{Reads, given-reads}
+use Rattle.commands.proofs.Readings.{Reads, given_reads}
 use Rattle.list.specs.declared.Volume.{Volume}
 use Rattle.volume.specs.Judged.{judged}
 use Rattle.list.specs.Steps.{volume_of}
 use Rattle.volume.specs.Steps.{Going}
 use Rattle.list.proofs.Arms.{kind_others}
-use Rattle.volume.proofs.Going.{starting, turn-unread}
-use Rattle.volume.proofs.ScanTurns.{small, next-is, next_small, fixed-fits, opcode-defined, with-room, scan-stops, lawfully-numbered, Turned, turned}
+use Rattle.volume.proofs.Going.{starting, turn_unread}
+use Rattle.volume.proofs.ScanTurns.{small, next_is, next_small, fixed_fits, opcode_defined, with_room_lem, scan_stops, lawfully_numbered, Turned, turned}
 use Rattle.volume.proofs.scanning.scan.Statement.{statement}
 use Rattle.volume.proofs.scanning.scan.Tie as tie
 
@@ -70,7 +70,7 @@ returns-2 : tie.Need-returns-2 invariant-loop decreases-loop
 returns-2 c =
     let p = c.before.before.before.before.before in
     let r = c.before.refusal.given.0.0 in
-    (sym (turn-unread (going p) r.number r.place (sym c.before.before.before.read_by_lem.ensures ∙ ap read_answer c.before.refusal.given.1)), tt)
+    (sym (turn_unread (going p) r.number r.place (sym c.before.before.before.read_by_lem.ensures ∙ ap read_answer c.before.refusal.given.1)), tt)
 
 enum-known-reading : tie.Need-enum-known-reading invariant-loop decreases-loop
 enum-known-reading c = search rules
@@ -82,7 +82,7 @@ module _ (c : tie.After-known-told2 invariant-loop decreases-loop) where
 
   read : Reads (entered short).args.file.now short.passed.result.at c.before.reading.given.0.0
   read =
-      given-reads (entered short).args.file.now short.passed.result.at c.before.reading.given.0.0
+      given_reads (entered short).args.file.now short.passed.result.at c.before.reading.given.0.0
       (sym c.before.before.before.read_by_lem.ensures ∙ ap read_answer c.before.reading.given.1)
 
 sub-params : tie.Need-overflow-sub-params invariant-loop decreases-loop
@@ -103,7 +103,7 @@ fault-of-requires c κs =
     let t = k.before.before in
     let g = going (short t) in
     let r = t.before.reading.given.0.0 in
-    ((k.kind-of.ensures, opcode-defined g r (read t), fixed-fits g r (read t)), omega (arith, (small g).post_is, next_small g r (read t)))
+    ((k.kind-of.ensures, opcode_defined g r (read t), fixed_fits g r (read t)), omega (arith, (small g).post_is, next_small g r (read t)))
 
 returns-3 : tie.Need-returns-3 invariant-loop decreases-loop
 returns-3 c =
@@ -112,7 +112,7 @@ returns-3 c =
     let t = k.before.before in
     let g = going (short t) in
     let r = t.before.reading.given.0.0 in
-    (scan-stops g r (read t) k.kind-of.result k.kind-of.ensures f.fault-of.result f.fault-of.ensures c.if2.true, tt)
+    (scan_stops g r (read t) k.kind-of.result k.kind-of.ensures f.fault-of.result f.fault-of.ensures c.if2.true, tt)
 
 note-requires : tie.Need-note-requires invariant-loop decreases-loop
 note-requires c κs =
@@ -122,7 +122,7 @@ note-requires c κs =
     let t = k.before.before in
     let g = going (short t) in
     let r = t.before.reading.given.0.0 in
-    ((k.kind-of.ensures, fixed-fits g r (read t)), (omega (arith, next_small g r (read t)), lawfully-numbered g r (read t) k.kind-of.result k.kind-of.ensures f.fault-of.result f.fault-of.ensures e.if2.false))
+    ((k.kind-of.ensures, fixed_fits g r (read t)), (omega (arith, next_small g r (read t)), lawfully_numbered g r (read t) k.kind-of.result k.kind-of.ensures f.fault-of.result f.fault-of.ensures e.if2.false))
 
 after-requires : tie.Need-after-requires invariant-loop decreases-loop
 after-requires c κs =
@@ -131,7 +131,7 @@ after-requires c κs =
     let g = going (short t) in
     let r = t.before.reading.given.0.0 in
     let s = small g in
-    ((next_small g r (read t), with-room g r (read t) k.kind-of.result k.kind-of.ensures), (s.depth_is, s.pages_are, s.fonts_are, s.again_are))
+    ((next_small g r (read t), with_room_lem g r (read t) k.kind-of.result k.kind-of.ensures), (s.depth_is, s.pages_are, s.fonts_are, s.again_are))
 
 enum_told : tie.Need-enum-told invariant-loop decreases-loop
 enum_told c = search rules
@@ -174,7 +174,7 @@ loop-less c =
     let t = told c.before in
     let p = short t in
     let r = t.before.reading.given.0.0 in
-    omega (arith, (turn c.before).place_held, next-is (going p) r (read t), (read t).inside, p.passed.ensures.1)
+    omega (arith, (turn c.before).place_held, next_is (going p) r (read t), (read t).inside, p.passed.ensures.1)
 
 loop-again : tie.Need-loop-preserved invariant-loop decreases-loop
 loop-again c = (turn c.before).onward (kind_others (λ k. is k PostPost) (λ k. false) (PostPost ∷ []) refl (kind c.before) c.match2.keys2)

@@ -7,7 +7,7 @@ use lib.ListN.{get_or}
 use Rattle.widths.specs.declared.blocks.Block.{Block}
 use Rattle.widths.specs.LookUp.{LookUp, walk, or_else}
 use Rattle.widths.specs.Steps.{found_at, Among, BlockIs}
-use Rattle.widths.proofs.BlockSearch.{records_same, empty-misses}
+use Rattle.widths.proofs.BlockSearch.{records_same, empty_misses}
 use Rattle.widths.proofs.blocks.find.Statement.{statement}
 use Rattle.widths.proofs.blocks.find.Tie as tie
 
@@ -28,7 +28,7 @@ returns c =
       λ checksum scale name own_is any_is.
           c.find-code.ensures.0 checksum scale 0 any_is
           ∙ ap (λ (l : LookUp). or_else l (sought s checksum scale 0))
-          (empty-misses s.args.table.now (bytes c.before.before.before) s.args.records s.requires.0 checksum scale name s.args.own own_is s.args.byte s.requires.3 c.before.if1.true),
+          (empty_misses s.args.table.now (bytes c.before.before.before) s.args.records s.requires.0 checksum scale name s.args.own own_is s.args.byte s.requires.3 c.before.if1.true),
       c.find-code.ensures.1,
     )
 
@@ -52,7 +52,7 @@ returns-2 c =
     let s = f.before.before.before.before in
     let own : Block = s.args.own in
     let none = sym (ap (found_at s.args.table.now) k.enum_told.given.1) in
-    let same : s.args.any ≡ own = sym (records_same own s.args.any (sym c.before.same-records.ensures ∙ c.if2.true)) in (
+    let same : s.args.any ≡ own = sym (records_same own s.args.any (sym c.before.same_records_lem.ensures ∙ c.if2.true)) in (
       λ checksum scale name own_is any_is.
           ap₂ or_else
           (none ∙ f.find-code2.ensures.0 checksum scale name own_is)

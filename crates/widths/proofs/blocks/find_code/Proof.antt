@@ -4,7 +4,7 @@ use Prim.Native.Nat.{ℕ, ◌<◌}
 use native.Mathlib.Omega.{arith}
 use borrow.Author.Rules.{rules}
 use lib.ListN.{get_or}
-use Rattle.widths.proofs.BlockSearch.{code-hits, code-misses, has, has-not}
+use Rattle.widths.proofs.BlockSearch.{code_hits, code_misses, has, has_not}
 use Rattle.widths.proofs.blocks.find_code.Statement.{statement}
 use Rattle.widths.proofs.blocks.find_code.Tie as tie
 
@@ -20,7 +20,7 @@ returns c =
     let s = c.before.before.before in
     let h = has s.args.table.now s.args.block s.args.byte s.args.hint (sym c.before.has_code.ensures ∙ c.if1.true) in (
       λ checksum scale name is.
-          code-hits s.args.table.now (bytes c.before.before) s.args.records s.requires.0 checksum scale name s.args.block is s.args.hint h.from h.to s.args.byte s.requires.2 h.code_is,
+          code_hits s.args.table.now (bytes c.before.before) s.args.records s.requires.0 checksum scale name s.args.block is s.args.hint h.from h.to s.args.byte s.requires.2 h.code_is,
       omega (arith, h.to, s.requires.1.1),
     )
 
@@ -36,7 +36,7 @@ returns-2 c =
     let index = c.before.before.first_code.result in
     let h = has s.args.table.now s.args.block s.args.byte index (sym c.before.has-code2.ensures ∙ c.if2.true) in (
       λ checksum scale name is.
-          code-hits s.args.table.now (bytes c.before.before.before.before.before) s.args.records s.requires.0 checksum scale name s.args.block is index h.from h.to s.args.byte s.requires.2 h.code_is,
+          code_hits s.args.table.now (bytes c.before.before.before.before.before) s.args.records s.requires.0 checksum scale name s.args.block is index h.from h.to s.args.byte s.requires.2 h.code_is,
       omega (arith, h.to, s.requires.1.1),
     )
 
@@ -45,8 +45,8 @@ returns-3 c =
     let s = c.before.before.before.before.before.before in
     let first = c.before.before.first_code in (
       λ checksum scale name is.
-          code-misses s.args.table.now (bytes c.before.before.before.before.before) s.args.records s.requires.0 checksum scale name s.args.block is s.args.byte s.requires.2 first.result (first.ensures checksum scale name is)
-          (has-not s.args.table.now s.args.block s.args.byte first.result (sym c.before.has-code2.ensures ∙ c.if2.false)),
+          code_misses s.args.table.now (bytes c.before.before.before.before.before) s.args.records s.requires.0 checksum scale name s.args.block is s.args.byte s.requires.2 first.result (first.ensures checksum scale name is)
+          (has_not s.args.table.now s.args.block s.args.byte first.result (sym c.before.has-code2.ensures ∙ c.if2.false)),
       tt,
     )
 

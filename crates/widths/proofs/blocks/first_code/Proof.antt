@@ -5,8 +5,8 @@ use mathlib.Core.List.{List}
 use native.Mathlib.Omega.{arith}
 use lib.ListN.{get_or}
 use Rattle.widths.specs.Steps.{key_number, with_code, BlockIs}
-use Rattle.widths.proofs.Search.{Between, search-up, search-down, search-ends}
-use Rattle.widths.proofs.BlockSearch.{block-starts, code_below, code-above}
+use Rattle.widths.proofs.Search.{Between, search_up, search_down, search_ends}
+use Rattle.widths.proofs.BlockSearch.{block_starts, code_below, code_above}
 use Rattle.widths.proofs.blocks.first_code.Statement.{statement}
 use Rattle.widths.proofs.blocks.first_code.Tie as tie
 
@@ -31,7 +31,7 @@ loop-holds c =
       omega arith,
       s.requires.1.0,
       omega arith,
-      λ checksum scale name is. block-starts s.args.table.now (bytes c) s.args.records s.requires.0 checksum scale name s.args.block is s.args.byte s.requires.2,
+      λ checksum scale name is. block_starts s.args.table.now (bytes c) s.args.records s.requires.0 checksum scale name s.args.block is s.args.byte s.requires.2,
     )
 
 sub-middle : tie.Need-overflow-sub-middle invariant-loop decreases-loop
@@ -62,7 +62,7 @@ loop-again c =
       omega arith,
       l.invariant.2,
       λ checksum scale name is.
-          search-up s.args.table.now s.args.records (key_number (with_code is.key s.args.byte)) s.requires.0 l.low l.high m (l.invariant.3 checksum scale name is) (omega arith) (omega arith)
+          search_up s.args.table.now s.args.records (key_number (with_code is.key s.args.byte)) s.requires.0 l.low l.high m (l.invariant.3 checksum scale name is) (omega arith) (omega arith)
           (code_below s.args.table.now (bytes c.before.before.before.before) s.args.records s.requires.0 checksum scale name s.args.block is m (omega (arith, l.invariant.0)) (omega (arith, l.invariant.2)) s.args.byte
           (subst (λ (n : ℕ). n < s.args.byte) w.code_of_lem.ensures c.if1.true)),
     )
@@ -80,8 +80,8 @@ loop-again-2 c =
       omega arith,
       omega (arith, l.invariant.2),
       λ checksum scale name is.
-          search-down s.args.table.now s.args.records (key_number (with_code is.key s.args.byte)) s.requires.0 l.low l.high m (l.invariant.3 checksum scale name is) (omega arith) (omega arith)
-          (code-above s.args.table.now (bytes c.before.before.before.before) s.args.records s.requires.0 checksum scale name s.args.block is m (omega (arith, l.invariant.0)) (omega (arith, l.invariant.2)) s.args.byte
+          search_down s.args.table.now s.args.records (key_number (with_code is.key s.args.byte)) s.requires.0 l.low l.high m (l.invariant.3 checksum scale name is) (omega arith) (omega arith)
+          (code_above s.args.table.now (bytes c.before.before.before.before) s.args.records s.requires.0 checksum scale name s.args.block is m (omega (arith, l.invariant.0)) (omega (arith, l.invariant.2)) s.args.byte
           (subst (λ (n : ℕ). s.args.byte ≤ n) w.code_of_lem.ensures c.if1.false)),
     )
 
@@ -89,7 +89,7 @@ returns : tie.Need-returns invariant-loop decreases-loop
 returns c = λ checksum scale name is.
     let s = c.before.before.before in
     let l = c.before.loop in
-    search-ends s.args.table.now s.args.records (key_number (with_code is.key s.args.byte)) l.low l.high (l.invariant.3 checksum scale name is) c.loop-test.false
+    search_ends s.args.table.now s.args.records (key_number (with_code is.key s.args.byte)) l.low l.high (l.invariant.3 checksum scale name is) c.loop-test.false
 
 pub first_code_spec : {M : Type 1} → statement M
 first_code_spec =

@@ -11,8 +11,8 @@ use Rattle.widths.specs.AsBytes.{Bytes}
 use Rattle.widths.specs.Table.{width_record_size, record_at}
 use Rattle.widths.specs.Steps.{key_number, reaches, lawful_block, Judging}
 use Rattle.widths.proofs.SameBlocks.{same_lawful}
-use Rattle.widths.proofs.TableLaws.{check-starts, check-ends, check-cut, keyRight, check-key, check-rest}
-use Rattle.widths.proofs.Turns.{key-tested, turned}
+use Rattle.widths.proofs.TableLaws.{check_starts, check_ends, check_cut, key_right, check_key, check_rest}
+use Rattle.widths.proofs.Turns.{key_tested, turned}
 use Rattle.widths.proofs.table.check_table.Statement.{statement}
 use Rattle.widths.proofs.table.check_table.Tie as tie
 
@@ -26,7 +26,7 @@ sub-whole : tie.Need-overflow-sub-whole invariant-loop decreases-loop
 sub-whole c = omega arith
 
 loop-holds : tie.Need-loop-init invariant-loop decreases-loop
-loop-holds c = (omega arith, ((omega arith, omega arith, omega arith), λ h. absurd (omega arith)), check-starts name_size c.before.args.table.now)
+loop-holds c = (omega arith, ((omega arith, omega arith, omega arith), λ h. absurd (omega arith)), check_starts name_size c.before.args.table.now)
 
 -- the record of a turn lies within the table
 inside : (c : tie.In-loop invariant-loop decreases-loop) → c.before.loop.at + width_record_size ≤ length c.before.before.before.args.table.now
@@ -49,14 +49,14 @@ module _ (c : tie.After-lawful-key invariant-loop decreases-loop) where
   abbrev least : ℕ
   least = key_number head.loop.least
 
-  key-test : c.lawful-key.result ≡ keyRight name_size table head.loop.at least head.loop.inv.2
-  key-test = c.lawful-key.ensures ∙ key-tested table head.loop.at least head.loop.inv.2 c.before.key-at.result c.before.key-at.ensures
+  key_test : c.lawful-key.result ≡ key_right name_size table head.loop.at least head.loop.inv.2
+  key_test = c.lawful-key.ensures ∙ key_tested table head.loop.at least head.loop.inv.2 c.before.key-at.result c.before.key-at.ensures
 
 returns : tie.Need-returns invariant-loop decreases-loop
 returns c =
     let k = c.before in
     let l = (head k).loop in
-    check-key name_size (table k) l.at (least k) l.inv.2 (inside k.before.before) (sym (key-test k) ∙ not_true _ c.if1.true)
+    check_key name_size (table k) l.at (least k) l.inv.2 (inside k.before.before) (sym (key_test k) ∙ not_true _ c.if1.true)
 
 lawful-rest-requires : tie.Need-lawful-rest-requires invariant-loop decreases-loop
 lawful-rest-requires c κs = inside c.before.before.before
@@ -65,8 +65,8 @@ returns-2 : tie.Need-returns-2 invariant-loop decreases-loop
 returns-2 c =
     let k = c.before.before.before in
     let l = (head k).loop in
-    check-rest name_size (table k) l.at (least k) l.inv.2 (inside k.before.before)
-    (sym (key-test k) ∙ not-false _ c.before.before.if1.false) (sym c.before.lawful-rest.ensures ∙ not_true _ c.if2.true)
+    check_rest name_size (table k) l.at (least k) l.inv.2 (inside k.before.before)
+    (sym (key_test k) ∙ not-false _ c.before.before.if1.false) (sym c.before.lawful-rest.ensures ∙ not_true _ c.if2.true)
 
 add-next-code : tie.Need-overflow-add-next-code invariant-loop decreases-loop
 add-next-code c = omega arith
@@ -104,12 +104,12 @@ loop-again c = c.pass-block.ensures.1
 returns-3 : tie.Need-returns-3 invariant-loop decreases-loop
 returns-3 c =
     let l = c.before.before.loop in
-    check-cut name_size c.before.before.before.before.args.table.now l.at (key_number l.least) l.invariant.2 (omega arith) (omega arith)
+    check_cut name_size c.before.before.before.before.args.table.now l.at (key_number l.least) l.invariant.2 (omega arith) (omega arith)
 
 returns-4 : tie.Need-returns-4 invariant-loop decreases-loop
 returns-4 c =
     let l = c.before.before.loop in
-    check-ends name_size c.before.before.before.before.args.table.now l.at (key_number l.least) l.invariant.2 (omega arith)
+    check_ends name_size c.before.before.before.before.args.table.now l.at (key_number l.least) l.invariant.2 (omega arith)
 
 pub check_table_spec : {M : Type 1} → statement M
 check_table_spec =

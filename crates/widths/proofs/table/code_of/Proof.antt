@@ -5,12 +5,12 @@ use borrow.Author.Rules.{rules}
 use lib.ListN.{length}
 use Rattle.names.specs.Names.{name_size}
 use Rattle.widths.specs.Table.{width_record_size, record_in}
-use Rattle.widths.proofs.TableLaws.{record-inside}
+use Rattle.widths.proofs.TableLaws.{record_inside}
 use Rattle.widths.proofs.table.code_of.Statement.{statement}
 use Rattle.widths.proofs.table.code_of.Tie as tie
 
 inside : (s : tie.Start) → s.args.index * width_record_size + width_record_size ≤ length s.args.table.now
-inside s = record-inside name_size s.args.table.now s.args.records s.requires.0 s.args.index s.requires.1
+inside s = record_inside name_size s.args.table.now s.args.records s.requires.0 s.args.index s.requires.1
 
 mul_wide : tie.Need-overflow-mul-wide
 mul_wide c = omega (arith, inside c.before)

@@ -9,8 +9,8 @@ use Rattle.names.specs.Names.{name_size}
 use Rattle.widths.specs.Table.{width_record_size}
 use Rattle.widths.specs.Steps.{key_number, FirstNotBelow}
 use Rattle.widths.proofs.Keys.{in_key, key_is, key_number_lem}
-use Rattle.widths.proofs.TableLaws.{record-inside}
-use Rattle.widths.proofs.Search.{walk-finds, walk-misses}
+use Rattle.widths.proofs.TableLaws.{record_inside}
+use Rattle.widths.proofs.Search.{walk_finds, walk_misses}
 use Rattle.widths.proofs.table.find_key.Statement.{statement}
 use Rattle.widths.proofs.table.find_key.Tie as tie
 
@@ -21,7 +21,7 @@ first-not-below-requires c κs = search rules
 inside : (c : tie.Then1) → let s = c.before.before.before in c.before.first-not-below.result * width_record_size + width_record_size ≤ length s.args.table.now
 inside c =
     let s = c.before.before.before in
-    record-inside name_size s.args.table.now s.args.records s.requires.0 c.before.first-not-below.result c.if1.true
+    record_inside name_size s.args.table.now s.args.records s.requires.0 c.before.first-not-below.result c.if1.true
 
 mul-key-at : tie.Need-overflow-mul-key-at
 mul-key-at c = omega (arith, inside c)
@@ -36,7 +36,7 @@ returns : tie.Need-returns
 returns c =
     let s = c.before.before.before.before.before.before in
     let key = c.before.before.key-at in (
-      λ checksum scale name byte is. walk-finds s.args.table.now s.args.records s.requires.0 checksum scale name byte c.before.before.before.before.first-not-below.result key.result s.args.key c.before.before.before.if1.true key.ensures is
+      λ checksum scale name byte is. walk_finds s.args.table.now s.args.records s.requires.0 checksum scale name byte c.before.before.before.before.first-not-below.result key.result s.args.key c.before.before.before.if1.true key.ensures is
           (eqb-true (key_number key.result) (key_number s.args.key) (sym c.before.same.ensures ∙ c.if2.true)),
       c.before.before.before.if1.true,
     )
@@ -48,7 +48,7 @@ returns-2 c =
     let first = c.before.before.before.before.first-not-below in (
       λ checksum scale name byte is.
           let number = key_number_lem checksum scale name byte s.args.key is in
-          walk-misses s.args.table.now s.args.records s.requires.0 checksum scale name byte first.result (subst (λ (n : ℕ). FirstNotBelow s.args.table.now s.args.records n first.result) number first.ensures)
+          walk_misses s.args.table.now s.args.records s.requires.0 checksum scale name byte first.result (subst (λ (n : ℕ). FirstNotBelow s.args.table.now s.args.records n first.result) number first.ensures)
           (λ h e. eqb-false (key_number key.result) (key_number s.args.key) (sym c.before.same.ensures ∙ c.if2.false) (key_is s.args.table.now first.result key.result key.ensures ∙ e ∙ sym number)),
       tt,
     )
@@ -58,7 +58,7 @@ returns-3 c =
     let s = c.before.before.before in
     let first = c.before.first-not-below in (
       λ checksum scale name byte is.
-          walk-misses s.args.table.now s.args.records s.requires.0 checksum scale name byte first.result
+          walk_misses s.args.table.now s.args.records s.requires.0 checksum scale name byte first.result
           (subst (λ (n : ℕ). FirstNotBelow s.args.table.now s.args.records n first.result) (key_number_lem checksum scale name byte s.args.key is) first.ensures) (λ h. absurd (omega arith)),
       tt,
     )

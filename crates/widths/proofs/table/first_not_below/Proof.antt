@@ -9,8 +9,8 @@ use Rattle.names.specs.Names.{name_size}
 use Rattle.widths.specs.Table.{width_record_size, record_of}
 use Rattle.widths.specs.Steps.{key_number}
 use Rattle.widths.proofs.Keys.{in_key, key_is}
-use Rattle.widths.proofs.TableLaws.{record-inside}
-use Rattle.widths.proofs.Search.{Between, search-starts, search-up, search-down, search-ends}
+use Rattle.widths.proofs.TableLaws.{record_inside}
+use Rattle.widths.proofs.Search.{Between, search_starts, search_up, search_down, search_ends}
 use Rattle.widths.proofs.table.first_not_below.Statement.{statement}
 use Rattle.widths.proofs.table.first_not_below.Tie as tie
 
@@ -21,7 +21,7 @@ abbrev decreases-loop : tie.decreases-loop
 decreases-loop table records key low₀ high₀ low high = high - low
 
 loop-holds : tie.Need-loop-init invariant-loop decreases-loop
-loop-holds c = search-starts c.before.args.table.now c.before.args.records (key_number c.before.args.key)
+loop-holds c = search_starts c.before.args.table.now c.before.args.records (key_number c.before.args.key)
 
 sub-middle : tie.Need-overflow-sub-middle invariant-loop decreases-loop
 sub-middle c = omega arith
@@ -36,7 +36,7 @@ middle c = c.before.loop.low + (c.before.loop.high - c.before.loop.low) / 2
 inside : (c : tie.In-loop invariant-loop decreases-loop) → middle c * width_record_size + width_record_size ≤ length c.before.before.before.args.table.now
 inside c =
     let s = c.before.before.before in
-    record-inside name_size s.args.table.now s.args.records s.requires.0 (middle c) (omega (arith, c.before.loop.invariant.top))
+    record_inside name_size s.args.table.now s.args.records s.requires.0 (middle c) (omega (arith, c.before.loop.invariant.top))
 
 mul-key-at : tie.Need-overflow-mul-key-at invariant-loop decreases-loop
 mul-key-at c = omega (arith, inside c)
@@ -63,7 +63,7 @@ loop-again : tie.Need-loop-preserved invariant-loop decreases-loop
 loop-again c =
     let s = c.before.before.before.before.before.before in
     let l = c.before.before.before.before.loop in
-    search-up s.args.table.now s.args.records (key_number s.args.key) s.requires.0 l.low l.high (middle c.before.before.before) l.invariant (omega arith) (omega arith)
+    search_up s.args.table.now s.args.records (key_number s.args.key) s.requires.0 l.low l.high (middle c.before.before.before) l.invariant (omega arith) (omega arith)
     (ltb-true (record_of s.args.table.now (middle c.before.before.before)).key (key_number s.args.key) (sym (below-test c.before) ∙ c.if1.true))
 
 loop-less-2 : tie.Need-loop-smaller-2 invariant-loop decreases-loop
@@ -73,13 +73,13 @@ loop-again-2 : tie.Need-loop-preserved-2 invariant-loop decreases-loop
 loop-again-2 c =
     let s = c.before.before.before.before.before.before in
     let l = c.before.before.before.before.loop in
-    search-down s.args.table.now s.args.records (key_number s.args.key) s.requires.0 l.low l.high (middle c.before.before.before) l.invariant (omega arith) (omega arith)
+    search_down s.args.table.now s.args.records (key_number s.args.key) s.requires.0 l.low l.high (middle c.before.before.before) l.invariant (omega arith) (omega arith)
     (ltb-false (record_of s.args.table.now (middle c.before.before.before)).key (key_number s.args.key) (sym (below-test c.before) ∙ c.if1.false))
 
 returns : tie.Need-returns invariant-loop decreases-loop
 returns c =
     let s = c.before.before.before in
-    search-ends s.args.table.now s.args.records (key_number s.args.key) c.before.loop.low c.before.loop.high c.before.loop.invariant c.loop-test.false
+    search_ends s.args.table.now s.args.records (key_number s.args.key) c.before.loop.low c.before.loop.high c.before.loop.invariant c.loop-test.false
 
 pub first_not_below_spec : {M : Type 1} → statement M
 first_not_below_spec =

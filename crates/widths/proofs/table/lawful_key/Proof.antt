@@ -1,5 +1,5 @@
 -- `widths::table::lawful_key` meets its contract. Assumes nothing.
-use Rattle.widths.proofs.Keys.{in_key, code-reaches}
+use Rattle.widths.proofs.Keys.{in_key, code_reaches}
 use Rattle.widths.specs.Steps.{block_number, key_number, KeyAt, reaches, LeastKey, lawful_block}
 use Rattle.widths.specs.Table.{record_at}
 use Rattle.widths.specs.declared.table.Key.{Key}
@@ -26,9 +26,9 @@ by_code table at key least inside is least-is same = by (leb least.code key.code
     by true q =
         let enough : least.code ≤ key.code = leb-true least.code key.code q in
         let lawful : lawful_block (record_at table at) ≡ true = least-is.1 (omega (arith, is.code_below)) at key inside is same in
-        simp (sym (code-reaches key least (in_key is) least-is.0 is.code_below same) ∙ le-ltb key.code least.code enough, lawful)
+        simp (sym (code_reaches key least (in_key is) least-is.0 is.code_below same) ∙ le-ltb key.code least.code enough, lawful)
     by false q =
-        simp (sym (code-reaches key least (in_key is) least-is.0 is.code_below same) ∙ lt-ltb key.code least.code (leb-false least.code key.code q))
+        simp (sym (code_reaches key least (in_key is) least-is.0 is.code_below same) ∙ lt-ltb key.code least.code (leb-false least.code key.code q))
 
 -- a key that is not below the least reaches it, and its scale is that of its head
 past-least : (table : List ℕ) (at : ℕ) (key least : Key) → KeyAt table at key → ltb (key_number key) (key_number least) ≡ false

@@ -11,12 +11,12 @@ use Rattle.numbers.specs.Bytes.{signed_at}
 use lib.ListN.{length}
 use Rattle.names.specs.Names.{name_size}
 use Rattle.widths.specs.Table.{width_record_size, record_in}
-use Rattle.widths.proofs.TableLaws.{record-inside}
+use Rattle.widths.proofs.TableLaws.{record_inside}
 use Rattle.widths.proofs.table.metric_of.Statement.{statement}
 use Rattle.widths.proofs.table.metric_of.Tie as tie
 
 inside : (s : tie.Start) → s.args.index * width_record_size + width_record_size ≤ length s.args.table.now
-inside s = record-inside name_size s.args.table.now s.args.records s.requires.0 s.args.index s.requires.1
+inside s = record_inside name_size s.args.table.now s.args.records s.requires.0 s.args.index s.requires.1
 
 mul_at : tie.Need-overflow-mul-at
 mul_at c = omega (arith, inside c.before)

@@ -7,7 +7,7 @@ use borrow.Author.Tests.{eqb-true, not-false}
 use Rattle.names.specs.Names.{name_size}
 use Rattle.widths.specs.Table.{width_record_size}
 use Rattle.widths.specs.Steps.{block_number, key_number, Judging, Checking, with_code}
-use Rattle.widths.proofs.Keys.{in_key, code-reaches}
+use Rattle.widths.proofs.Keys.{in_key, code_reaches}
 use Rattle.widths.proofs.Turns.{turned, reached_in_block}
 use Rattle.widths.proofs.table.pass_block.Statement.{statement}
 use Rattle.widths.proofs.table.pass_block.Tie as tie
@@ -64,7 +64,7 @@ loop-again c =
     let judged = l.invariant.1.1 in
     let lawful = judged.1 (omega (arith, key.ensures.code_below)) l.at key.result (inside c.before.before.before.before.before.before.before.before) key.ensures same in
     let right = reached_in_block key.result (with_code least l.code) same key.ensures.code_below reach _ lawful
-    (code-reaches key.result (with_code least l.code) (in_key key.ensures) judged.0 key.ensures.code_below same) in
+    (code_reaches key.result (with_code least l.code) (in_key key.ensures) judged.0 key.ensures.code_below same) in
     let next = turned table l.at (key_number (with_code least l.code)) l.invariant.1.2 key.result key.ensures (inside c.before.before.before.before.before.before.before.before) right (sym c.before.before.lawful-rest.ensures ∙ not-false _ c.before.if3.false) in (
       omega arith,
       (

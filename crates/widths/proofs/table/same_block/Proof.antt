@@ -1,7 +1,7 @@
 -- `widths::table::same_block` meets its contract: one number for check sum, scale and name has the same parts. Assumes nothing.
 use Rattle.widths.proofs.Keys.{same_parts}
 use Rattle.widths.specs.Steps.{block_number}
-use Rattle.numbers.proofs.Radix.{same-equal}
+use Rattle.numbers.proofs.Radix.{same_equal}
 use borrow.Author.Tests.{ne_eqb}
 use Prim.Native.Nat.{ℕ, ◌*◌, ◌+◌, ◌^◌}
 use mathlib.Core.Path.{sym, ap₂}
@@ -19,7 +19,7 @@ returns-3 c =
     let s = c.before.before.before.before.before.before.before.before in
     let a = s.args.a in
     let b = s.args.b in
-    same-equal a.head b.head (block_number a) (block_number b)
+    same_equal a.head b.head (block_number a) (block_number b)
     (λ e. ap₂ (λ (upper low : ℕ). upper * 2 ^ 64 + low) (ap₂ (λ (head high : ℕ). head * 2 ^ 64 + high) e c.before.before.if2.false) c.before.before.before.before.before.if1.false)
     (λ e. (same_parts a b s.requires.0 s.requires.1 e).head_same)
 
