@@ -1,4 +1,6 @@
 // The output area: bytes written at a place of it.
+#![tactic(auto)]
+
 ghost use Rattle.std.specs.Prelude.{◌≡◌, ◌++◌, ◌+◌, ◌≤◌, length, take, drop};
 
 // Bytes at a place of an area that has room for them; no other byte changes.

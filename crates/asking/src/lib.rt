@@ -1,4 +1,6 @@
 // What the programs that ask the reader share: a file read whole, a line's words, numbers and bytes in words, and a placed page as lines.
+#![tactic(auto)]
+
 ghost use Rattle.std.specs.Prelude.{◌≤◌};
 
 use printing::line::Line;

@@ -1,5 +1,7 @@
 // The C interface: every entry of the reader under a name for C, where a slice is a pointer and a length. The result goes into an array of numbers that the
 // caller lends; what is returned says whether it is a result, a refusal, or an array too short for any result. include/hurlyburn.h is the same for C.
+#![tactic(auto)]
+
 mod answers;
 
 ghost use Rattle.std.specs.Prelude.{◌≡◌, length};

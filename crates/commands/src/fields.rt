@@ -3,14 +3,14 @@ ghost use Rattle.std.specs.Prelude.{◌≡◌, ◌+◌, ◌≤◌, ◌<◌, ◌^
 ghost use Rattle.commands.specs.Fields.{unsigned_in, signed_in};
 
 // A field without a sign: where it starts, and how many bytes it has
-#[derive(Drop)]
+#[derive(Clone, Copy)]
 pub struct UnsignedField {
     pub at: usize,
     pub size: usize,
 }
 
 // A field with a sign
-#[derive(Drop)]
+#[derive(Clone, Copy)]
 pub struct SignedField {
     pub at: usize,
     pub size: usize,

@@ -1,4 +1,6 @@
 // One command: its kind, the length of its parameters, and the reading of what stands at a place.
+#![tactic(auto)]
+
 use refusals::Refusal;
 
 pub mod fields;
@@ -14,7 +16,7 @@ ghost use Rattle.commands.specs.Steps.{read_answer};
 pub const LONGEST_FILE: usize = 16777216;
 
 // What a command is, by its range of opcodes
-#[derive(Drop)]
+#[derive(Clone, Copy)]
 pub enum Kind {
     SetCharacter,
     SetRule,
@@ -41,7 +43,7 @@ pub enum Kind {
 }
 
 // A command that stands in a file: its opcode, where its parameters start, and the place after them
-#[derive(Drop)]
+#[derive(Clone, Copy)]
 pub struct Reading {
     pub opcode: u8,
     pub start: usize,
@@ -49,7 +51,7 @@ pub struct Reading {
 }
 
 // What stands at a place, or refusal 2 or 3
-#[derive(Drop)]
+#[derive(Clone, Copy)]
 pub enum Read {
     Command(Reading),
     Refused(Refusal),

@@ -20,7 +20,7 @@ pub const RECORD_SIZE: usize = CODE_AT + 8;
 const SCALE_SPAN: u64 = 4294967296;
 
 // An old record's key: check sum and scale as one number, and the code
-#[derive(Drop)]
+#[derive(Clone, Copy)]
 pub struct OldKey {
     pub head: u64,
     pub code: u64,

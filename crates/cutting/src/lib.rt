@@ -1,4 +1,6 @@
 // Chosen pages of a file, written as a file of their own.
+#![tactic(auto)]
+
 use refusals::Refusal;
 
 pub mod choosing;
@@ -9,7 +11,7 @@ pub mod writing;
 
 // Where a walk over the commands stands: how many pages have begun, how many of them are chosen, whether it is on a page, whether the last page that began is chosen, whether
 // post has passed
-#[derive(Drop)]
+#[derive(Clone, Copy)]
 pub struct Spot {
     pub pages: usize,
     pub met: usize,
@@ -19,7 +21,7 @@ pub struct Spot {
 }
 
 // Where a run over commands stands: its place, and the depth and the greatest depth there
-#[derive(Drop)]
+#[derive(Clone, Copy)]
 pub struct Run {
     pub at: usize,
     pub depth: usize,
@@ -27,7 +29,7 @@ pub struct Run {
 }
 
 // What becomes of a command
-#[derive(Drop)]
+#[derive(Clone, Copy)]
 pub enum Fate {
     // it goes before all pages
     Opening,
@@ -40,7 +42,7 @@ pub enum Fate {
 }
 
 // What the new list has of the commands so far: bytes of its opening, bytes of the others, its depth and its greatest depth
-#[derive(Drop)]
+#[derive(Clone, Copy)]
 pub struct Counted {
     pub opened: usize,
     pub kept: usize,
@@ -49,7 +51,7 @@ pub struct Counted {
 }
 
 // What was written of the commands so far: where the bytes begin that are still to be copied, where the opening goes on, where the others go on; the pointer to the last bop, as four bytes hold it, and the place of post
-#[derive(Drop)]
+#[derive(Clone, Copy)]
 pub struct Made {
     pub from: usize,
     pub opened: usize,
@@ -59,7 +61,7 @@ pub struct Made {
 }
 
 // How many bytes the new file has, or a refusal
-#[derive(Drop)]
+#[derive(Clone, Copy)]
 pub enum Cut {
     Bytes(usize),
     Refused(Refusal),

@@ -1,4 +1,6 @@
 // Every public entry of the reader on a desk: a question a line on standard input, its answer on standard output.
+#![tactic(auto)]
+
 mod questions;
 
 use libc::STDIN_FILENO;

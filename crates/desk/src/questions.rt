@@ -4,7 +4,7 @@ use filling::forms_asked::Form;
 use filling::{cuts_asked, fonts_asked, forms_asked, pages_asked};
 use telling::{files_asked, numbers_asked, tables_asked};
 
-#[derive(Drop)]
+#[derive(Clone, Copy)]
 enum Question {
     Read,
     Check,

@@ -7,7 +7,7 @@ use converting::old;
 use reader::TableMade;
 use widths::table;
 
-#[derive(Drop)]
+#[derive(Clone, Copy)]
 pub enum Form {
     New,
     Old,

@@ -1,4 +1,6 @@
 // Questions whose answer fills an area, which is printed: a placed page, width tables, files of chosen pages.
+#![tactic(auto)]
+
 pub mod cuts_asked;
 pub mod fonts_asked;
 pub mod forms_asked;

@@ -1,4 +1,6 @@
 // The list of commands and its rules: what the commands so far amount to, and the fault of the next one.
+#![tactic(auto)]
+
 pub mod comparing;
 pub mod faults;
 pub mod fonts;
@@ -6,7 +8,7 @@ pub mod progress;
 pub mod rules;
 
 // Where the list of commands stands
-#[derive(Drop)]
+#[derive(Clone, Copy)]
 pub enum Stage {
     AtStart,
     BeforePages,
@@ -17,7 +19,7 @@ pub enum Stage {
 }
 
 // What the commands so far amount to
-#[derive(Drop)]
+#[derive(Clone, Copy)]
 pub struct Volume {
     pub stage: Stage,
     pub at: usize,
@@ -39,7 +41,7 @@ pub struct Volume {
 }
 
 // A part of the file, from its first byte to past its last
-#[derive(Drop)]
+#[derive(Clone, Copy)]
 pub struct Part {
     pub start: usize,
     pub end: usize,

@@ -1,4 +1,6 @@
 // A font's name as width records have it: sixteen bytes, held as two numbers so that names are compared as numbers.
+#![tactic(auto)]
+
 ghost use Rattle.std.specs.Prelude.{◌≡◌, true, ◌+◌, ◌≤◌, length, drop};
 ghost use Rattle.names.specs.Names.{has_zero, all_zeros, name_then_zeros, name_at, any_name, sought_name};
 ghost use Rattle.names.specs.Steps.{InEights};
@@ -7,7 +9,7 @@ ghost use Rattle.names.specs.Steps.{InEights};
 pub const NAME_SIZE: usize = 16;
 
 // The first eight bytes of a name, and the last eight
-#[derive(Drop)]
+#[derive(Clone, Copy)]
 pub struct Name {
     pub high: u64,
     pub low: u64,

@@ -1,4 +1,6 @@
 // PK fonts: which files are lawful ones, where the packet of each character stands, and the width table that they make.
+#![tactic(auto)]
+
 use refusals::Refusal;
 
 pub mod commands_in_font;
@@ -8,7 +10,7 @@ pub mod tables;
 
 // A form of packets: what the flag adds to the packet length, how many bytes have the length, the code, the width and the escapement, and how many bytes there
 // are from the width to the last offset
-#[derive(Drop)]
+#[derive(Clone, Copy)]
 pub struct Form {
     pub added: u64,
     pub length: usize,
@@ -19,14 +21,14 @@ pub struct Form {
 }
 
 // Where a command ends, or that its bytes are not all there
-#[derive(Drop)]
+#[derive(Clone, Copy)]
 pub enum Extent {
     Ends(usize),
     Cut,
 }
 
 // What a packet says of its character; the width is a fix word as one number
-#[derive(Drop)]
+#[derive(Clone, Copy)]
 pub struct Packet {
     pub code: u64,
     pub width: u64,
@@ -34,7 +36,7 @@ pub struct Packet {
 }
 
 // What is found of a command: 0 or the number of the refusal that it earns, the place behind it, and a packet's code; of other commands a code that is none
-#[derive(Drop)]
+#[derive(Clone, Copy)]
 pub struct Found {
     pub number: u8,
     pub next: usize,
@@ -42,7 +44,7 @@ pub struct Found {
 }
 
 // Number 0, for each code the place of its packet or 0, and how many packets there are; or the number and the place of a refusal
-#[derive(Drop)]
+#[derive(Clone, Copy)]
 pub struct Scanned {
     pub number: u8,
     pub place: usize,
@@ -51,7 +53,7 @@ pub struct Scanned {
 }
 
 // How many records were written, or why none
-#[derive(Drop)]
+#[derive(Clone, Copy)]
 pub enum Made {
     Records(usize),
     Refused(Refusal),

@@ -1,4 +1,6 @@
 // The program of document 01: place FILE TABLE R PAGE prints a page's records, a line each, and the counts.
+#![tactic(auto)]
+
 ghost use Rattle.io.specs.Counts.{IsPrefixLen};
 ghost use Rattle.asking.specs.Decimal.{AtMost};
 

@@ -1,10 +1,12 @@
 // The records of a page in the output area, and their counts.
+#![tactic(auto)]
+
 ghost use Rattle.std.specs.Prelude.{◌≡◌, ◌++◌, ◌+◌, ◌≤◌, ◌<◌, length, take, drop};
 ghost use Rattle.placements.specs.Records.{record_bytes};
 ghost use Rattle.placements.specs.Steps.{InWords, added_of, put_record, area_noted, count_noted, AddsInWords};
 
 // One placed character or rule
-#[derive(Drop)]
+#[derive(Clone, Copy)]
 pub struct Record {
     // 1 character, 2 rule
     pub kind: u64,
@@ -19,7 +21,7 @@ pub struct Record {
 }
 
 // How many records, missing characters and specials a page has
-#[derive(Drop)]
+#[derive(Clone, Copy)]
 pub struct Counts {
     pub records: usize,
     pub missing: usize,
@@ -27,7 +29,7 @@ pub struct Counts {
 }
 
 // What a command adds to the page
-#[derive(Drop)]
+#[derive(Clone, Copy)]
 pub enum Adds {
     Nothing,
     Placed(Record),

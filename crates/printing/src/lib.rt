@@ -1,4 +1,6 @@
 // Texts and numbers on standard output, for the programs. What is written no contract can say: programs' outputs are compared.
+#![tactic(auto)]
+
 ghost use Rattle.std.specs.Prelude.{◌≡◌, ◌<◌, nat_abs};
 
 use libc::STDOUT_FILENO;

@@ -1,4 +1,6 @@
 // The front door: every public entry, and nothing else. None has a `requires`: what an input breaks is refused, by number and place.
+#![tactic(auto)]
+
 ghost use Rattle.std.specs.Prelude.{◌≡◌, ◌↔◌, ◌+◌, ◌≤◌, length};
 ghost use Rattle.commands.specs.Reading.{command_read};
 ghost use Rattle.list.specs.Lawful.{Lawful};
@@ -26,7 +28,7 @@ use widths::table;
 use widths::table::{Place, Table};
 
 // A command's opcode, where its parameters start and the place after them, or refusal 1, 2 or 3
-#[derive(Drop)]
+#[derive(Clone, Copy)]
 pub enum CommandRead {
     Command {
         opcode: u8,
@@ -63,7 +65,7 @@ pub fn read_command(file: &[u8], at: usize) -> CommandRead
 }
 
 // Pages, fonts, greatest depth and the place of post, or refusal 1 to 11
-#[derive(Drop)]
+#[derive(Clone, Copy)]
 pub enum FileChecked {
     Accepted {
         pages: usize,
@@ -121,7 +123,7 @@ pub fn font_name<'a>(file: &'a [u8], font: i32, number: &mut u8, place: &mut usi
 }
 
 // A rounded distance, or refusal 4, 12 or 13
-#[derive(Drop)]
+#[derive(Clone, Copy)]
 pub enum Rounded {
     To(i64),
     Refused { number: u8, place: usize },
@@ -154,7 +156,7 @@ pub fn round_distance(num: i32, den: i32, mag: i32, resolution: u32, n: i32) -> 
 }
 
 // A scaled width, or refusal 14
-#[derive(Drop)]
+#[derive(Clone, Copy)]
 pub enum Scaled {
     To(i64),
     Refused { number: u8, place: usize },
@@ -178,7 +180,7 @@ pub fn scale_width(scale: u32, b0: u8, b1: u8, b2: u8, b3: u8) -> Scaled
 }
 
 // How many records a right table has, or refusal 14 at its first wrong record
-#[derive(Drop)]
+#[derive(Clone, Copy)]
 pub enum TableChecked {
     Right(usize),
     Refused { number: u8, place: usize },
@@ -198,7 +200,7 @@ pub fn check_table(table: &[u8]) -> TableChecked
 }
 
 // A character's escapement and fix word, or that the table has none, or refusal 14
-#[derive(Drop)]
+#[derive(Clone, Copy)]
 pub enum LookedUp {
     Found {
         escapement: i64,
@@ -246,7 +248,7 @@ pub fn look_up(table: &[u8], checksum: u32, scale: u32, name: &[u8], code: i32) 
 }
 
 // How many records were written, or refusal 14, 17 to 22 or 24
-#[derive(Drop)]
+#[derive(Clone, Copy)]
 pub enum TableMade {
     Records(usize),
     Refused { number: u8, place: usize },
@@ -300,7 +302,7 @@ pub fn narrow_table(table: &[u8], out: &mut [u8]) -> TableMade
 }
 
 // How many bytes were written, or refusal 1 to 11, 17 or 23
-#[derive(Drop)]
+#[derive(Clone, Copy)]
 pub enum PagesCut {
     Bytes(usize),
     Refused { number: u8, place: usize },
@@ -323,7 +325,7 @@ pub fn cut_pages(file: &[u8], pages: &[u32], out: &mut [u8]) -> PagesCut
 }
 
 // How many records were written, how many characters are missing, how many specials the page has; or refusal 1 to 17
-#[derive(Drop)]
+#[derive(Clone, Copy)]
 pub enum Placed {
     Records {
         records: usize,

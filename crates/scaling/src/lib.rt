@@ -1,11 +1,13 @@
 // Scaling a width, from TeX and DVItype.
+#![tactic(auto)]
+
 ghost use Rattle.std.specs.Prelude.{◌≡◌, true, ◌≤◌, ◌<◌, ◌^◌};
 ghost use Rattle.numbers.specs.Sizes.{lawful_size};
 ghost use Rattle.scaling.specs.Scaling.{scaled_by, lawful_first};
 ghost use Rattle.scaling.specs.Steps.{sixteenfold_of, width_from};
 
 // A TFM fix word: its four bytes, the highest first
-#[derive(Drop)]
+#[derive(Clone, Copy)]
 pub struct FixWord {
     pub b0: u8,
     pub b1: u8,

@@ -1,4 +1,6 @@
 // The page's state: the eight numbers with rounded h and v beside them, the levels that are saved, the font; a fresh one, and how commands change it.
+#![tactic(auto)]
+
 ghost use Rattle.std.specs.Prelude.{◌≡◌, false, ◌+◌, ◌-◌, ◌≤◌, ◌<◌, ◌^◌, length, get_or, nat_abs, ◌+ℤ◌};
 ghost use Rattle.state.specs.declared.moving.Direction.TheVariants.{Sideways, Down};
 ghost use Rattle.state.specs.declared.moving.Stride.TheVariants.{Rounded};
@@ -13,7 +15,7 @@ pub mod moving;
 pub mod registers;
 
 // The eight numbers of a level, by which a command is asked what it does: the position, the registers, the pixel
-#[derive(Drop)]
+#[derive(Clone, Copy)]
 pub struct Level {
     pub h: i64,
     pub v: i64,
@@ -26,7 +28,7 @@ pub struct Level {
 }
 
 // A level as the page keeps it: where it stands sideways and down, and the registers
-#[derive(Drop)]
+#[derive(Clone, Copy)]
 pub struct KeptLevel {
     pub across: KeptSpot,
     pub down: KeptSpot,
@@ -37,7 +39,7 @@ pub struct KeptLevel {
 }
 
 // The current font: its number, check sum and scale, and the name that it seeks in the width table; the scale is 0 while none is selected
-#[derive(Drop)]
+#[derive(Clone, Copy)]
 pub struct Font {
     pub number: u64,
     pub checksum: u64,

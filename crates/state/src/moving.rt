@@ -7,14 +7,14 @@ ghost use Rattle.state.specs.Steps.{tenths, followed_to, Ruled, spot_in, kept_sp
 
 use units::Ratio;
 
-#[derive(Drop)]
+#[derive(Clone, Copy)]
 pub enum Direction {
     Sideways,
     Down,
 }
 
 // How the pixel follows a position that moves
-#[derive(Drop)]
+#[derive(Clone, Copy)]
 pub enum Stride {
     // by the rounded distance where the move is near, else to the rounded position
     Rounded,
@@ -23,14 +23,14 @@ pub enum Stride {
 }
 
 // K and D
-#[derive(Drop)]
+#[derive(Clone, Copy)]
 pub struct Ruler {
     pub k: Ratio,
     pub drift: u64,
 }
 
 // h with rounded h and hh, or v with rounded v and vv. The order of the fields was measured (docs/DECISIONS.md).
-#[derive(Drop)]
+#[derive(Clone, Copy)]
 pub struct KeptSpot {
     pub position: i64,
     pub rounded: i64,

@@ -7,7 +7,7 @@ ghost use Rattle.state.specs.Steps.{Ruled, Bounded, Rounds, level_in, other, kep
 use crate::moving::{Direction, KeptSpot, Ruler, Stride};
 use crate::{KeptLevel, Level, moving};
 
-#[derive(Drop)]
+#[derive(Clone, Copy)]
 pub enum Register {
     W,
     X,

@@ -1,4 +1,6 @@
 // Questions whose answer is a line: about a DVI file, about numbers, about a width table.
+#![tactic(auto)]
+
 pub mod files_asked;
 pub mod numbers_asked;
 pub mod tables_asked;

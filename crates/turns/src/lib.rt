@@ -1,4 +1,6 @@
 // One command of a page: the turn of the state that it asks, and what it adds to the page.
+#![tactic(auto)]
+
 use placements::Adds;
 use state::moving::{Ruler, Stride};
 use state::registers::Register;
@@ -7,7 +9,7 @@ use widths::blocks::Block;
 pub mod steps;
 
 // What a page is placed by, beside the file and the width table: K and D, how many rows the table has, and the page's number
-#[derive(Drop)]
+#[derive(Clone, Copy)]
 pub struct Terms {
     pub ruler: Ruler,
     pub rows: usize,
@@ -16,7 +18,7 @@ pub struct Terms {
 
 // What a walk keeps for a font, so that no character pays for it: sixteen times its scale, less the bits that halving loses, and where the table's records of its own
 // name and for any name stand
-#[derive(Drop)]
+#[derive(Clone, Copy)]
 pub struct Kept {
     pub sixteenfold: u64,
     pub own: Block,
@@ -24,7 +26,7 @@ pub struct Kept {
 }
 
 // What a command does to the page's state
-#[derive(Drop)]
+#[derive(Clone, Copy)]
 pub enum Turn {
     Stay,
     // sideways by a distance in a stride
@@ -46,7 +48,7 @@ pub enum Turn {
 }
 
 // What a command asks, and a hint for the next character's search
-#[derive(Drop)]
+#[derive(Clone, Copy)]
 pub struct Asked {
     pub turn: Turn,
     pub adds: Adds,
@@ -54,7 +56,7 @@ pub struct Asked {
 }
 
 // What the command at a place asks, and the place after it
-#[derive(Drop)]
+#[derive(Clone, Copy)]
 pub struct Step {
     pub asked: Asked,
     pub next: usize,

@@ -1,4 +1,6 @@
 // Distances in pixels: K in lowest terms, D, and rounding by K.
+#![tactic(auto)]
+
 ghost use Rattle.std.specs.Prelude.{◌≡◌, ◌<◌, ◌≤◌, ◌^◌, nat_abs};
 ghost use Rattle.units.specs.Divisor.{common_divisor, lowest};
 ghost use Rattle.units.specs.Unit.{in_range, unit_of, drift};
@@ -8,21 +10,21 @@ ghost use Rattle.units.specs.Steps.{product, Cancelled, Units, Workable, unit_an
 use refusals::Refusal;
 
 // P/Q
-#[derive(Drop)]
+#[derive(Clone, Copy)]
 pub struct Ratio {
     pub p: u64,
     pub q: u64,
 }
 
 // K, or refusal 12 or 13
-#[derive(Drop)]
+#[derive(Clone, Copy)]
 pub enum UnitFound {
     Is(Ratio),
     Refused(Refusal),
 }
 
 // what is left of num, mag and R above the line, and of den and 1000 × 254000 below it
-#[derive(Drop)]
+#[derive(Clone, Copy)]
 pub struct Factors {
     pub num: u64,
     pub mag: u64,

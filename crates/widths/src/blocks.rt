@@ -11,7 +11,7 @@ use crate::table::{Key, Place};
 use names::Name;
 
 // The records of one check sum, scale and name: the index of the first, and that behind the last
-#[derive(Drop)]
+#[derive(Clone, Copy)]
 pub struct Block {
     pub start: usize,
     pub end: usize,

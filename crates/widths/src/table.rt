@@ -30,7 +30,7 @@ pub const RECORD_SIZE: usize = CODE_AT + 8;
 const SCALE_SPAN: u64 = 4294967296;
 
 // A record's key: check sum and scale as one number, the two numbers of the name, and the code
-#[derive(Drop)]
+#[derive(Clone, Copy)]
 pub struct Key {
     pub head: u64,
     pub high: u64,
@@ -39,21 +39,21 @@ pub struct Key {
 }
 
 // What a run over records of one check sum, scale and name comes to: the place behind it, and the least code there
-#[derive(Drop)]
+#[derive(Clone, Copy)]
 pub struct Run {
     pub at: usize,
     pub code: u64,
 }
 
 // How many records a right table has, or the place of the first wrong one
-#[derive(Drop)]
+#[derive(Clone, Copy)]
 pub enum Table {
     Right(usize),
     Wrong(usize),
 }
 
 // The index of a character's record
-#[derive(Drop)]
+#[derive(Clone, Copy)]
 pub enum Place {
     At(usize),
     Nowhere,
