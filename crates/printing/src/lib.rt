@@ -1,15 +1,15 @@
-// Texts and numbers on standard output, for the programs. What is written no contract can say: programs' outputs are compared.
+// Texts and numbers, written to what the caller lends. Each function that writes fails where a write of it fails, and nowhere else.
 #![tactic(auto)]
 
 ghost use Rattle.std.specs.Prelude.{◌≡◌, ◌<◌, nat_abs};
 
-use libc::STDOUT_FILENO;
+use std::io::{Result, Write};
 
 pub mod line;
 pub mod rows;
 
-pub fn text(bytes: &[u8]) {
-    io::write_all(STDOUT_FILENO, bytes);
+pub fn text<W: Write>(out: &mut W, bytes: &[u8]) -> Result<()> {
+    out.write_all(bytes)
 }
 
 // |n|, of every i64
@@ -24,14 +24,12 @@ fn size(n: i64) -> u64
 }
 
 // Bytes as two lower-case digits each
-pub fn hexadecimal(bytes: &[u8]) {
-    let mut i: usize = 0;
-    while i < bytes.len() {
-        let byte = bytes[i];
-        let pair = [digit(byte / 16), digit(byte % 16)];
-        text(&pair);
-        i += 1;
+pub fn hexadecimal<W: Write>(out: &mut W, bytes: &[u8]) -> Result<()> {
+    for byte in bytes {
+        let pair = [digit(*byte / 16), digit(*byte % 16)];
+        text(out, &pair)?;
     }
+    Ok(())
 }
 
 pub fn digit(n: u8) -> u8
@@ -43,6 +41,6 @@ pub fn digit(n: u8) -> u8
     b'a' + (n - 10)
 }
 
-pub fn refused(number: u8, place: usize) {
-    line::refused(number, place).print();
+pub fn refused<W: Write>(out: &mut W, number: u8, place: usize) -> Result<()> {
+    line::refused(number, place).print(out)
 }

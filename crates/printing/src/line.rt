@@ -1,7 +1,7 @@
 // A line put together before it is written, so that it is one write.
 ghost use Rattle.std.specs.Prelude.{◌≡◌, ◌+◌, ◌≤◌, length};
 
-use libc::STDOUT_FILENO;
+use std::io::{Result, Write};
 
 // A line has room for six numbers of 20 digits with a sign and a blank, and for 28 bytes of words: no answer is longer.
 #[derive(Drop)]
@@ -26,11 +26,9 @@ impl Line {
     {
         let mut bytes = self.bytes;
         let from = self.length;
-        let added = bytes::copy(text, &mut bytes[from..]);
-        Line {
-            bytes,
-            length: from + added,
-        }
+        let end = from + text.len();
+        bytes[from..end].copy_from_slice(text);
+        Line { bytes, length: end }
     }
 
     fn digits(self, n: u64) -> Line
@@ -61,12 +59,12 @@ impl Line {
         self.text(b" ").digits(crate::size(n))
     }
 
-    pub fn print(self)
+    pub fn print<W: Write>(self, out: &mut W) -> Result<()>
         requires { self.length ≤ 160 }
     {
         let bytes = self.bytes;
         let length = self.length;
-        io::write_all(STDOUT_FILENO, &bytes[..length]);
+        out.write_all(&bytes[..length])
     }
 }
 

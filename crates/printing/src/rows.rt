@@ -1,20 +1,20 @@
 // Rows of bytes as lines of two lower-case digits a byte. They are gathered in a block, so that many rows are few writes.
-ghost use Rattle.std.specs.Prelude.{◌≡◌, ◌≤◌, ◌<◌, length};
+ghost use Rattle.std.specs.Prelude.{◌≡◌, ◌≤◌, ◌<◌, length, IfOk};
+
+use std::io::{Result, Write};
 
 // So many bytes a row; the last one may have fewer.
-pub fn print(bytes: &[u8], width: usize)
+pub fn print<W: Write>(out: &mut W, bytes: &[u8], width: usize) -> Result<()>
     requires { 0 < width }
 {
-    let mut block = io::buffer();
+    let mut block = [0u8; 4096];
     let mut held: usize = 0;
-    let mut i: usize = 0;
-    while i < bytes.len() {
-        held = with_room(&block, held);
-        held = with_byte(&mut block, held, bytes[i]);
-        i += 1;
-        held = with_end(&mut block, held, row_ends(i, width, bytes.len()));
+    for (i, byte) in bytes.iter().enumerate() {
+        held = with_room(out, &block, held)?;
+        held = with_byte(&mut block, held, *byte);
+        held = with_end(&mut block, held, row_ends(i + 1, width, bytes.len()));
     }
-    crate::text(&block[..held]);
+    crate::text(out, &block[..held])
 }
 
 // Whether a row ends after so many bytes: where it is full, and with the last byte of all.
@@ -28,15 +28,15 @@ fn row_ends(done: usize, width: usize, all: usize) -> bool
 }
 
 // How much of the block is held where it has room for a byte's digits and a line's end; if it has not, what it holds is written first.
-fn with_room(block: &[u8], held: usize) -> usize
+fn with_room<W: Write>(out: &mut W, block: &[u8], held: usize) -> Result<usize>
     requires { (length block.now ≡ 4096) × (held ≤ 4096) }
-    ensures { result ≤ 4093 }
+    ensures { IfOk result (λ held. held ≤ 4093) }
 {
     if held <= 4093 {
-        return held;
+        return Ok(held);
     }
-    crate::text(&block[..held]);
-    0
+    crate::text(out, &block[..held])?;
+    Ok(0)
 }
 
 fn with_byte(block: &mut [u8], held: usize, byte: u8) -> usize

@@ -1,0 +1,17 @@
+-- `names::has_zero` meets its contract: what is left of the bytes decides. Assumes nothing.
+use Rattle.names.proofs.NameLaws.{zero_here, zero_later}
+use Rattle.names.specs.Names.{has_zero}
+use lib.ListN.{length, drop, drop_of_length-le}
+use native.Mathlib.Numerals.{add-one}
+use native.Mathlib.Omega.{arith}
+use mathlib.Core.Path.{◌≡◌, refl, sym, ap, ◌∙◌}
+use Prim.Native.Nat.{ℕ, ◌-◌}
+use Rattle.names.proofs.has_zero.Given as goal
+
+abbrev pub invariant-loop-index : goal.invariant-loop-index
+invariant-loop-index l = has_zero l.bytes ≡ has_zero (drop l.index l.bytes)
+
+
+abbrev pub decreases-loop-index : goal.decreases-loop-index
+decreases-loop-index l = length l.bytes - l.index
+
