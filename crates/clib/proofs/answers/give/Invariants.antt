@@ -1,0 +1,19 @@
+-- `clib::answers::give` meets its contract: so many numbers stand in front as the loop has gone round. Assumes nothing.
+use Prim.Native.Nat.{ℕ, ◌≤◌, ◌-◌}
+use mathlib.Core.List.{List, ◌++◌}
+use mathlib.Core.Path.{◌≡◌, refl, sym, ap, ◌∙◌}
+use native.Mathlib.Nat.{zero-add}
+use native.Mathlib.Omega.{arith}
+use native.Mathlib.Numerals.{add-one}
+use lib.ListN.{length, set, get_or, take, drop, length-set}
+use lib.Seq.{paste, paste-zero, paste-suc, take_all}
+use borrow.Author.Rules.{rules}
+use Rattle.clib.proofs.answers.give.Given as goal
+
+abbrev pub invariant-loop-index : goal.invariant-loop-index
+invariant-loop-index l = (l.index ≤ length l.numbers) × (length l.answer ≡ length l.initial.answer) × (l.answer ≡ paste l.initial.answer 0 l.numbers l.index)
+
+
+abbrev pub decreases-loop-index : goal.decreases-loop-index
+decreases-loop-index l = length l.numbers - l.index
+
