@@ -2,7 +2,6 @@
 use Rattle.refusals.specs.Answer.{Answer, given, refusal}
 use Rattle.commands.specs.declared.Reading.{Reading}
 use Rattle.commands.specs.declared.Read.{Read}
-use Rattle.commands.specs.declared.Read.TheVariants as Read
 
 -- what the code's answer says
 abbrev pub read_answer : Read → Answer Reading
