@@ -1,7 +1,11 @@
-// A file read whole into a buffer that the caller lends.
+// A file read whole into a buffer that the caller lends. That it cannot be read is an answer, and no error.
 ghost use Rattle.std.specs.Prelude.{◌≡◌, length};
 ghost use Rattle.io.specs.Counts.{IsPrefixLen};
 ghost use Rattle.asking.specs.Read.{SomeOf};
+
+use std::fs;
+use std::fs::Files;
+use std::io::Read;
 
 // Whether a file was read whole, and how many bytes of the buffer it is; 0 where it cannot be read or is longer than the buffer
 #[derive(Drop)]
@@ -10,16 +14,17 @@ pub struct FileRead {
     pub length: usize,
 }
 
-pub fn read_whole(path: &[u8], buffer: &mut [u8]) -> FileRead
+// A path is UTF-8 text: other bytes name no file.
+pub fn read_whole<R: Files>(rt: &R, path: &[u8], buffer: &mut [u8]) -> FileRead
     ensures { IsPrefixLen result.length buffer.new }
 {
-    let descriptor = os::open_read(path);
-    if descriptor < 0 {
+    let Ok(name) = str::from_utf8(path) else {
         return unread();
-    }
-    let read = read_to_end(descriptor, buffer);
-    libc::close(descriptor);
-    read
+    };
+    let Ok(mut file) = fs::open(rt, name) else {
+        return unread();
+    };
+    read_to_end(&mut file, buffer)
 }
 
 fn unread() -> FileRead
@@ -31,12 +36,12 @@ fn unread() -> FileRead
     }
 }
 
-fn read_to_end(descriptor: i32, buffer: &mut [u8]) -> FileRead
+fn read_to_end<F: Read>(file: &mut F, buffer: &mut [u8]) -> FileRead
     ensures { IsPrefixLen result.length buffer.new }
 {
     let mut done: usize = 0;
     while done < buffer.len() {
-        match read_once(descriptor, &mut buffer[done..]) {
+        match read_once(file, &mut buffer[done..]) {
             Got::Bytes(more) => done += more,
             Got::End => {
                 return FileRead {
@@ -47,7 +52,7 @@ fn read_to_end(descriptor: i32, buffer: &mut [u8]) -> FileRead
             Got::Failed => return unread(),
         }
     }
-    if is_at_end(descriptor) {
+    if is_at_end(file) {
         return FileRead {
             whole: true,
             length: done,
@@ -64,22 +69,18 @@ enum Got {
     Failed,
 }
 
-fn read_once(descriptor: i32, part: &mut [u8]) -> Got
+fn read_once<F: Read>(file: &mut F, part: &mut [u8]) -> Got
     ensures { SomeOf (length part.old) result }
 {
-    let got = libc::read(descriptor, part);
-    if got < 0 {
-        return Got::Failed;
+    match file.read(part) {
+        Ok(0) => Got::End,
+        Ok(more) => Got::Bytes(more),
+        Err(_) => Got::Failed,
     }
-    let more = io::count(got, part);
-    if more == 0 {
-        return Got::End;
-    }
-    Got::Bytes(more)
 }
 
 // Whether the file has no byte more; one that cannot be read any further is not at its end.
-fn is_at_end(descriptor: i32) -> bool {
+fn is_at_end<F: Read>(file: &mut F) -> bool {
     let mut byte = [0u8; 1];
-    libc::read(descriptor, &mut byte) == 0
+    matches!(file.read(&mut byte), Ok(0))
 }

@@ -41,7 +41,10 @@ pub fn word_end(line: &[u8], start: usize) -> usize
     requires { start ≤ length line.now }
     ensures { (start ≤ result) × (result ≤ length line.now) }
 {
-    bytes::scan::find(line, start, line.len(), b' ')
+    match line[start..].iter().position(|byte| *byte == b' ') {
+        Some(passed) => start + passed,
+        None => line.len(),
+    }
 }
 
 // The place after a blank; the line's end is its own.

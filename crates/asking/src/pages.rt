@@ -1,55 +1,63 @@
 // The answer of a page that was placed: a line a record, then the counts.
-ghost use Rattle.std.specs.Prelude.{◌≡◌, ◌+◌, ◌*◌, ◌≤◌, length};
+ghost use Rattle.std.specs.Prelude.{◌≡◌, ◌+◌, ◌*◌, ◌≤◌, length, IfOk};
 
 use printing::line::Line;
 use reader::Placed;
+use std::io::{Result, Write};
 
-pub fn place(file: &[u8], widths: &[u8], resolution: u32, page: u32, area: &mut [u8]) {
+pub fn place<W: Write>(
+    out: &mut W,
+    file: &[u8],
+    widths: &[u8],
+    resolution: u32,
+    page: u32,
+    area: &mut [u8],
+) -> Result<()> {
     match reader::place_page(file, widths, resolution, page, area) {
         Placed::Records {
             records,
             missing,
             specials,
         } => {
-            print_records(area, records);
+            print_records(out, area, records)?;
             Line::empty()
                 .text(b"end")
                 .count(records as u64)
                 .count(missing as u64)
                 .count(specials as u64)
                 .text(b"\n")
-                .print();
+                .print(out)
         }
-        Placed::Refused { number, place } => printing::refused(number, place),
+        Placed::Refused { number, place } => printing::refused(out, number, place),
     }
 }
 
 // The lines are gathered in a block, so that a page of thousands of records is few writes.
-fn print_records(area: &[u8], records: usize)
+fn print_records<W: Write>(out: &mut W, area: &[u8], records: usize) -> Result<()>
     requires { 20 * records ≤ length area.now }
 {
-    let mut block = io::buffer();
+    let mut block = [0u8; 4096];
     let mut held: usize = 0;
     let mut i: usize = 0;
     while i < records {
         let at = 20 * i;
         let end = at + 20;
-        held = hold(&mut block, held, record_line(&area[at..end]));
+        held = hold(out, &mut block, held, record_line(&area[at..end]))?;
         i += 1;
     }
-    printing::text(&block[..held]);
+    printing::text(out, &block[..held])
 }
 
 // How much of the block is held with a line more; where it has no room for a line, what it holds is written first.
-fn hold(block: &mut [u8], held: usize, line: Line) -> usize
+fn hold<W: Write>(out: &mut W, block: &mut [u8], held: usize, line: Line) -> Result<usize>
     requires { (length block.old ≡ 4096) × (held ≤ 4096) × (line.length ≤ 160) }
-    ensures { result ≤ 4096 }
+    ensures { IfOk result (λ held. held ≤ 4096) }
 {
     if 3936 < held {
-        printing::text(&block[..held]);
-        return lay(block, 0, line);
+        printing::text(out, &block[..held])?;
+        return Ok(lay(block, 0, line));
     }
-    lay(block, held, line)
+    Ok(lay(block, held, line))
 }
 
 // The place after a line that is laid at a place
@@ -59,7 +67,9 @@ fn lay(block: &mut [u8], at: usize, line: Line) -> usize
 {
     let bytes = line.bytes;
     let length = line.length;
-    at + bytes::copy(&bytes[..length], &mut block[at..])
+    let end = at + length;
+    block[at..end].copy_from_slice(&bytes[..length]);
+    end
 }
 
 // One record as the program prints it: c or r, then its numbers, the page before the font

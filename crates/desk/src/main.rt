@@ -1,81 +1,119 @@
 // Every public entry of the reader on a desk: a question a line on standard input, its answer on standard output.
+// Where a write fails, the desk ends with that error.
 #![tactic(auto)]
 
+ghost use Rattle.io.specs.Counts.{IsPrefixLen};
+
+mod gathered;
 mod questions;
 
-use libc::STDIN_FILENO;
+use gathered::Gathered;
+use std::fs::Files;
+use std::io::{Read, Result, Write, writer};
 
-fn main() {
-    let mut block = io::large_buffer();
+fn main(rt: HostRuntime) -> Result<()> {
+    let mut block = [0u8; 65536];
     let mut line = [0u8; 16384];
     let mut file = [0u8; 262144];
-    let mut widths = io::large_buffer();
+    let mut widths = [0u8; 65536];
     let mut area = [0u8; 262144];
-    answer_all(&mut block, &mut line, &mut file, &mut widths, &mut area);
+    answer_all(
+        &rt,
+        &mut rt.stdin(),
+        &mut Gathered::new(writer(&rt)),
+        &mut block,
+        &mut line,
+        &mut file,
+        &mut widths,
+        &mut area,
+    )
 }
 
-// Standard input is read in blocks. A proved loop has to end, and nothing says that the input does: so the blocks are counted down, from a number
-// that no run uses up.
-fn answer_all(
+// Standard input is read in blocks, and after each the answers to its lines are handed on. A read that fails counts as the input's end. A proved loop has to
+// end, and nothing says that the input does: so the blocks are counted, up to a number that no run comes to.
+fn answer_all<R: Files, I: Read, W: Write>(
+    rt: &R,
+    input: &mut I,
+    out: &mut W,
     block: &mut [u8],
     line: &mut [u8],
     file: &mut [u8],
     widths: &mut [u8],
     area: &mut [u8],
-) {
+) -> Result<()> {
     let mut held: usize = 0;
-    let mut blocks_left = u64::MAX;
-    while 0 < blocks_left {
-        let got = libc::read(STDIN_FILENO, block);
-        let count = io::count(got, block);
+    for _ in 0..u64::MAX {
+        let count = read_block(input, block);
         if count == 0 {
-            answer_rest(line, held, file, widths, area);
-            return;
+            answer_rest(rt, out, line, held, file, widths, area)?;
+            return out.flush();
         }
-        held = answer_block(&block[..count], line, held, file, widths, area);
-        blocks_left -= 1;
+        held = answer_block(rt, out, &block[..count], line, held, file, widths, area)?;
+        out.flush()?;
+    }
+    Ok(())
+}
+
+// How many bytes of the block one read brought.
+fn read_block<I: Read>(input: &mut I, block: &mut [u8]) -> usize
+    ensures { IsPrefixLen result block.new }
+{
+    match input.read(block) {
+        Ok(count) => count,
+        Err(_) => 0,
     }
 }
 
 // The input's last line may lack its end.
-fn answer_rest(line: &[u8], held: usize, file: &mut [u8], widths: &mut [u8], area: &mut [u8]) {
+fn answer_rest<R: Files, W: Write>(
+    rt: &R,
+    out: &mut W,
+    line: &[u8],
+    held: usize,
+    file: &mut [u8],
+    widths: &mut [u8],
+    area: &mut [u8],
+) -> Result<()> {
     if 0 < held {
-        answer_line(line, held, file, widths, area);
+        return answer_line(rt, out, line, held, file, widths, area);
     }
+    Ok(())
 }
 
 // How many bytes of a line that has not ended are held, after the lines that end in the block are answered.
-fn answer_block(
+fn answer_block<R: Files, W: Write>(
+    rt: &R,
+    out: &mut W,
     block: &[u8],
     line: &mut [u8],
     held: usize,
     file: &mut [u8],
     widths: &mut [u8],
     area: &mut [u8],
-) -> usize {
+) -> Result<usize> {
     let mut so_far = held;
-    let mut i: usize = 0;
-    while i < block.len() {
-        so_far = answer_byte(block[i], line, so_far, file, widths, area);
-        i += 1;
+    for byte in block {
+        so_far = answer_byte(rt, out, *byte, line, so_far, file, widths, area)?;
     }
-    so_far
+    Ok(so_far)
 }
 
 // How many bytes are held after a byte more: a line that it ends is answered.
-fn answer_byte(
+fn answer_byte<R: Files, W: Write>(
+    rt: &R,
+    out: &mut W,
     byte: u8,
     line: &mut [u8],
     held: usize,
     file: &mut [u8],
     widths: &mut [u8],
     area: &mut [u8],
-) -> usize {
+) -> Result<usize> {
     if byte == b'\n' {
-        answer_line(line, held, file, widths, area);
-        return 0;
+        answer_line(rt, out, line, held, file, widths, area)?;
+        return Ok(0);
     }
-    with_byte(line, held, byte)
+    Ok(with_byte(line, held, byte))
 }
 
 // A line with a byte more. One that is longer than its buffer counts as one byte longer, whatever follows.
@@ -87,10 +125,17 @@ fn with_byte(line: &mut [u8], length: usize, byte: u8) -> usize {
     line.len() + 1
 }
 
-fn answer_line(line: &[u8], length: usize, file: &mut [u8], widths: &mut [u8], area: &mut [u8]) {
+fn answer_line<R: Files, W: Write>(
+    rt: &R,
+    out: &mut W,
+    line: &[u8],
+    length: usize,
+    file: &mut [u8],
+    widths: &mut [u8],
+    area: &mut [u8],
+) -> Result<()> {
     if line.len() < length {
-        asking::no_input();
-        return;
+        return asking::no_input(out);
     }
-    questions::answer(&line[..length], file, widths, area);
+    questions::answer(rt, out, &line[..length], file, widths, area)
 }

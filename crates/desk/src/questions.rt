@@ -2,6 +2,8 @@
 use asking::lines;
 use filling::forms_asked::Form;
 use filling::{cuts_asked, fonts_asked, forms_asked, pages_asked};
+use std::fs::Files;
+use std::io::{Result, Write};
 use telling::{files_asked, numbers_asked, tables_asked};
 
 #[derive(Clone, Copy)]
@@ -26,22 +28,16 @@ enum Question {
 fn question_of(line: &[u8]) -> Question {
     let name = lines::word(line, 0);
     let count = lines::word_count(line);
-    if check::same(name, b"cut") {
+    if name == b"cut".as_slice() {
         return cut_of(count);
     }
-    if count == 2 {
-        return of_two(name);
+    match count {
+        2 => of_two(name),
+        3 => of_three(name),
+        4 => of_four(name),
+        6 => of_six(name),
+        _ => Question::Nothing,
     }
-    if count == 3 {
-        return of_three(name);
-    }
-    if count == 4 {
-        return of_four(name);
-    }
-    if count == 6 {
-        return of_six(name);
-    }
-    Question::Nothing
 }
 
 // `cut` has as many words as it likes behind its first three.
@@ -53,71 +49,62 @@ fn cut_of(count: usize) -> Question {
 }
 
 fn of_two(name: &[u8]) -> Question {
-    if check::same(name, b"check") {
-        return Question::Check;
+    match name {
+        b"check" => Question::Check,
+        b"table" => Question::Table,
+        _ => Question::Nothing,
     }
-    if check::same(name, b"table") {
-        return Question::Table;
-    }
-    Question::Nothing
 }
 
 fn of_three(name: &[u8]) -> Question {
-    if check::same(name, b"read") {
-        return Question::Read;
+    match name {
+        b"read" => Question::Read,
+        b"name" => Question::Name,
+        b"spell" => Question::Spell,
+        b"widen" => Question::Convert(Form::New),
+        b"narrow" => Question::Convert(Form::Old),
+        _ => Question::Nothing,
     }
-    if check::same(name, b"name") {
-        return Question::Name;
-    }
-    if check::same(name, b"spell") {
-        return Question::Spell;
-    }
-    if check::same(name, b"widen") {
-        return Question::Convert(Form::New);
-    }
-    if check::same(name, b"narrow") {
-        return Question::Convert(Form::Old);
-    }
-    Question::Nothing
 }
 
 fn of_four(name: &[u8]) -> Question {
-    if check::same(name, b"widths") {
-        return Question::Widths;
+    match name {
+        b"widths" => Question::Widths,
+        _ => Question::Nothing,
     }
-    Question::Nothing
 }
 
 fn of_six(name: &[u8]) -> Question {
-    if check::same(name, b"round") {
-        return Question::Round;
+    match name {
+        b"round" => Question::Round,
+        b"scale" => Question::Scale,
+        b"look" => Question::Look,
+        b"place" => Question::Place,
+        _ => Question::Nothing,
     }
-    if check::same(name, b"scale") {
-        return Question::Scale;
-    }
-    if check::same(name, b"look") {
-        return Question::Look;
-    }
-    if check::same(name, b"place") {
-        return Question::Place;
-    }
-    Question::Nothing
 }
 
-pub fn answer(line: &[u8], file: &mut [u8], widths: &mut [u8], area: &mut [u8]) {
+pub fn answer<R: Files, W: Write>(
+    rt: &R,
+    out: &mut W,
+    line: &[u8],
+    file: &mut [u8],
+    widths: &mut [u8],
+    area: &mut [u8],
+) -> Result<()> {
     match question_of(line) {
-        Question::Read => files_asked::read(line, file).print(),
-        Question::Check => files_asked::check(line, file).print(),
-        Question::Name => files_asked::name(line, file).print(),
-        Question::Spell => files_asked::spell(line, file),
-        Question::Round => numbers_asked::round(line).print(),
-        Question::Scale => numbers_asked::scale(line).print(),
-        Question::Table => tables_asked::table(line, widths).print(),
-        Question::Look => tables_asked::look(line, widths).print(),
-        Question::Widths => fonts_asked::widths(line, file, area),
-        Question::Convert(to) => forms_asked::convert(line, to, widths, area),
-        Question::Place => pages_asked::place(line, file, widths, area),
-        Question::Cut(pages) => cuts_asked::cut(line, pages, file, area),
-        Question::Nothing => asking::no_input(),
+        Question::Read => files_asked::read(rt, line, file).print(out),
+        Question::Check => files_asked::check(rt, line, file).print(out),
+        Question::Name => files_asked::name(rt, line, file).print(out),
+        Question::Spell => files_asked::spell(rt, out, line, file),
+        Question::Round => numbers_asked::round(line).print(out),
+        Question::Scale => numbers_asked::scale(line).print(out),
+        Question::Table => tables_asked::table(rt, line, widths).print(out),
+        Question::Look => tables_asked::look(rt, line, widths).print(out),
+        Question::Widths => fonts_asked::widths(rt, out, line, file, area),
+        Question::Convert(to) => forms_asked::convert(rt, out, line, to, widths, area),
+        Question::Place => pages_asked::place(rt, out, line, file, widths, area),
+        Question::Cut(pages) => cuts_asked::cut(rt, out, line, pages, file, area),
+        Question::Nothing => asking::no_input(out),
     }
 }

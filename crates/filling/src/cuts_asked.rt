@@ -5,23 +5,38 @@ use asking::{files, lines, words};
 use printing::line::Line;
 use printing::rows;
 use reader::PagesCut;
+use std::fs::Files;
+use std::io::{Result, Write};
 
 // cut FILE AREA-BYTES PAGE…, of so many pages
-pub fn cut(line: &[u8], pages: usize, file: &mut [u8], area: &mut [u8]) {
+pub fn cut<R: Files, W: Write>(
+    rt: &R,
+    out: &mut W,
+    line: &[u8],
+    pages: usize,
+    file: &mut [u8],
+    area: &mut [u8],
+) -> Result<()> {
     let mut list = [0u32; 1000];
-    cut_by(line, pages, &mut list, file, area);
+    cut_by(rt, out, line, pages, &mut list, file, area)
 }
 
-fn cut_by(line: &[u8], pages: usize, list: &mut [u32], file: &mut [u8], area: &mut [u8]) {
+fn cut_by<R: Files, W: Write>(
+    rt: &R,
+    out: &mut W,
+    line: &[u8],
+    pages: usize,
+    list: &mut [u32],
+    file: &mut [u8],
+    area: &mut [u8],
+) -> Result<()> {
     if list.len() < pages {
-        asking::no_input();
-        return;
+        return asking::no_input(out);
     }
     if !read_pages(line, &mut list[..pages]) {
-        asking::no_input();
-        return;
+        return asking::no_input(out);
     }
-    cut_listed(line, &list[..pages], file, area);
+    cut_listed(rt, out, line, &list[..pages], file, area)
 }
 
 // Whether the words from the fourth on are numbers of pages, as many as the list has; it takes them up.
@@ -40,31 +55,36 @@ fn read_pages(line: &[u8], list: &mut [u32]) -> bool {
     true
 }
 
-fn cut_listed(line: &[u8], list: &[u32], file: &mut [u8], area: &mut [u8]) {
+fn cut_listed<R: Files, W: Write>(
+    rt: &R,
+    out: &mut W,
+    line: &[u8],
+    list: &[u32],
+    file: &mut [u8],
+    area: &mut [u8],
+) -> Result<()> {
     let Unsigned::Is(room) = words::read_unsigned(word(line, 2), area.len() as u64) else {
-        asking::no_input();
-        return;
+        return asking::no_input(out);
     };
-    let found = files::read_whole(word(line, 1), file);
+    let found = files::read_whole(rt, word(line, 1), file);
     if !found.whole {
-        asking::no_input();
-        return;
+        return asking::no_input(out);
     }
     let length = found.length;
     let lent = room as usize;
-    made(&file[..length], list, &mut area[..lent]);
+    made(out, &file[..length], list, &mut area[..lent])
 }
 
-fn made(file: &[u8], list: &[u32], area: &mut [u8]) {
+fn made<W: Write>(out: &mut W, file: &[u8], list: &[u32], area: &mut [u8]) -> Result<()> {
     match reader::cut_pages(file, list, area) {
         PagesCut::Bytes(bytes) => {
-            rows::print(&area[..bytes], 32);
+            rows::print(out, &area[..bytes], 32)?;
             Line::empty()
                 .text(b"end")
                 .count(bytes as u64)
                 .text(b"\n")
-                .print();
+                .print(out)
         }
-        PagesCut::Refused { number, place } => printing::refused(number, place),
+        PagesCut::Refused { number, place } => printing::refused(out, number, place),
     }
 }

@@ -4,36 +4,47 @@ use asking::lines::word;
 use asking::words::{Unsigned, Unsigned32};
 use asking::{files, words};
 use reader::TableMade;
+use std::fs::Files;
+use std::io::{Result, Write};
 use widths::table;
 
 // widths PK SCALE AREA-BYTES
-pub fn widths(line: &[u8], file: &mut [u8], area: &mut [u8]) {
+pub fn widths<R: Files, W: Write>(
+    rt: &R,
+    out: &mut W,
+    line: &[u8],
+    file: &mut [u8],
+    area: &mut [u8],
+) -> Result<()> {
     let most = rooms::for_records(area.len());
     let Unsigned::Is(room) = words::read_unsigned(word(line, 3), most as u64) else {
-        asking::no_input();
-        return;
+        return asking::no_input(out);
     };
     let lent = room as usize;
-    widths_in(line, file, &mut area[..lent]);
+    widths_in(rt, out, line, file, &mut area[..lent])
 }
 
-fn widths_in(line: &[u8], file: &mut [u8], area: &mut [u8]) {
+fn widths_in<R: Files, W: Write>(
+    rt: &R,
+    out: &mut W,
+    line: &[u8],
+    file: &mut [u8],
+    area: &mut [u8],
+) -> Result<()> {
     let Unsigned32::Is(scale) = words::read_unsigned32(word(line, 2)) else {
-        asking::no_input();
-        return;
+        return asking::no_input(out);
     };
-    let found = files::read_whole(word(line, 1), file);
+    let found = files::read_whole(rt, word(line, 1), file);
     if !found.whole {
-        asking::no_input();
-        return;
+        return asking::no_input(out);
     }
     let length = found.length;
-    made(&file[..length], scale, area);
+    made(out, &file[..length], scale, area)
 }
 
-fn made(pk: &[u8], scale: u32, area: &mut [u8]) {
+fn made<W: Write>(out: &mut W, pk: &[u8], scale: u32, area: &mut [u8]) -> Result<()> {
     match reader::width_table(pk, scale, area) {
-        TableMade::Records(records) => records::print(area, records, table::RECORD_SIZE),
-        TableMade::Refused { number, place } => printing::refused(number, place),
+        TableMade::Records(records) => records::print(out, area, records, table::RECORD_SIZE),
+        TableMade::Refused { number, place } => printing::refused(out, number, place),
     }
 }

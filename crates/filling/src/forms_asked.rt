@@ -5,6 +5,8 @@ use asking::words::Unsigned;
 use asking::{files, words};
 use converting::old;
 use reader::TableMade;
+use std::fs::Files;
+use std::io::{Result, Write};
 use widths::table;
 
 #[derive(Clone, Copy)]
@@ -14,39 +16,51 @@ pub enum Form {
 }
 
 // widen TABLE AREA-BYTES, narrow TABLE AREA-BYTES
-pub fn convert(line: &[u8], to: Form, widths: &mut [u8], area: &mut [u8]) {
+pub fn convert<R: Files, W: Write>(
+    rt: &R,
+    out: &mut W,
+    line: &[u8],
+    to: Form,
+    widths: &mut [u8],
+    area: &mut [u8],
+) -> Result<()> {
     let most = rooms::for_records(area.len());
     let Unsigned::Is(room) = words::read_unsigned(word(line, 2), most as u64) else {
-        asking::no_input();
-        return;
+        return asking::no_input(out);
     };
     let lent = room as usize;
-    convert_in(line, to, widths, &mut area[..lent]);
+    convert_in(rt, out, line, to, widths, &mut area[..lent])
 }
 
-fn convert_in(line: &[u8], to: Form, widths: &mut [u8], area: &mut [u8]) {
-    let found = files::read_whole(word(line, 1), widths);
+fn convert_in<R: Files, W: Write>(
+    rt: &R,
+    out: &mut W,
+    line: &[u8],
+    to: Form,
+    widths: &mut [u8],
+    area: &mut [u8],
+) -> Result<()> {
+    let found = files::read_whole(rt, word(line, 1), widths);
     if !found.whole {
-        asking::no_input();
-        return;
+        return asking::no_input(out);
     }
     let length = found.length;
     match to {
-        Form::New => widened(&widths[..length], area),
-        Form::Old => narrowed(&widths[..length], area),
+        Form::New => widened(out, &widths[..length], area),
+        Form::Old => narrowed(out, &widths[..length], area),
     }
 }
 
-fn widened(old: &[u8], area: &mut [u8]) {
+fn widened<W: Write>(out: &mut W, old: &[u8], area: &mut [u8]) -> Result<()> {
     match reader::widen_table(old, area) {
-        TableMade::Records(records) => records::print(area, records, table::RECORD_SIZE),
-        TableMade::Refused { number, place } => printing::refused(number, place),
+        TableMade::Records(records) => records::print(out, area, records, table::RECORD_SIZE),
+        TableMade::Refused { number, place } => printing::refused(out, number, place),
     }
 }
 
-fn narrowed(widths: &[u8], area: &mut [u8]) {
+fn narrowed<W: Write>(out: &mut W, widths: &[u8], area: &mut [u8]) -> Result<()> {
     match reader::narrow_table(widths, area) {
-        TableMade::Records(records) => records::print(area, records, old::RECORD_SIZE),
-        TableMade::Refused { number, place } => printing::refused(number, place),
+        TableMade::Records(records) => records::print(out, area, records, old::RECORD_SIZE),
+        TableMade::Refused { number, place } => printing::refused(out, number, place),
     }
 }

@@ -1,6 +1,6 @@
 -- The test of two lists of bytes: only equal lists pass it, and it goes byte by byte. Assumes nothing.
 use mathlib.Core.Path.{◌≡◌, refl, sym, ap, ◌∙◌}
-use mathlib.Core.Bool.{Bool, true, false, not, ◌&&◌, and-true, and_false}
+use mathlib.Core.Bool.{Bool, true, false, not, ◌&&◌, and-true, and-false}
 use mathlib.Core.List.{List, [], ◌∷◌}
 use Prim.Native.Nat.{ℕ, suc, ◌+◌, ◌<◌, ◌≤◌}
 use native.Mathlib.Numerals.{add-one}
@@ -28,7 +28,7 @@ unfolding same_bytes
 other_length [] [] unequal = absurd (unequal refl)
 other_length [] (y ∷ ys) unequal = refl
 other_length (x ∷ xs) [] unequal = refl
-other_length (x ∷ xs) (y ∷ ys) unequal = rw (← other_length xs ys (λ e. unequal (ap suc e))) (sym (and_false (eqb x y)))
+other_length (x ∷ xs) (y ∷ ys) unequal = rw (← other_length xs ys (λ e. unequal (ap suc e))) (sym (and-false (eqb x y)))
 
 -- ---- byte by byte
 
@@ -48,7 +48,7 @@ module _ (xs ys : List ℕ) (differ : Bool) (at : ℕ) (long : length xs ≡ len
 
     -- after another byte all is decided
     pub one_other : (get_or xs at 0 ≡ get_or ys at 0 → ⊥) → Decides xs ys true (at + 1)
-    one_other unequal = sym (and_false (not differ)) ∙ (rw (one_by_one, ne_eqb (get_or xs at 0) (get_or ys at 0) unequal) at so_far)
+    one_other unequal = sym (and-false (not differ)) ∙ (rw (one_by_one, ne_eqb (get_or xs at 0) (get_or ys at 0) unequal) at so_far)
 
     pub one_same : get_or xs at 0 ≡ get_or ys at 0 → Decides xs ys differ (at + 1)
     one_same equal = rw (one_by_one, eq-eqb (get_or xs at 0) (get_or ys at 0) equal) at so_far

@@ -7,15 +7,17 @@ use asking::{files, words};
 use printing::line;
 use printing::line::Line;
 use reader::{CommandRead, FileChecked};
+use std::fs::Files;
+use std::io::{Result, Write};
 
 // read FILE AT
-pub fn read(line: &[u8], file: &mut [u8]) -> Line
+pub fn read<R: Files>(rt: &R, line: &[u8], file: &mut [u8]) -> Line
     ensures { result.length ≤ 160 }
 {
     let Unsigned::Is(at) = words::read_unsigned(word(line, 2), 18446744073709551615) else {
         return asking::no_input_line();
     };
-    let found = files::read_whole(word(line, 1), file);
+    let found = files::read_whole(rt, word(line, 1), file);
     if !found.whole {
         return asking::no_input_line();
     }
@@ -42,10 +44,10 @@ fn command(file: &[u8], at: usize) -> Line
 }
 
 // check FILE
-pub fn check(line: &[u8], file: &mut [u8]) -> Line
+pub fn check<R: Files>(rt: &R, line: &[u8], file: &mut [u8]) -> Line
     ensures { result.length ≤ 160 }
 {
-    let found = files::read_whole(word(line, 1), file);
+    let found = files::read_whole(rt, word(line, 1), file);
     if !found.whole {
         return asking::no_input_line();
     }
@@ -74,13 +76,13 @@ fn checked(file: &[u8]) -> Line
 }
 
 // name FILE FONT
-pub fn name(line: &[u8], file: &mut [u8]) -> Line
+pub fn name<R: Files>(rt: &R, line: &[u8], file: &mut [u8]) -> Line
     ensures { result.length ≤ 160 }
 {
     let Signed32::Is(font) = words::read_signed32(word(line, 2)) else {
         return asking::no_input_line();
     };
-    let found = files::read_whole(word(line, 1), file);
+    let found = files::read_whole(rt, word(line, 1), file);
     if !found.whole {
         return asking::no_input_line();
     }
@@ -106,32 +108,34 @@ fn named(file: &[u8], font: i32) -> Line
 }
 
 // spell FILE FONT, whose answer can be longer than a line holds: it is printed as it is found
-pub fn spell(line: &[u8], file: &mut [u8]) {
+pub fn spell<R: Files, W: Write>(
+    rt: &R,
+    out: &mut W,
+    line: &[u8],
+    file: &mut [u8],
+) -> Result<()> {
     let Signed32::Is(font) = words::read_signed32(word(line, 2)) else {
-        asking::no_input();
-        return;
+        return asking::no_input(out);
     };
-    let found = files::read_whole(word(line, 1), file);
+    let found = files::read_whole(rt, word(line, 1), file);
     if !found.whole {
-        asking::no_input();
-        return;
+        return asking::no_input(out);
     }
     let length = found.length;
-    spelled(&file[..length], font);
+    spelled(out, &file[..length], font)
 }
 
-fn spelled(file: &[u8], font: i32) {
+fn spelled<W: Write>(out: &mut W, file: &[u8], font: i32) -> Result<()> {
     let mut number: u8 = 0;
     let mut place: usize = 0;
     let name = reader::font_name(file, font, &mut number, &mut place);
     if number != 0 {
-        printing::refused(number, place);
-        return;
+        return printing::refused(out, number, place);
     }
-    printing::text(b"spelled ");
+    printing::text(out, b"spelled ")?;
     if name.len() == 0 {
-        printing::text(b"-");
+        printing::text(out, b"-")?;
     }
-    printing::hexadecimal(name);
-    printing::text(b"\n");
+    printing::hexadecimal(out, name)?;
+    printing::text(out, b"\n")
 }

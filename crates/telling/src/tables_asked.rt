@@ -7,12 +7,13 @@ use asking::{files, spelled, words};
 use printing::line;
 use printing::line::Line;
 use reader::{LookedUp, TableChecked};
+use std::fs::Files;
 
 // table TABLE
-pub fn table(line: &[u8], widths: &mut [u8]) -> Line
+pub fn table<R: Files>(rt: &R, line: &[u8], widths: &mut [u8]) -> Line
     ensures { result.length ≤ 160 }
 {
-    let found = files::read_whole(word(line, 1), widths);
+    let found = files::read_whole(rt, word(line, 1), widths);
     if !found.whole {
         return asking::no_input_line();
     }
@@ -33,7 +34,7 @@ fn checked(widths: &[u8]) -> Line
 }
 
 // look TABLE CHECKSUM SCALE NAME CODE, of a name of 255 bytes at most
-pub fn look(line: &[u8], widths: &mut [u8]) -> Line
+pub fn look<R: Files>(rt: &R, line: &[u8], widths: &mut [u8]) -> Line
     ensures { result.length ≤ 160 }
 {
     let mut name = [0u8; 255];
@@ -42,10 +43,10 @@ pub fn look(line: &[u8], widths: &mut [u8]) -> Line
         return asking::no_input_line();
     }
     let count = said.length;
-    look_named(line, &name[..count], widths)
+    look_named(rt, line, &name[..count], widths)
 }
 
-fn look_named(line: &[u8], name: &[u8], widths: &mut [u8]) -> Line
+fn look_named<R: Files>(rt: &R, line: &[u8], name: &[u8], widths: &mut [u8]) -> Line
     ensures { result.length ≤ 160 }
 {
     let Unsigned32::Is(checksum) = words::read_unsigned32(word(line, 2)) else {
@@ -57,7 +58,7 @@ fn look_named(line: &[u8], name: &[u8], widths: &mut [u8]) -> Line
     let Signed32::Is(code) = words::read_signed32(word(line, 5)) else {
         return asking::no_input_line();
     };
-    let found = files::read_whole(word(line, 1), widths);
+    let found = files::read_whole(rt, word(line, 1), widths);
     if !found.whole {
         return asking::no_input_line();
     }

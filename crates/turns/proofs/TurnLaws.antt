@@ -8,7 +8,7 @@ use native.Mathlib.Omega.{arith}
 use lib.Dec.{leb, eqb}
 use lib.ListN.{length, get_or}
 use lib.IntN.{ℤ, nat_abs, ◌+ℤ◌}
-use borrow.Author.Tests.{leb-true, not_true}
+use borrow.Author.Tests.{leb-true, not-true}
 use Rattle.numbers.specs.Bytes.{unsigned_at}
 use Rattle.numbers.proofs.Bytes.{power_le, unsigned_below}
 use Rattle.numbers.proofs.Signed.{abs_cond, from_small}
@@ -89,6 +89,32 @@ only_turns Kind.Pre = true
 only_turns Kind.Post = true
 only_turns Kind.PostPost = true
 only_turns Kind.Undefined = true
+
+-- one that is none of the six others
+pub turns_alone : (k : Kind) → (k ≡ Kind.SetCharacter → ⊥) → (k ≡ Kind.SetRule → ⊥) → (k ≡ Kind.PutCharacter → ⊥) → (k ≡ Kind.PutRule → ⊥) → (k ≡ Kind.Select → ⊥) → (k ≡ Kind.Special → ⊥)
+    → only_turns k ≡ true
+turns_alone Kind.SetCharacter sets sets-rule puts puts-rule selects special = absurd (sets refl)
+turns_alone Kind.SetRule sets sets-rule puts puts-rule selects special = absurd (sets-rule refl)
+turns_alone Kind.PutCharacter sets sets-rule puts puts-rule selects special = absurd (puts refl)
+turns_alone Kind.PutRule sets sets-rule puts puts-rule selects special = absurd (puts-rule refl)
+turns_alone Kind.Nop sets sets-rule puts puts-rule selects special = refl
+turns_alone Kind.Bop sets sets-rule puts puts-rule selects special = refl
+turns_alone Kind.Eop sets sets-rule puts puts-rule selects special = refl
+turns_alone Kind.Push sets sets-rule puts puts-rule selects special = refl
+turns_alone Kind.Pop sets sets-rule puts puts-rule selects special = refl
+turns_alone Kind.Right sets sets-rule puts puts-rule selects special = refl
+turns_alone Kind.W sets sets-rule puts puts-rule selects special = refl
+turns_alone Kind.X sets sets-rule puts puts-rule selects special = refl
+turns_alone Kind.Down sets sets-rule puts puts-rule selects special = refl
+turns_alone Kind.Y sets sets-rule puts puts-rule selects special = refl
+turns_alone Kind.Z sets sets-rule puts puts-rule selects special = refl
+turns_alone Kind.Select sets sets-rule puts puts-rule selects special = absurd (selects refl)
+turns_alone Kind.Special sets sets-rule puts puts-rule selects special = absurd (special refl)
+turns_alone Kind.Define sets sets-rule puts puts-rule selects special = refl
+turns_alone Kind.Pre sets sets-rule puts puts-rule selects special = refl
+turns_alone Kind.Post sets sets-rule puts puts-rule selects special = refl
+turns_alone Kind.PostPost sets sets-rule puts puts-rule selects special = refl
+turns_alone Kind.Undefined sets sets-rule puts puts-rule selects special = refl
 
 module _ (setting : Setting) (level : Level) (saved : List Level) (font : Font) (c : Command) where
   abbrev s : State
@@ -225,7 +251,7 @@ move_fits c w is_a_move =
     let k = kind_of_command c in
     let short = implied (is_move k) (leb (fixed_by k (last k)) 4) (on_kinds (λ j. is_move j && not (leb (fixed_by j (last j)) 4)) (λ j. false) refl k) is_a_move in
     let plain = implied (is_move k) (not (has_inner k)) (on_kinds (λ j. is_move j && not (not (has_inner j))) (λ j. false) refl k) is_a_move in
-    omega (arith, whole_at_most c w refl (not_true (has_inner k) plain), leb-true (fixed_by k (last k)) 4 short)
+    omega (arith, whole_at_most c w refl (not-true (has_inner k) plain), leb-true (fixed_by k (last k)) 4 short)
 
 -- ---- what a command of a kind asks
 

@@ -1,0 +1,17 @@
+-- `list::fonts::same_definition` meets its contract: the part that is compared holds what the definition says. Assumes nothing.
+use mathlib.Core.Path.{ap, ◌∙◌}
+use mathlib.Core.List.{List}
+use Prim.Native.Nat.{ℕ, ◌-◌}
+use lib.ListN.{take, drop}
+use borrow.Author.Rules.{rules}
+use Rattle.list.specs.declared.Part.{Part}
+use Rattle.list.specs.Rules.{same_bytes}
+use Rattle.list.proofs.Sayings.{part_says}
+use Rattle.list.proofs.fonts.same_definition.Goals as goal
+
+pub returns : goal.returns
+returns c = λ d rest ahead define.
+    let a = c.args in
+    c.same_bytes.ensures
+    ∙ ap (λ (part : Part). same_bytes (take (part.end - part.start) (drop part.start a.file.now)) a.said.now) (c.saying_at-part.ensures.2 d rest ahead define)
+    ∙ ap (λ (bytes : List ℕ). same_bytes bytes a.said.now) (part_says a.file.now a.at ahead define)
