@@ -27,8 +27,12 @@ abbrev lawful : Stage → Kind → Bool × Bool × Bool × Bool
 lawful at kind = (is kind Post || is_after_post at, false, false, false)
 
 all_lawful : (at : Stage) (kind : Kind) → compared does lawful at kind ≡ lawful at kind
-all_lawful at =
-    on_kinds (compared does lawful at) (lawful at) (elim at [ AtStart ↦ refl | BeforePages ↦ refl | OnPage ↦ refl | BetweenPages ↦ refl | AfterPost ↦ refl | AfterEnd ↦ refl ])
+all_lawful AtStart = on_kinds (compared does lawful AtStart) (lawful AtStart) refl
+all_lawful BeforePages = on_kinds (compared does lawful BeforePages) (lawful BeforePages) refl
+all_lawful OnPage = on_kinds (compared does lawful OnPage) (lawful OnPage) refl
+all_lawful BetweenPages = on_kinds (compared does lawful BetweenPages) (lawful BetweenPages) refl
+all_lawful AfterPost = on_kinds (compared does lawful AfterPost) (lawful AfterPost) refl
+all_lawful AfterEnd = on_kinds (compared does lawful AfterEnd) (lawful AfterEnd) refl
 
 module _ {past : List Command} {c : Command} (allowed : Allowed past c) where
   so : does (stage past) (kind_of_command c) ≡ lawful (stage past) (kind_of_command c)

@@ -1,4 +1,5 @@
 -- What the file of chosen pages is to the other entries, over their contracts: it is accepted, its pages place as before, and its fonts have their names. Assumes nothing.
+use Rattle.std.proofs.Common.{Bor, MutBor}
 use Prim.Native.Nat.{ℕ, zero, suc, ◌+◌}
 use mathlib.Core.Path.{◌≡◌, refl, sym, ap, ◌∙◌}
 use mathlib.Core.Bool.{Bool, true, false}
@@ -89,7 +90,7 @@ module _ (file list : List ℕ) (s : Summary) (accepted : judged file ≡ given 
   new = cut_file file list
 
   -- its check: as many pages as were chosen, the old file's fonts, the greatest depth of the chosen pages
-  pub new_file_checked : (κs : Lfts 1) → (again : _) → (r : FileChecked) → (x : _) → again.now ≡ new → check-file.Post κs (again, tt) r x
+  pub new_file_checked : (κs : Lfts 1) → (again : Bor (List ℕ)) → (r : FileChecked) → (x : _) → again.now ≡ new → check-file.Post κs (again, tt) r x
       → file_answer r
       ≡ given (record {
         pages = length list;
@@ -100,7 +101,7 @@ module _ (file list : List ℕ) (s : Summary) (accepted : judged file ≡ given 
   new_file_checked κs again r x is post = post.0 ∙ ap judged is ∙ cut_accepted_lem file s accepted bytes list right
 
   -- placing its n-th page: what placing the n-th page of the list answers in the old file, with the new page number in each record, and 16 at the same command's new place
-  pub new_page_placed : (front : List ℕ) (page : ℕ) (rest : List ℕ) → list ≡ front ++ (page ∷ rest) → (κs : Lfts 3) → (again table area : _) → (resolution : ℕ) → (r : Placed) → (x : _)
+  pub new_page_placed : (front : List ℕ) (page : ℕ) (rest : List ℕ) → list ≡ front ++ (page ∷ rest) → (κs : Lfts 3) → (again table : Bor (List ℕ)) → (area : MutBor (List ℕ)) → (resolution : ℕ) → (r : Placed) → (x : _)
       → again.now ≡ new → place-page.Post κs (again, (table, (resolution, (length front + 1, (area, tt))))) r x
       → (placed_answer r
       ≡ placed_counts (renumbered (length front + 1) (new_place (is_in list) (history file)) (placed_page file table.now resolution page (length area.now))))
@@ -144,7 +145,7 @@ module _ (file list : List ℕ) (s : Summary) (accepted : judged file ≡ given 
       refused_too (stands at c) e same q = absurd (given_not_refused (name_part at c) number place q)
 
   -- font_name, of the old file and of the new one: the same bytes and the same number, and where it is refused the same place
-  pub new_font_named : (κs κs' : Lfts 3) → (lent again : _) → (font : ℤ) → (n p n' p' r r' x y : _) → lent.now ≡ file → again.now ≡ new
+  pub new_font_named : (κs κs' : Lfts 3) → (lent again : Bor (List ℕ)) → (font : ℤ) → (n p n' p' r r' x y : _) → lent.now ≡ file → again.now ≡ new
       → font-name.Post κs (lent, (font, (n, (p, tt)))) r x → font-name.Post κs' (again, (font, (n', (p', tt)))) r' y
       → (r'.now ≡ r.now) × (y.1.1.0.now ≡ x.1.1.0.now) × ((x.1.1.0.now ≡ 0 → ⊥) → y.1.1.1.0.now ≡ x.1.1.1.0.now)
   new_font_named κs κs' lent again font n p n' p' r r' x y is-old is-new post post' =

@@ -28,6 +28,7 @@ use Rattle.promises.specs.Fonts.{Among, first, later, Rising, none, more, OneFor
 
 module _ {A : Type 0} where
   among_left : (x : A) (xs ys : List A) → Among x xs → Among x (xs ++ ys)
+  among_left x [] ys a = elim a [ ]
   among_left x (y ∷ xs) ys first = first
   among_left x (y ∷ xs) ys (later a) = later (among_left x xs ys a)
 
@@ -54,10 +55,12 @@ among_split x (y ∷ xs) ys (later a) = go (among_split x xs ys a)
     go (behind b) = behind b
 
 among_map : (f : Command → Entry) (c : Command) (cs : List Command) → Among c cs → Among (f c) (map f cs)
+among_map f c [] a = elim a [ ]
 among_map f c (d ∷ cs) first = first
 among_map f c (d ∷ cs) (later a) = later (among_map f c cs a)
 
 map_among : (f : Command → Entry) (e : Entry) (cs : List Command) → Among e (map f cs) → (c : Command) × Among c cs × (e ≡ f c)
+map_among f e [] a = elim a [ ]
 map_among f e (d ∷ cs) first = (d, first, refl)
 map_among f e (d ∷ cs) (later a) = let (c, b, same) = map_among f e cs a in (c, later b, same)
 
@@ -65,6 +68,7 @@ map_among f e (d ∷ cs) (later a) = let (c, b, same) = map_among f e cs a in (c
 
 -- a packet is one of those for its code
 for_code : (c : Command) (past : List Command) → Among c past → is_packet c.opcode ≡ true → Among c (packets_for (code_in c.opcode c.params) past)
+for_code c [] a flag = elim a [ ]
 for_code c (d ∷ past) first flag = rw (flag, eq-eqb (code_in c.opcode c.params) (code_in c.opcode c.params) refl) first
 for_code c (d ∷ past) (later a) flag = go (is_packet_for (code_in c.opcode c.params) d) (for_code c past a flag)
   where
@@ -86,6 +90,7 @@ among_from c past k (suc left) code low high a = go (eqb code k) refl (λ low-ne
 
 -- a packet of a file that was judged has a code below 256
 code_small : (pk : List ℕ) (past : List Command) → Standing pk past → (c : Command) → Among c past → is_packet c.opcode ≡ true → code_in c.opcode c.params < 256
+code_small pk [] _ c a flag = elim a [ ]
 code_small pk (d ∷ past) (standing.more opcode rest stand here fits right) c first flag = (packet_right past (taken opcode rest) right flag).code_small
 code_small pk (d ∷ past) (standing.more opcode rest stand here fits right) c (later a) flag = code_small pk past stand c a flag
 
@@ -93,6 +98,7 @@ code_small pk (d ∷ past) (standing.more opcode rest stand here fits right) c (
 
 -- what is for a code is a packet of the list
 from_for : (c : Command) (code : ℕ) (past : List Command) → Among c (packets_for code past) → Among c past × (is_packet c.opcode ≡ true)
+from_for c code [] a = elim a [ ]
 from_for c code (d ∷ past) a = go (is_packet_for code d) refl a (from_for c code past)
   where
     go : (b : Bool) → is_packet_for code d ≡ b → Among c (cond b (d ∷ packets_for code past) (packets_for code past)) → (Among c (packets_for code past) → Among c past × (is_packet c.opcode ≡ true))
@@ -106,6 +112,7 @@ from_for c code (d ∷ past) a = go (is_packet_for code d) refl a (from_for c co
     go false e a before = let r = before a in (later r.0, r.1)
 
 pub from_all : (c : Command) (past : List Command) (left code : ℕ) → Among c (packets_from left code past) → Among c past × (is_packet c.opcode ≡ true)
+from_all c past zero code a = elim a [ ]
 from_all c past (suc left) code a = go (among_split c (packets_for code past) (packets_from left (suc code) past) a) (from_all c past left (suc code))
   where
     go : Either c (packets_for code past) (packets_from left (suc code) past) → (Among c (packets_from left (suc code) past) → Among c past × (is_packet c.opcode ≡ true))

@@ -44,6 +44,7 @@ use Rattle.promises.proofs.FontTables.{Alike, no_entry, an_entry, alike_checks, 
 
 fits_among : (pk : List ℕ) (past : List Command) → Standing pk past → (checksum scale : ℕ) → lawful_size scale ≡ true → (c : Command) → Among c past → is_packet c.opcode ≡ true
     → Fits (entry_of checksum scale c)
+fits_among pk [] _ checksum scale lawful c a flag = elim a [ ]
 fits_among pk (d ∷ past) (standing.more opcode rest stand here fits right) checksum scale lawful c first flag =
     let whole = packet_right past (taken opcode rest) right flag in
     record { scale_right = lawful; code_is_byte = whole.code_small; first_right = whole.first_right; escapement_right = whole.escapement_right }

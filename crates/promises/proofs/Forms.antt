@@ -1,5 +1,6 @@
 -- Width tables in their other form: what calls of widen_table and narrow_table give, and that what they give is to the other entries what it was. Stated of the
 -- contracts themselves. Assumes nothing.
+use Rattle.std.proofs.Common.{Bor, MutBor}
 use Prim.Native.Nat.{ℕ, ◌*◌, ◌≤◌}
 use mathlib.Core.Path.{◌≡◌, sym, ap, fun_ext, subst, ◌∙◌}
 use mathlib.Core.Bool.{Bool}
@@ -103,12 +104,12 @@ module _ (old : List ℕ) (records : ℕ) (right : old_table old ≡ given recor
   new = in_form 0 name_size records old
 
   -- the check finds it right, with as many records
-  pub widened_table_checked : Bytes old → (κs : Lfts 1) → (table : _) → (r : TableChecked) → (x : _) → table.now ≡ in_form 0 name_size records old → check-table.Post κs (table, tt) r x
+  pub widened_table_checked : Bytes old → (κs : Lfts 1) → (table : Bor (List ℕ)) → (r : TableChecked) → (x : _) → table.now ≡ in_form 0 name_size records old → check-table.Post κs (table, tt) r x
       → table_answer r ≡ given records
   widened_table_checked bytes κs table r x is post = post ∙ ap checked_table is ∙ widened_right old records bytes right
 
   -- it goes back where the area has room
-  pub widened_table_taken_back : Bytes old → (κs : Lfts 2) → (table area : _) → (r : TableMade) → (x : _) → table.now ≡ in_form 0 name_size records old → records * size_with 0 ≤ length area.now
+  pub widened_table_taken_back : Bytes old → (κs : Lfts 2) → (table : Bor (List ℕ)) → (area : MutBor (List ℕ)) → (r : TableMade) → (x : _) → table.now ≡ in_form 0 name_size records old → records * size_with 0 ≤ length area.now
       → narrow-table.Post κs (table, (area, tt)) r x → r ≡ TableMade.Records records
   widened_table_taken_back bytes κs table area r x is room post =
       made_one_to_one r (TableMade.Records records)
@@ -116,7 +117,7 @@ module _ (old : List ℕ) (records : ℕ) (right : old_table old ≡ given recor
       ∙ ap (λ (short : Bool). refuse_if short area_too_short 0 (given records)) (le-ltb (length area.now) (records * size_with 0) room))
 
   -- it is narrowed to the old table, byte by byte
-  pub widened_table_narrowed : (κs : Lfts 2) → (table area : _) → (count : ℕ) → (x : _) → Bytes old → table.now ≡ in_form 0 name_size records old
+  pub widened_table_narrowed : (κs : Lfts 2) → (table : Bor (List ℕ)) → (area : MutBor (List ℕ)) → (count : ℕ) → (x : _) → Bytes old → table.now ≡ in_form 0 name_size records old
       → narrow-table.Post κs (table, (area, tt)) (TableMade.Records count) x
       → (count ≡ records) × (take (records * size_with 0) x.1.0.now ≡ old)
   widened_table_narrowed κs table area count x bytes is post =
@@ -145,7 +146,7 @@ module _ (old : List ℕ) (records : ℕ) (right : old_table old ≡ given recor
       ∙ ap (λ (a : Answer ℕ). by a (old_look old)) (sym right)
 
   -- the same of a call: its counts or its refusal, and every byte of the area
-  pub widened_page_placed : Bytes old → (κs : Lfts 3) → (file table area : _) → (resolution page : ℕ) → (r : Placed) → (x : _) → table.now ≡ in_form 0 name_size records old
+  pub widened_page_placed : Bytes old → (κs : Lfts 3) → (file table : Bor (List ℕ)) → (area : MutBor (List ℕ)) → (resolution page : ℕ) → (r : Placed) → (x : _) → table.now ≡ in_form 0 name_size records old
       → place-page.Post κs (file, (table, (resolution, (page, (area, tt))))) r x
       → (placed_answer r ≡ placed_counts (old_placed_page file.now old resolution page (length area.now)))
       × (x.1.1.1.1.0.now ≡ area_after area.now (old_placed_page file.now old resolution page (length area.now)))

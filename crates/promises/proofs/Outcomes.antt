@@ -32,7 +32,7 @@ check_file_outcomes κs a r s x y p q = file_one_to_one r s (p.0 ∙ sym q.0)
 
 -- of a part of the caller's file: what it holds, where it stands, and the number and the place that are told with it
 pub font_name_outcomes : (κs : Lfts 3) → (a : _) → (r s : _) → (x y : _) → font-name.Post κs a r x → font-name.Post κs a s y
-    → (r.now ≡ s.now) × (r.ptr ≡ s.ptr) × (x.1.1.0.now ≡ y.1.1.0.now) × (x.1.1.1.0.now ≡ y.1.1.1.0.now)
+    → (r.now ≡ s.now) × (r.ref_ptr ≡ s.ref_ptr) × (x.1.1.0.now ≡ y.1.1.0.now) × (x.1.1.1.0.now ≡ y.1.1.1.0.now)
 font_name_outcomes κs a r s x y p q =
     let told = name_one_to_one _ _ _ _ _ _ (p.1.1.0 ∙ sym q.1.1.0) in
     (p.0 ∙ sym q.0, p.1.0 ∙ sym q.1.0, told.0, told.1)

@@ -9,7 +9,7 @@ use native.Mathlib.Omega.{arith}
 use lib.Dec.{leb, eqb}
 use lib.IntN.{ℤ}
 use lib.ListN.{length, replicate, length-replicate, get_or-replicate}
-use borrow.Author.Tests.{leb-true, eqb-true, not_true}
+use borrow.Author.Tests.{leb-true, eqb-true, not-true}
 use Rattle.refusals.specs.Answer.{given}
 use Rattle.numbers.specs.Bytes.{unsigned_at}
 use Rattle.names.specs.Names.{name_size, name_number, has_zero, fits_record, sought_name}
@@ -133,7 +133,7 @@ module _ (name : List ℕ) (fits : fits_record name ≡ true) where
   short = leb-true (length name) 16 ((and-eq-true_iff (leb (length name) name_size) (not (has_zero name))).0 fits).0
 
   no_zero : has_zero name ≡ false
-  no_zero = not_true (has_zero name) ((and-eq-true_iff (leb (length name) name_size) (not (has_zero name))).0 fits).1
+  no_zero = not-true (has_zero name) ((and-eq-true_iff (leb (length name) name_size) (not (has_zero name))).0 fits).1
 
   sought_number : name_number (sought_name name) ≡ unsigned_at (padded name short) 0 16
   sought_number = sym (ap name_number (without_zero name short no_zero)) ∙ number_at (padded name short) 0

@@ -128,8 +128,12 @@ lawful at kind = (is kind Bop || begun at, false, false)
 
 -- all kinds that may stand at a stage do as they should
 all_lawful : (at : Stage) (kind : Kind) → compared does lawful at kind ≡ lawful at kind
-all_lawful at =
-    on_kinds (compared does lawful at) (lawful at) (elim at [ AtStart ↦ refl | BeforePages ↦ refl | OnPage ↦ refl | BetweenPages ↦ refl | AfterPost ↦ refl | AfterEnd ↦ refl ])
+all_lawful AtStart = on_kinds (compared does lawful AtStart) (lawful AtStart) refl
+all_lawful BeforePages = on_kinds (compared does lawful BeforePages) (lawful BeforePages) refl
+all_lawful OnPage = on_kinds (compared does lawful OnPage) (lawful OnPage) refl
+all_lawful BetweenPages = on_kinds (compared does lawful BetweenPages) (lawful BetweenPages) refl
+all_lawful AfterPost = on_kinds (compared does lawful AfterPost) (lawful AfterPost) refl
+all_lawful AfterEnd = on_kinds (compared does lawful AfterEnd) (lawful AfterEnd) refl
 
 -- so does a command that keeps the rules
 begins_lawfully : {past : List Command} {c : Command} → Allowed past c → does (stage past) (kind_of_command c) ≡ lawful (stage past) (kind_of_command c)

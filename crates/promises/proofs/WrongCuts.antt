@@ -1,4 +1,5 @@
 -- Wrong cutters of pages that the contract shuts out: each would contradict it at an input that is named here. Assumes nothing.
+use Rattle.std.proofs.Common.{Bor, MutBor}
 use Prim.Native.Nat.{ℕ}
 use mathlib.Core.Path.{◌≡◌, refl, sym, ap, ap₂, subst, ◌∙◌}
 use mathlib.Core.List.{List, [], ◌∷◌, ◌++◌}
@@ -40,7 +41,7 @@ no_page_cut : bytes_cut (cut_pages M [] 100) ≡ refused wrong_pages 0
 unfolding unsigned_at bytes_of kind_of lengths fixed_length inner_length size_of front_after same_bytes tail judged_from judged history_from history
 no_page_cut = refl
 
-module _ (κs : Lfts 3) (file pages area : _) (is : IsSmallest file.now pages.now area.now) (r : PagesCut) (x : _) (post : cut-pages.Post κs (file, (pages, (area, tt))) r x) where
+module _ (κs : Lfts 3) (file pages : Bor (List ℕ)) (area : MutBor (List ℕ)) (is : IsSmallest file.now pages.now area.now) (r : PagesCut) (x : _) (post : cut-pages.Post κs (file, (pages, (area, tt))) r x) where
   same : cut_pages file.now pages.now (length area.now) ≡ cut_pages M (1 ∷ []) 100
   same = cc (is.file_is, is.list_is, ap length is.area_is)
 
@@ -62,7 +63,7 @@ module _ (κs : Lfts 3) (file pages area : _) (is : IsSmallest file.now pages.no
       let first : ◌≡◌ {A = ℕ} 247 0 = ap (λ (l : List ℕ). get_or l 0 0) (sym file_as_worked ∙ stays ∙ is.area_is) in omega (arith, first)
 
 -- one constant answer: this list and the empty one have not the same
-pub not_one_constant_cut : (κs κs' : Lfts 3) (file pages none area : _) (r : PagesCut) (x y : _) → IsSmallest file.now pages.now area.now → none.now ≡ []
+pub not_one_constant_cut : (κs κs' : Lfts 3) (file pages none : Bor (List ℕ)) (area : MutBor (List ℕ)) (r : PagesCut) (x y : _) → IsSmallest file.now pages.now area.now → none.now ≡ []
     → cut-pages.Post κs (file, (pages, (area, tt))) r x → cut-pages.Post κs' (file, (none, (area, tt))) r y → ⊥
 not_one_constant_cut κs κs' file pages none area r x y is empty p q =
     let other : cut_pages file.now none.now (length area.now) ≡ cut_pages M [] 100 = cc (is.file_is, empty, ap length is.area_is) in
@@ -80,7 +81,7 @@ page_1_cut = ap (λ (l : List (Answer (List ℕ))). get_or l 0 (refused 0 0)) cu
 page_2_cut : cut_pages three_pages (2 ∷ []) 297 ≡ given cut_to2
 page_2_cut = ap (λ (l : List (Answer (List ℕ))). get_or l 1 (refused 0 0)) cuts_hold
 
-module _ (κs : Lfts 3) (file pages area : _) (page : ℕ) (is : IsOneOfThree file.now pages.now area.now page) (new : List ℕ) (cut : cut_pages three_pages (page ∷ []) 297 ≡ given new) (r : PagesCut) (x : _) (post : cut-pages.Post κs (file, (pages, (area, tt))) r x) where
+module _ (κs : Lfts 3) (file pages : Bor (List ℕ)) (area : MutBor (List ℕ)) (page : ℕ) (is : IsOneOfThree file.now pages.now area.now page) (new : List ℕ) (cut : cut_pages three_pages (page ∷ []) 297 ≡ given new) (r : PagesCut) (x : _) (post : cut-pages.Post κs (file, (pages, (area, tt))) r x) where
   -- what is asked of a call is what is worked (rule 9.10)
   worked : cut_pages file.now pages.now (length area.now) ≡ given new
   worked = cc (is.file_is, is.list_is, is.room_is, cut)
@@ -93,7 +94,7 @@ module _ (κs : Lfts 3) (file pages area : _) (page : ℕ) (is : IsOneOfThree fi
   area_of_page : x.1.1.0.now ≡ new ++ drop (length new) area.now
   area_of_page = post.1.0 ∙ ap (cut_area area.now) worked
 
-module _ (κs : Lfts 3) (file pages area : _) (is : IsOneOfThree file.now pages.now area.now 2) (r : PagesCut) (x : _) (post : cut-pages.Post κs (file, (pages, (area, tt))) r x) where
+module _ (κs : Lfts 3) (file pages : Bor (List ℕ)) (area : MutBor (List ℕ)) (is : IsOneOfThree file.now pages.now area.now 2) (r : PagesCut) (x : _) (post : cut-pages.Post κs (file, (pages, (area, tt))) r x) where
   -- answering the old file's number of bytes: page 2 alone has 188 (rule 9.10)
   pub not_counting_the_file : r ≡ PagesCut.Bytes 188
   not_counting_the_file = bytes_of_page κs file pages area 2 is cut_to2 page_2_cut r x post
@@ -108,7 +109,7 @@ module _ (κs : Lfts 3) (file pages area : _) (is : IsOneOfThree file.now pages.
       let byte18 : ◌≡◌ {A = ℕ} 243 138 = ap (λ (l : List ℕ). get_or l 18 0) (sym page_2_as_worked ∙ copied ∙ is.file_is) in omega (arith, byte18)
 
 -- not looking at the list: page 1 alone and page 2 alone are not the same bytes, for their counts differ (rule 12.3)
-pub not_one_page_for_all : (κs κs' : Lfts 3) (file first second area : _) (r s : PagesCut) (x y : _)
+pub not_one_page_for_all : (κs κs' : Lfts 3) (file first second : Bor (List ℕ)) (area : MutBor (List ℕ)) (r s : PagesCut) (x y : _)
     → IsOneOfThree file.now first.now area.now 1 → IsOneOfThree file.now second.now area.now 2
     → cut-pages.Post κs (file, (first, (area, tt))) r x → cut-pages.Post κs' (file, (second, (area, tt))) s y
     → x.1.1.0.now ≡ y.1.1.0.now → ⊥

@@ -1,4 +1,5 @@
 -- Wrong makers of tables in their other form that the contracts shut out: each would contradict one at an input that is named here. Assumes nothing.
+use Rattle.std.proofs.Common.{Bor, MutBor}
 use Prim.Native.Nat.{ℕ}
 use mathlib.Core.Path.{◌≡◌, refl, sym, ap, ap₂, subst, ◌∙◌}
 use mathlib.Core.List.{List, []}
@@ -39,7 +40,7 @@ named_refused = refl
 
 -- ---- widen_table
 
-module _ (κs : Lfts 2) (old area : _) (is : IsOldOne old.now area.now) (r : TableMade) (x : _) (post : widen-table.Post κs (old, (area, tt)) r x) where
+module _ (κs : Lfts 2) (old : Bor (List ℕ)) (area : MutBor (List ℕ)) (is : IsOldOne old.now area.now) (r : TableMade) (x : _) (post : widen-table.Post κs (old, (area, tt)) r x) where
   widened_same : widen_table old.now (length area.now) ≡ widen_table spliced_table 32
   widened_same = ap₂ widen_table is.old_is (ap length is.area_is)
 
@@ -62,7 +63,7 @@ module _ (κs : Lfts 2) (old area : _) (is : IsOldOne old.now area.now) (r : Tab
       let first : ◌≡◌ {A = ℕ} 0 7 = ap (λ (l : List ℕ). get_or l 0 0) (sym widened_as_worked ∙ stays ∙ is.area_is) in omega (arith, first)
 
 -- one constant answer: this table and the empty one have not the same
-pub not_one_constant_form : (κs κs' : Lfts 2) (old none area : _) (r : TableMade) (x y : _) → IsOldOne old.now area.now → none.now ≡ []
+pub not_one_constant_form : (κs κs' : Lfts 2) (old none : Bor (List ℕ)) (area : MutBor (List ℕ)) (r : TableMade) (x y : _) → IsOldOne old.now area.now → none.now ≡ []
     → widen-table.Post κs (old, (area, tt)) r x → widen-table.Post κs' (none, (area, tt)) r y → ⊥
 not_one_constant_form κs κs' old none area r x y is empty p q =
     let told : ◌≡◌ {A = Answer ℕ} (given 1) (given 0) =
@@ -71,7 +72,7 @@ not_one_constant_form κs κs' old none area r x y is empty p q =
 
 -- ---- narrow_table
 
-module _ (κs : Lfts 2) (table area : _) (is : IsNewOne table.now area.now) (r : TableMade) (x : _) (post : narrow-table.Post κs (table, (area, tt)) r x) where
+module _ (κs : Lfts 2) (table : Bor (List ℕ)) (area : MutBor (List ℕ)) (is : IsNewOne table.now area.now) (r : TableMade) (x : _) (post : narrow-table.Post κs (table, (area, tt)) r x) where
   narrowed_same : narrow_table table.now (length area.now) ≡ narrow_table any_table 16
   narrowed_same = ap₂ narrow_table is.table_is (ap length is.area_is)
 
@@ -94,6 +95,6 @@ module _ (κs : Lfts 2) (table area : _) (is : IsNewOne table.now area.now) (r :
       let first : ◌≡◌ {A = ℕ} 0 7 = ap (λ (l : List ℕ). get_or l 0 0) (sym narrowed_as_worked ∙ stays ∙ is.area_is) in omega (arith, first)
 
 -- losing names: a table of names is refused with 24, and before the area is judged; so one constant answer is shut out too
-pub not_losing_names : (κs : Lfts 2) (table area : _) (r : TableMade) (x : _) → IsNamed table.now area.now → narrow-table.Post κs (table, (area, tt)) r x → r ≡ TableMade.Refused named_record 0
+pub not_losing_names : (κs : Lfts 2) (table : Bor (List ℕ)) (area : MutBor (List ℕ)) (r : TableMade) (x : _) → IsNamed table.now area.now → narrow-table.Post κs (table, (area, tt)) r x → r ≡ TableMade.Refused named_record 0
 not_losing_names κs table area r x is post =
     made_one_to_one r (TableMade.Refused named_record 0) (post.0 ∙ ap₂ narrow_table is.table_is (ap length is.area_is) ∙ named_refused)

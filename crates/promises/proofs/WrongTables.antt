@@ -1,4 +1,5 @@
 -- Wrong makers of width tables that the contract shuts out: each would contradict it at an input that is named here. Assumes nothing.
+use Rattle.std.proofs.Common.{Bor, MutBor}
 use Prim.Native.Nat.{ℕ}
 use mathlib.Core.Path.{◌≡◌, refl, sym, ap, ap₂, subst, ◌∙◌}
 use mathlib.Core.List.{List, [], ◌∷◌, ◌++◌}
@@ -43,7 +44,7 @@ empty_refused : records_made (table_made [] 655360 width_record_size) ≡ refuse
 unfolding font_judged_from font_judged
 empty_refused = refl
 
-module _ (κs : Lfts 2) (pk : _) (scale : ℕ) (area : _) (is : IsXi pk.now scale area.now) (r : TableMade) (x : _) (post : width-table.Post κs (pk, (scale, (area, tt))) r x) where
+module _ (κs : Lfts 2) (pk : Bor (List ℕ)) (scale : ℕ) (area : MutBor (List ℕ)) (is : IsXi pk.now scale area.now) (r : TableMade) (x : _) (post : width-table.Post κs (pk, (scale, (area, tt))) r x) where
   same : table_made pk.now scale (length area.now) ≡ table_made xi_font 655360 width_record_size
   same = cc (is.pk_is, is.scale_is, ap length is.area_is)
 
@@ -65,7 +66,7 @@ module _ (κs : Lfts 2) (pk : _) (scale : ℕ) (area : _) (is : IsXi pk.now scal
       let first : ◌≡◌ {A = ℕ} 1 0 = ap (λ (l : List ℕ). get_or l 0 0) (sym record_as_worked ∙ stays ∙ is.area_is) in omega (arith, first)
 
 -- one constant answer: this font and the empty file have not the same
-pub not_one_constant_table : (κs κs' : Lfts 2) (pk none : _) (scale : ℕ) (area : _) (r : TableMade) (x y : _) → IsXi pk.now scale area.now → none.now ≡ []
+pub not_one_constant_table : (κs κs' : Lfts 2) (pk none : Bor (List ℕ)) (scale : ℕ) (area : MutBor (List ℕ)) (r : TableMade) (x y : _) → IsXi pk.now scale area.now → none.now ≡ []
     → width-table.Post κs (pk, (scale, (area, tt))) r x → width-table.Post κs' (none, (scale, (area, tt))) r y → ⊥
 not_one_constant_table κs κs' pk none scale area r x y is empty p q =
     let other : table_made none.now scale (length area.now) ≡ table_made [] 655360 width_record_size = cc (empty, is.scale_is, ap length is.area_is) in

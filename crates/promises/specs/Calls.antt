@@ -1,6 +1,6 @@
 -- A call of place_page: its arguments, what its contract says of them, and what the page is placed by. Assumes nothing.
 use Rattle.std.specs.Prelude.{ℕ, ◌≡◌, false, List, [], length}
-use Rattle.std.specs.Borrow.{Bor}
+use Rattle.std.specs.Borrow.{Bor, MutBor}
 use Rattle.refusals.specs.Answer.{Answer, given}
 use Rattle.units.specs.declared.Ratio.{Ratio}
 use Rattle.units.specs.Unit.{unit_of}
@@ -18,7 +18,7 @@ use Rattle.page.specs.Printed.{example}
 
 -- the arguments, in the order of the signature, as they are before the call or after it
 abbrev pub Arguments : Type 0
-Arguments = Bor (List ℕ) × (Bor (List ℕ) × (ℕ × (ℕ × (Bor (List ℕ) × Unit {0}))))
+Arguments = Bor (List ℕ) × (Bor (List ℕ) × (ℕ × (ℕ × (MutBor (List ℕ) × Unit {0}))))
 
 module _ (a : Arguments) where
   -- the bytes of the file
