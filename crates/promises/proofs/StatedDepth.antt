@@ -188,7 +188,7 @@ pub larger_s_same_name : (κs κs' : Lfts 3) (lent changed : _) (font : ℤ) (nu
     → (found : Summary) → judged lent.now ≡ given found
     → (s : ℕ) → found.depth ≤ s → changed.now ≡ stating s found.post lent.now
     → (r'.now ≡ r.now) × (y.1.1.0.now ≡ x.1.1.0.now) × (y.1.1.1.0.now ≡ x.1.1.1.0.now)
-larger_s_same_name κs κs' lent changed font number place number' place' r r' x y p q found accepted s enough only-s =
+larger_s_same_name κs κs' lent again font number place number' place' r r' x y p q found accepted s enough only-s =
     let told =
     name_one_to_one _ _ _ _ _ _
     (q.1.1.0 ∙ ap (λ (file : List ℕ). name_place file font) only-s ∙ other_s_named s lent.now found accepted enough font ∙ sym p.1.1.0) in

@@ -40,23 +40,23 @@ empty_refused = ap (λ (l : List (Answer Summary)). get_or l 4 (refused 0 0)) fi
 
 -- refusing all: M must be accepted
 pub not_refusing_all : (κs : Lfts 1) → (file : Bor (List ℕ)) → (r : FileChecked) → (x : _) → file.now ≡ M → check-file.Post κs (file, tt) r x → Accepts r
-not_refusing_all κs file r x m p = p.1.1 (subst Lawful (sym m) (accepts_lawful M one_page M_accepted))
+not_refusing_all κs lent r x m p = p.1.1 (subst Lawful (sym m) (accepts_lawful M one_page M_accepted))
 
 -- accepting all: the empty file must be refused
 pub not_accepting_all : (κs : Lfts 1) → (file : Bor (List ℕ)) → (r : FileChecked) → (x : _) → file.now ≡ [] → check-file.Post κs (file, tt) r x → Accepts r → ⊥
-not_accepting_all κs file (FileChecked.Accepted pages fonts depth post) x m p a =
+not_accepting_all κs lent (FileChecked.Accepted pages fonts depth post) x m p a =
     given_not_refused _ file_ends 0 (p.0 ∙ ap judged m ∙ empty_refused)
-not_accepting_all κs file (FileChecked.Refused number place) x m p a = a
+not_accepting_all κs lent (FileChecked.Refused number place) x m p a = a
 
 -- one constant answer: M and the empty file have not the same
 pub not_constant : (κs κs' : Lfts 1) → (file empty : Bor (List ℕ)) → (r : FileChecked) → (x y : _) → file.now ≡ M → empty.now ≡ []
     → check-file.Post κs (file, tt) r x → check-file.Post κs' (empty, tt) r y → ⊥
-not_constant κs κs' file empty r x y m e p q = given_not_refused one_page file_ends 0 (sym M_accepted ∙ ap judged (sym m) ∙ sym p.0 ∙ q.0 ∙ ap judged e ∙ empty_refused)
+not_constant κs κs' lent empty r x y m e p q = given_not_refused one_page file_ends 0 (sym M_accepted ∙ ap judged (sym m) ∙ sym p.0 ∙ q.0 ∙ ap judged e ∙ empty_refused)
 
 -- asking that s is the depth, or reporting s: M with s 1 is accepted, and its depth is 0 all the same
 pub not_by_the_stated_depth : (κs : Lfts 1) → (file : Bor (List ℕ)) → (r : FileChecked) → (x : _) → file.now ≡ stating 1 61 M → check-file.Post κs (file, tt) r x
     → r ≡ FileChecked.Accepted 1 0 0 61
-not_by_the_stated_depth κs file r x m p = file_one_to_one r (FileChecked.Accepted 1 0 0 61) (p.0 ∙ ap judged m ∙ other_s_judged 1 M one_page M_accepted)
+not_by_the_stated_depth κs lent r x m p = file_one_to_one r (FileChecked.Accepted 1 0 0 61) (p.0 ∙ ap judged m ∙ other_s_judged 1 M one_page M_accepted)
 
 -- ---- the placing of a page
 
