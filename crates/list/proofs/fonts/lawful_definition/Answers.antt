@@ -109,7 +109,7 @@ returns c past early late standing stage_is count_is =
     let lawful : lawful_font number ≡ true = tested lawful_font named c.lawful_font.ensures c.if-not-lawful_font.false in
     ap (λ (count : ℕ). ltb count most_fonts) count_is
     ∙ once_before past number (definition opcode params) (tested is_after_post stage_is c.after_post.ensures c.if-after_post.false)
-    (told_none early number lawful (c.entry_of-early.ensures ∙ ap (λ (n : ℤ). get_or c.args.fonts.now (nat_abs n) 0) named) c.if-early-ne0.false)
+    (told_none early number lawful (c.entry_of-early.ensures ∙ ap (λ (n : ℤ). get_or c.args.fonts.now (nat_abs n) 0) named) (omega arith))
     ∙ turn_decides past opcode params lawful
     (tested lawful_size (c.unsigned_in.ensures.value ∙ ap font_scale (said_is opcode params)) c.lawful_size.ensures c.if-not-lawful_size.false)
     (tested lawful_size (c.unsigned_in-2.ensures.value ∙ ap font_design_size (said_is opcode params)) c.lawful_size-2.ensures c.if-not-lawful_size-2.false)
