@@ -1,9 +1,8 @@
 -- `volume::names::name_place` meets its contract: the file is judged, then the table of its definitions is asked. Assumes nothing.
-use mathlib.Core.Path.{refl, sym, ap, ◌∙◌, subst}
+use mathlib.Core.Path.{sym, ap, ◌∙◌, subst}
 use mathlib.Core.Bool.{false}
 use mathlib.Core.List.{List}
 use Prim.Native.Nat.{ℕ}
-use borrow.Author.Rules.{rules}
 use mir.Syntax.{w64}
 use lib.IntN.{ℤ}
 use mir.Facts.{to_z-of_z}
