@@ -7,7 +7,7 @@ use mathlib.Core.Logic.{⊎_elim}
 use native.Mathlib.Nat.{eq-or-lt_of_le}
 use native.Mathlib.Numerals.{add-one}
 use native.Mathlib.Omega.{arith}
-use borrow.Author.Tests.{eqb-true, eqb-false, eq-eqb, ne_eqb, not_true, not-false}
+use borrow.Author.Tests.{eqb-true, eqb-false, eq-eqb, ne_eqb, not-true, not-false}
 use lib.Dec.{eqb}
 use Rattle.refusals.specs.Numbers.{named_record}
 use Rattle.refusals.specs.Answer.{refused, given, refuse_if}
@@ -89,7 +89,7 @@ module _ (table : List ℕ) where
               index = index;
               among = omega arith;
               place_is = place_is;
-              has_name = eqb-false (record_of table index).name 0 (not_true (eqb (record_of table index).name 0) here);
+              has_name = eqb-false (record_of table index).name 0 (not-true (eqb (record_of table index).name 0) here);
               none_before = before;
             },
           )

@@ -8,7 +8,6 @@ use Rattle.widths.specs.declared.table.Table.{Table}
 use Rattle.widths.specs.declared.table.Table.TheVariants.{Right, Wrong}
 use Rattle.converting.specs.declared.old.OldKey.{OldKey}
 use Rattle.converting.specs.declared.Converted.{Converted}
-use Rattle.converting.specs.declared.Converted.TheVariants as Converted
 
 -- a key of the old form as the number of its nine bytes
 abbrev pub old_key_number : OldKey → ℕ

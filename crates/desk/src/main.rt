@@ -4,10 +4,8 @@
 
 ghost use Rattle.io.specs.Counts.{IsPrefixLen};
 
-mod gathered;
 mod questions;
 
-use gathered::Gathered;
 use std::fs::Files;
 use std::io::{Read, Result, Write, writer};
 
@@ -20,7 +18,7 @@ fn main(rt: HostRuntime) -> Result<()> {
     answer_all(
         &rt,
         &mut rt.stdin(),
-        &mut Gathered::new(writer(&rt)),
+        &mut writer(&rt),
         &mut block,
         &mut line,
         &mut file,
@@ -29,7 +27,7 @@ fn main(rt: HostRuntime) -> Result<()> {
     )
 }
 
-// Standard input is read in blocks, and after each the answers to its lines are handed on. A read that fails counts as the input's end. A proved loop has to
+// Standard input is read in blocks, and each answer is written before the next line is looked at. A read that fails counts as the input's end. A proved loop has to
 // end, and nothing says that the input does: so the blocks are counted, up to a number that no run comes to.
 fn answer_all<R: Files, I: Read, W: Write>(
     rt: &R,
@@ -45,11 +43,9 @@ fn answer_all<R: Files, I: Read, W: Write>(
     for _ in 0..u64::MAX {
         let count = read_block(input, block);
         if count == 0 {
-            answer_rest(rt, out, line, held, file, widths, area)?;
-            return out.flush();
+            return answer_rest(rt, out, line, held, file, widths, area);
         }
         held = answer_block(rt, out, &block[..count], line, held, file, widths, area)?;
-        out.flush()?;
     }
     Ok(())
 }

@@ -12,3 +12,5 @@ pub mod Writing
 pub mod Counting
 pub mod MadeLaws
 pub mod RefusedWith
+pub mod PixelsShown
+pub mod FontsHold

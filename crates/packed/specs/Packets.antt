@@ -1,5 +1,5 @@
 -- What a packet says of its character. Assumes nothing.
-use Rattle.std.specs.Prelude.{ℕ, ◌+◌, ◌/◌, ◌%◌, ◌≡◌, refl, Bool, cond, List, eqb, ℤ, pos, negsuc, neg_ℤ}
+use Rattle.std.specs.Prelude.{ℕ, ◌+◌, ◌/◌, ◌%◌, Bool, cond, List, eqb, ℤ, pos, negsuc, neg_ℤ}
 use Rattle.numbers.specs.Bytes.{unsigned_at, signed_at}
 use Rattle.packed.specs.Commands.{form_of}
 
@@ -28,14 +28,3 @@ nearest (negsuc n) = neg_ℤ (pos ((n + 32768) / 65536))
 unfoldable pub escapement_in : ℕ → List ℕ → ℤ
 escapement_in flag params =
     cond (is_long flag) (nearest (signed_at params (escapement_start flag) 4)) (pos (unsigned_at params (escapement_start flag) (form_of flag).escapement))
-
--- halves go up: 0.5 to 1, −0.5 to 0, −1.5 to −1; what is nearer to a number goes there: 0.49 to 0, −0.51 to −1; 32,767.5 to 32,768, −32,768 stays
-shown :
-    (nearest (pos 32768) ≡ pos 1)
-    × (nearest (negsuc 32767) ≡ pos 0)
-    × (nearest (negsuc 98303) ≡ negsuc 0)
-    × (nearest (pos 32767) ≡ pos 0)
-    × (nearest (negsuc 32768) ≡ negsuc 0)
-    × (nearest (pos 2147450880) ≡ pos 32768)
-    × (nearest (negsuc 2147483647) ≡ negsuc 32767)
-shown = (refl, refl, refl, refl, refl, refl, refl)

@@ -1,13 +1,8 @@
 -- Examples on PK files, worked by hand, as entries of a list. Assumes nothing.
-use Rattle.std.specs.Prelude.{ℕ, ◌≡◌, refl, List, [], ◌∷◌, ◌++◌, map, take, set, replicate}
+use Rattle.std.specs.Prelude.{ℕ, List, [], ◌∷◌, ◌++◌, take, set, replicate}
 use Rattle.refusals.specs.Numbers.{area_too_short, font_ends, misplaced_in_font, packet_too_short, wrong_packet, wrong_scale}
 use Rattle.refusals.specs.Answer.{Answer, refused, given, and_then}
-use Rattle.numbers.specs.Bytes.{unsigned_at, bytes_of}
-use Rattle.packed.specs.Commands.{form_of, fixed_bytes, counted_bytes}
-use Rattle.packed.specs.Packets.{code_in, width_in, escapement_in}
-use Rattle.packed.specs.Rules.{font_fault}
-use Rattle.packed.specs.Judged.{font_judged_from, font_judged}
-use Rattle.widths.specs.Entries.{entry_bytes, table_bytes}
+use Rattle.widths.specs.Entries.{table_bytes}
 use Rattle.packed.specs.Table.{table_made}
 
 -- a preamble without a comment: design size 10, check sum 1 2 3 4
@@ -74,8 +69,3 @@ font_examples =
 -- what the definitions give for an example
 abbrev pub font_found : FontExample → Answer (List ℕ)
 font_found e = and_then (table_made e.pk e.scale e.room) (λ entries. given (table_bytes entries))
-
--- the definitions give what they must
-pub fonts_hold : map font_found font_examples ≡ map (λ e. e.printed) font_examples
-unfolding unsigned_at bytes_of form_of fixed_bytes counted_bytes code_in width_in escapement_in font_fault font_judged_from font_judged entry_bytes
-fonts_hold = refl

@@ -6,4 +6,5 @@ pub mod PageRuns
 pub mod PlaceLaws
 pub mod Traces
 pub mod WalkLaws
+pub mod Turned
 pub mod RefusedWith

@@ -1,6 +1,6 @@
 -- A page's commands stand in an accepted file, one after the other from the end of its bop to its eop, at the depths that the rules ask. Assumes nothing.
 use mathlib.Core.Path.{◌≡◌, refl, sym, ap, ◌∙◌}
-use mathlib.Core.Bool.{Bool, true, false, cond, not, ◌&&◌, ◌||◌, and_false, and_assoc, true≢false, false≢true}
+use mathlib.Core.Bool.{Bool, true, false, cond, not, ◌&&◌, ◌||◌, and-false, and_assoc, true≢false, false≢true}
 use mathlib.Core.List.{List, [], ◌∷◌, ◌++◌, append-nil, append_assoc}
 use Prim.Native.Nat.{ℕ, ◌+◌, ◌-◌, ◌≤◌, ◌<◌}
 use native.Mathlib.Omega.{arith}
@@ -44,8 +44,12 @@ lawful at kind = (cond (is kind Bop) true (cond (is kind Eop) false (is_on_page 
 
 -- all kinds that may stand at a stage do as they should
 all_lawful : (at : Stage) (kind : Kind) → compared does lawful at kind ≡ lawful at kind
-all_lawful at =
-    on_kinds (compared does lawful at) (lawful at) (elim at [ AtStart ↦ refl | BeforePages ↦ refl | OnPage ↦ refl | BetweenPages ↦ refl | AfterPost ↦ refl | AfterEnd ↦ refl ])
+all_lawful AtStart = on_kinds (compared does lawful AtStart) (lawful AtStart) refl
+all_lawful BeforePages = on_kinds (compared does lawful BeforePages) (lawful BeforePages) refl
+all_lawful OnPage = on_kinds (compared does lawful OnPage) (lawful OnPage) refl
+all_lawful BetweenPages = on_kinds (compared does lawful BetweenPages) (lawful BetweenPages) refl
+all_lawful AfterPost = on_kinds (compared does lawful AfterPost) (lawful AfterPost) refl
+all_lawful AfterEnd = on_kinds (compared does lawful AfterEnd) (lawful AfterEnd) refl
 
 -- ---- one command
 
@@ -110,7 +114,7 @@ is_open page past = is_on_page (stage past) && eqb (pages past) page
 
 -- a page that is still to come is not open
 open_later : (page : ℕ) (past : List Command) → pages past < page → is_open page past ≡ false
-open_later page past h = rw (ne_eqb (pages past) page (λ e. omega arith)) (and_false (is_on_page (stage past)))
+open_later page past h = rw (ne_eqb (pages past) page (λ e. omega arith)) (and-false (is_on_page (stage past)))
 
 -- a command is one of a page's own where the page is open and it is not its eop
 on_is : (page : ℕ) (past : List Command) (c : Command) → is_on page past c ≡ (is_open page past && not (is_a Eop c))

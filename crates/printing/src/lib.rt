@@ -1,14 +1,17 @@
 // Texts and numbers, written to what the caller lends. Each function that writes fails where a write of it fails, and nowhere else.
 #![tactic(auto)]
 
-ghost use Rattle.std.specs.Prelude.{◌≡◌, ◌<◌, nat_abs};
+ghost use Rattle.std.specs.Prelude.{◌≡◌, ◌<◌, nat_abs, OnOk};
+ghost use Rattle.std.specs.Io.KnownBytes.{Appends};
 
 use std::io::{Result, Write};
 
 pub mod line;
 pub mod rows;
 
-pub fn text<W: Write>(out: &mut W, bytes: &[u8]) -> Result<()> {
+pub fn text<W: Write>(out: &mut W, bytes: &[u8]) -> Result<()>
+    ensures { OnOk result (Appends (W.contents out.old) (W.contents out.new) bytes.now) }
+{
     out.write_all(bytes)
 }
 

@@ -1,5 +1,6 @@
 // A line put together before it is written, so that it is one write.
-ghost use Rattle.std.specs.Prelude.{◌≡◌, ◌+◌, ◌≤◌, length};
+ghost use Rattle.std.specs.Prelude.{◌≡◌, ◌+◌, ◌≤◌, length, take, OnOk};
+ghost use Rattle.std.specs.Io.KnownBytes.{Appends};
 
 use std::io::{Result, Write};
 
@@ -61,6 +62,7 @@ impl Line {
 
     pub fn print<W: Write>(self, out: &mut W) -> Result<()>
         requires { self.length ≤ 160 }
+        ensures { OnOk result (Appends (W.contents out.old) (W.contents out.new) (take self.length self.bytes)) }
     {
         let bytes = self.bytes;
         let length = self.length;

@@ -1,0 +1,24 @@
+-- `volume::plain::pass_depths` meets its contract. The loop's invariant: the scan may go on from what was reached. The measure is what is left of the file.
+-- Assumes nothing.
+use mathlib.Core.Path.{sym, ◌∙◌}
+use mathlib.Core.List.{List}
+use Prim.Native.Nat.{ℕ, ◌-◌, ◌≤◌}
+use native.Mathlib.Omega.{arith}
+use lib.ListN.{length, get_or}
+use borrow.Author.Rules.{rules}
+use Rattle.list.specs.Steps.{changed}
+use Rattle.volume.specs.Steps.{Onward}
+use Rattle.volume.proofs.ShortLaws.{push_shallow, onward_depth}
+use Rattle.volume.proofs.plain.pass_depths.Goals as goal
+
+pub next_depth-depth-requires : goal.next_depth-depth-requires
+next_depth-depth-requires c = λ pushes.
+    let l = c.loop-place in
+    let may = sym c.may_push_or_pop.ensures ∙ c.if-not-may_push_or_pop.false in
+    omega (arith, push_shallow (get_or c.args.file.now l.place 0) l.depth may (sym c.kind_of.ensures ∙ pushes))
+
+pub loop-place-preserved : goal.loop-place-preserved
+loop-place-preserved c =
+    let l = c.loop-place in
+    let may = sym c.may_push_or_pop.ensures ∙ c.if-not-may_push_or_pop.false in
+    (λ fonts. onward_depth c.requires (l.invariant.0 fonts) (omega arith) c.kind_of.ensures c.next_depth-depth.ensures c.greater-greatest.ensures may, omega (arith, l.invariant.1))
