@@ -2,7 +2,7 @@
    table of its fonts. The table may be of the old form; it is widened then. Without one the page's rules alone are printed, since every
    character is missing.
 
-       cc -I include include/example.c target/staticlib/libclib.a -o example */
+       bench/archive target && cc -I include include/example.c target/libclib.a -o example */
 #include "hurlyburn.h"
 #include <stdio.h>
 #include <stdlib.h>

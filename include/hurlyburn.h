@@ -1,6 +1,6 @@
 /* Hurlyburn, a proved reader of DVI files (DVI Driver Standard, level 0) and of the widths in PK fonts: its C interface.
 
-   `rt staticlib clib` writes target/staticlib/libclib.a for x86-64 Linux; link it beside your program and the C library.
+   `bench/archive target` writes target/libclib.a for x86-64 Linux; link it beside your program and the C library.
    include/example.c is a whole program. Every entry of the reader is here, and each is proved to answer exactly what the rules
    say (crates/clib, docs/PROMISES.md).
 

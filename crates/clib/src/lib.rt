@@ -1,5 +1,5 @@
-// The C interface: every entry of the reader under a name for C, where a slice is a pointer and a length. The result goes into an array of numbers that the
-// caller lends; what is returned says whether it is a result, a refusal, or an array too short for any result. include/hurlyburn.h is the same for C.
+// The C interface: every entry of the reader under its name for C. The result goes into an array of numbers that the caller lends; what is returned says whether
+// it is a result, a refusal, or an array too short for any result. clib_c exports them, and include/hurlyburn.h is the same for C.
 #![tactic(auto)]
 
 mod answers;
@@ -23,8 +23,7 @@ use reader::{
 };
 
 // The command at a place of the file: its opcode, where its parameters start, and the place after them.
-#[unsafe(no_mangle)]
-pub extern "C" fn hurlyburn_read_command(file: &[u8], at: usize, answer: &mut [u64]) -> u32
+pub fn hurlyburn_read_command(file: &[u8], at: usize, answer: &mut [u64]) -> u32
     ensures value { result ≡ code 3 answer.old (command_read file.now at) }
     ensures answer_after { answer.new ≡ array_after 3 command_numbers answer.old (command_read file.now at) }
 {
@@ -45,8 +44,7 @@ pub extern "C" fn hurlyburn_read_command(file: &[u8], at: usize, answer: &mut [u
 }
 
 // The check of a whole file: pages, fonts, greatest depth, place of post.
-#[unsafe(no_mangle)]
-pub extern "C" fn hurlyburn_check_file(file: &[u8], answer: &mut [u64]) -> u32
+pub fn hurlyburn_check_file(file: &[u8], answer: &mut [u64]) -> u32
     ensures value { result ≡ code 4 answer.old (judged file.now) }
     ensures answer_after { answer.new ≡ array_after 4 file_numbers answer.old (judged file.now) }
 {
@@ -68,8 +66,7 @@ pub extern "C" fn hurlyburn_check_file(file: &[u8], answer: &mut [u64]) -> u32
 }
 
 // One page, its records written into the area: records, missing characters, specials.
-#[unsafe(no_mangle)]
-pub extern "C" fn hurlyburn_place_page(
+pub fn hurlyburn_place_page(
     file: &[u8],
     widths: &[u8],
     resolution: u32,
@@ -98,8 +95,7 @@ pub extern "C" fn hurlyburn_place_page(
 }
 
 // A distance in pixels, at a file's units and a resolution.
-#[unsafe(no_mangle)]
-pub extern "C" fn hurlyburn_round_distance(
+pub fn hurlyburn_round_distance(
     num: i32,
     den: i32,
     mag: i32,
@@ -123,15 +119,7 @@ pub extern "C" fn hurlyburn_round_distance(
 }
 
 // The width of a fix word, bytes b0 to b3, at a font's scale.
-#[unsafe(no_mangle)]
-pub extern "C" fn hurlyburn_scale_width(
-    scale: u32,
-    b0: u8,
-    b1: u8,
-    b2: u8,
-    b3: u8,
-    answer: &mut [u64],
-) -> u32
+pub fn hurlyburn_scale_width(scale: u32, b0: u8, b1: u8, b2: u8, b3: u8, answer: &mut [u64]) -> u32
     ensures value { result ≡ code 1 answer.old (scaled_width scale (fix_word b0 b1 b2 b3)) }
     ensures answer_after { answer.new ≡ array_after 1 signed_numbers answer.old (scaled_width scale (fix_word b0 b1 b2 b3)) }
 {
@@ -148,8 +136,7 @@ pub extern "C" fn hurlyburn_scale_width(
 }
 
 // The check of a width table: records.
-#[unsafe(no_mangle)]
-pub extern "C" fn hurlyburn_check_table(table: &[u8], answer: &mut [u64]) -> u32
+pub fn hurlyburn_check_table(table: &[u8], answer: &mut [u64]) -> u32
     ensures value { result ≡ code 1 answer.old (checked_table table.now) }
     ensures answer_after { answer.new ≡ array_after 1 table_numbers answer.old (checked_table table.now) }
 {
@@ -166,8 +153,7 @@ pub extern "C" fn hurlyburn_check_table(table: &[u8], answer: &mut [u64]) -> u32
 }
 
 // What a width table says of a character of a font, by the font's name without its area: 1, escapement and the fix word's four bytes; or 0 where it is absent.
-#[unsafe(no_mangle)]
-pub extern "C" fn hurlyburn_look_up(
+pub fn hurlyburn_look_up(
     table: &[u8],
     checksum: u32,
     scale: u32,
@@ -202,13 +188,7 @@ pub extern "C" fn hurlyburn_look_up(
 }
 
 // The width table of a PK font at a scale, written into the area: records.
-#[unsafe(no_mangle)]
-pub extern "C" fn hurlyburn_width_table(
-    pk: &[u8],
-    scale: u32,
-    area: &mut [u8],
-    answer: &mut [u64],
-) -> u32
+pub fn hurlyburn_width_table(pk: &[u8], scale: u32, area: &mut [u8], answer: &mut [u64]) -> u32
     ensures value { result ≡ code 1 answer.old (records_made (table_made pk.now scale (length area.old))) }
     ensures answer_after { answer.new ≡ array_after 1 table_numbers answer.old (records_made (table_made pk.now scale (length area.old))) }
     ensures area_after { area.new ≡ if_room 1 answer.old (table_area area.old (table_made pk.now scale (length area.old))) area.old }
@@ -226,8 +206,7 @@ pub extern "C" fn hurlyburn_width_table(
 }
 
 // A width table of the old form in the new one, written into the area: records.
-#[unsafe(no_mangle)]
-pub extern "C" fn hurlyburn_widen_table(old: &[u8], area: &mut [u8], answer: &mut [u64]) -> u32
+pub fn hurlyburn_widen_table(old: &[u8], area: &mut [u8], answer: &mut [u64]) -> u32
     ensures value { result ≡ code 1 answer.old (widen_table old.now (length area.old)) }
     ensures answer_after { answer.new ≡ array_after 1 table_numbers answer.old (widen_table old.now (length area.old)) }
     ensures area_after { area.new ≡ if_room 1 answer.old (widened_area old.now area.old (widen_table old.now (length area.old))) area.old }
@@ -245,8 +224,7 @@ pub extern "C" fn hurlyburn_widen_table(old: &[u8], area: &mut [u8], answer: &mu
 }
 
 // A width table none of whose records has a name, in the old form, written into the area: records.
-#[unsafe(no_mangle)]
-pub extern "C" fn hurlyburn_narrow_table(table: &[u8], area: &mut [u8], answer: &mut [u64]) -> u32
+pub fn hurlyburn_narrow_table(table: &[u8], area: &mut [u8], answer: &mut [u64]) -> u32
     ensures value { result ≡ code 1 answer.old (narrow_table table.now (length area.old)) }
     ensures answer_after { answer.new ≡ array_after 1 table_numbers answer.old (narrow_table table.now (length area.old)) }
     ensures area_after { area.new ≡ if_room 1 answer.old (narrowed_area table.now area.old (narrow_table table.now (length area.old))) area.old }
@@ -264,13 +242,7 @@ pub extern "C" fn hurlyburn_narrow_table(table: &[u8], area: &mut [u8], answer: 
 }
 
 // Chosen pages of a file, written into the area as a file of their own: bytes.
-#[unsafe(no_mangle)]
-pub extern "C" fn hurlyburn_cut_pages(
-    file: &[u8],
-    pages: &[u32],
-    area: &mut [u8],
-    answer: &mut [u64],
-) -> u32
+pub fn hurlyburn_cut_pages(file: &[u8], pages: &[u32], area: &mut [u8], answer: &mut [u64]) -> u32
     ensures value { result ≡ code 1 answer.old (bytes_cut (cut_pages file.now pages.now (length area.old))) }
     ensures answer_after { answer.new ≡ array_after 1 cut_numbers answer.old (bytes_cut (cut_pages file.now pages.now (length area.old))) }
     ensures area_after { area.new ≡ if_room 1 answer.old (cut_area area.old (cut_pages file.now pages.now (length area.old))) area.old }
@@ -288,8 +260,7 @@ pub extern "C" fn hurlyburn_cut_pages(
 }
 
 // The name of a font: where the part of the file that holds it starts, and the place past its end.
-#[unsafe(no_mangle)]
-pub extern "C" fn hurlyburn_font_name(file: &[u8], font: i32, answer: &mut [u64]) -> u32
+pub fn hurlyburn_font_name(file: &[u8], font: i32, answer: &mut [u64]) -> u32
     ensures value { result ≡ code 2 answer.old (name_place file.now font) }
     ensures answer_after { answer.new ≡ array_after 2 name_numbers answer.old (name_place file.now font) }
 {

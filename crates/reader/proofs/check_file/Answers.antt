@@ -13,8 +13,7 @@ returns-in-Accepted-clause-variant c =
 pub returns-in-Refused-clause-variant : goal.returns-in-Refused-clause-variant
 returns-in-Refused-clause-variant c =
     let refusal = c.in-Refused.refusal in
-    let judgement = ap check_answer (sym c.in-Refused.is) ∙ c.check_file.ensures in
-    (
+    let judgement = ap check_answer (sym c.in-Refused.is) ∙ c.check_file.ensures in (
       λ accepted. absurd accepted,
       λ lawful. let accepted = lawful_accepted c.args.file.now lawful in given_not_refused accepted.0 refusal.number refusal.place (sym accepted.1 ∙ sym judgement),
     )

@@ -13,7 +13,5 @@ use Rattle.clib.proofs.answers.give.Given as goal
 abbrev pub invariant-loop-index : goal.invariant-loop-index
 invariant-loop-index l = (l.index ≤ length l.numbers) × (length l.answer ≡ length l.initial.answer) × (l.answer ≡ paste l.initial.answer 0 l.numbers l.index)
 
-
 abbrev pub decreases-loop-index : goal.decreases-loop-index
 decreases-loop-index l = length l.numbers - l.index
-
