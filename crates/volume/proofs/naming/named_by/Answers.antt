@@ -1,4 +1,4 @@
--- `volume::names::named_by` meets its contract: an entry of the table leads to the definition, and the definition to the name. Assumes nothing.
+-- `volume::naming::named_by` meets its contract: an entry of the table leads to the definition, and the definition to the name. Assumes nothing.
 use mathlib.Core.Path.{◌≡◌, sym, ap, ◌∙◌, subst}
 use mathlib.Core.Bool.{Bool, true, false}
 use mathlib.Core.List.{List}
@@ -12,7 +12,7 @@ use Rattle.commands.specs.Commands.{Command}
 use Rattle.list.specs.Rules.{lawful_font}
 use Rattle.list.specs.Steps.{Tells, AllStanding}
 use Rattle.volume.proofs.NameLaws.{Leads, leads, said_long, name_is}
-use Rattle.volume.proofs.names.named_by.Goals as goal
+use Rattle.volume.proofs.naming.named_by.Goals as goal
 
 -- what the tests of the number and of its entry say
 lawful : {z number : ℤ} → z ≡ number → {t : Bool} → t ≡ lawful_font z → t ≡ true → lawful_font number ≡ true
