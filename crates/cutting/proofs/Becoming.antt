@@ -13,7 +13,6 @@ use Rattle.list.specs.Past.{is_a, stage, pages, defines}
 use Rattle.list.specs.Rules.{Allowed}
 use Rattle.cutting.specs.declared.Spot.{Spot}
 use Rattle.cutting.specs.declared.Fate.{Fate}
-use Rattle.cutting.specs.declared.Fate.TheVariants as Fate
 use Rattle.cutting.specs.Chosen.{is_in}
 use Rattle.cutting.specs.CutList.{opening, stays, mended, cut_after}
 use Rattle.cutting.specs.Steps.{spot_after, fate_of}

@@ -17,7 +17,6 @@ use Rattle.volume.proofs.Bounds.{depth_reached}
 use Rattle.cutting.specs.declared.Spot.{Spot}
 use Rattle.cutting.specs.declared.Run.{Run}
 use Rattle.cutting.specs.declared.Fate.{Fate}
-use Rattle.cutting.specs.declared.Fate.TheVariants as Fate
 use Rattle.cutting.specs.declared.Counted.{Counted}
 use Rattle.cutting.specs.Chosen.{is_in, rises_from}
 use Rattle.cutting.specs.CutList.{opening, mended, cut_after}

@@ -21,7 +21,6 @@ use Rattle.volume.proofs.ShortLaws.{bare_ahead}
 use Rattle.cutting.specs.declared.Spot.{Spot}
 use Rattle.cutting.specs.declared.Run.{Run}
 use Rattle.cutting.specs.declared.Fate.{Fate}
-use Rattle.cutting.specs.declared.Fate.TheVariants as Fate
 use Rattle.cutting.specs.Steps.{is_idle, is_short, run_at, Runs, runs_none, runs_on, RunTo, spot_after, fate_of}
 
 -- ---- what one of their kinds does to a walk

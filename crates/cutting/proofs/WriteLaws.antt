@@ -17,7 +17,6 @@ use Rattle.commands.proofs.Fronts.{front_sound}
 use Rattle.list.specs.Past.{greatest, pages, last_bop, post_place}
 use Rattle.areas.proofs.Pasting.{sets_behind, sets_apart}
 use Rattle.cutting.specs.declared.Fate.{Fate}
-use Rattle.cutting.specs.declared.Fate.TheVariants as Fate
 use Rattle.cutting.specs.declared.Made.{Made}
 use Rattle.cutting.specs.Chosen.{is_in}
 use Rattle.cutting.specs.CutList.{opening, mended, cut_after}

@@ -18,7 +18,6 @@ use Rattle.areas.proofs.Pasting.{sets_behind}
 use Rattle.cutting.specs.declared.Spot.{Spot}
 use Rattle.cutting.specs.declared.Run.{Run}
 use Rattle.cutting.specs.declared.Fate.{Fate}
-use Rattle.cutting.specs.declared.Fate.TheVariants as Fate
 use Rattle.cutting.specs.declared.Counted.{Counted}
 use Rattle.cutting.specs.declared.Made.{Made}
 use Rattle.cutting.specs.Chosen.{is_in}
@@ -97,7 +96,7 @@ module _ (file list : List ℕ) (counted : Counted) (entry : List ℕ) (w : Writ
       new_fits = by (is_a PostPost c) refl
         where
           by : (last : Bool) → is_a PostPost c ≡ last → place (new (c ∷ k.past)) ≤ place (new (history file))
-          by true last = rw (there.at_last last) (omega arith)
+          by true last = subst (λ (l : List Command). place (new (c ∷ k.past)) ≤ place (new l)) (sym (there.at_last last)) (omega arith)
           by false last =
               let on = there.onward last in
               subst (λ (l : List Command). place (new (c ∷ k.past)) ≤ place (new l)) (sym on.told) (cut_grows first (is_in list) on.follows)

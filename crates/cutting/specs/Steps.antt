@@ -15,11 +15,9 @@ use Rattle.volume.specs.Steps.{is_plain}
 use Rattle.cutting.specs.declared.Spot.{Spot}
 use Rattle.cutting.specs.declared.Run.{Run}
 use Rattle.cutting.specs.declared.Fate.{Fate}
-use Rattle.cutting.specs.declared.Fate.TheVariants as Fate
 use Rattle.cutting.specs.declared.Counted.{Counted}
 use Rattle.cutting.specs.declared.Made.{Made}
 use Rattle.cutting.specs.declared.Cut.{Cut}
-use Rattle.cutting.specs.declared.Cut.TheVariants as Cut
 use Rattle.cutting.specs.Chosen.{is_in, rises_from}
 use Rattle.cutting.specs.CutList.{opening, cut_past}
 

@@ -106,7 +106,7 @@ pub fn font_name<'a>(file: &'a [u8], font: i32, number: &mut u8, place: &mut usi
     ensures result_after { name_answer number.new place.new (length result.now) ≡ name_place file.now font }
     ensures result_in_bounds { number.new ≡ 0 → place.new + length result.now ≤ length file.now }
 {
-    match volume::names::name_place(file, font as i64) {
+    match volume::naming::name_place(file, font as i64) {
         Named::At(part) => {
             let start = part.start;
             let end = part.end;

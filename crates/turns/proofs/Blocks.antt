@@ -11,16 +11,13 @@ use Rattle.refusals.proofs.Answer.{given_not_refused}
 use Rattle.scaling.specs.Scaling.{scaled_by}
 use Rattle.widths.specs.LookUp.{LookUp, found, absent}
 use Rattle.commands.specs.declared.Kind.{Kind}
-use Rattle.commands.specs.declared.Kind.TheVariants as Kind
 use Rattle.commands.specs.Kinds.{is}
 use Rattle.commands.specs.Commands.{Command, kind_of_command}
 use Rattle.commands.specs.Parameters.{distance, rule_width, selected_font}
 use Rattle.state.specs.declared.Level.{Level}
 use Rattle.state.specs.declared.Font.{Font}
 use Rattle.state.specs.declared.moving.Direction.{Direction}
-use Rattle.state.specs.declared.moving.Direction.TheVariants as Direction
 use Rattle.state.specs.declared.registers.Register.{Register}
-use Rattle.state.specs.declared.registers.Register.TheVariants as Register
 use Rattle.state.specs.Moving.{leaves}
 use Rattle.state.specs.Registers.{State, pushed, popped, popped_to, spot_of, register_of, direction_of}
 use Rattle.turns.specs.Placing.{Located, Setting, font_of, Outcome, continues, leaves_range, with_numbers, moves_to, set_character, put_character, plain_move, distance_or, register_move, after_kind, after, Contents, adding, on_outcome, placing}

@@ -15,9 +15,7 @@ use Rattle.state.specs.Steps.{Bounded}
 use Rattle.placements.specs.declared.Record.{Record}
 use Rattle.turns.specs.declared.Terms.{Terms}
 use Rattle.placements.specs.declared.Adds.{Adds}
-use Rattle.placements.specs.declared.Adds.TheVariants as Adds
 use Rattle.turns.specs.declared.Turn.{Turn}
-use Rattle.turns.specs.declared.Turn.TheVariants as Turn
 use Rattle.placements.specs.Records.{character_record}
 use Rattle.turns.specs.Placing.{look_in}
 use Rattle.placements.specs.Steps.{InWords}

@@ -13,16 +13,13 @@ use Rattle.units.specs.Rounding.{rounded_up}
 use Rattle.scaling.specs.Scaling.{scaled_by}
 use Rattle.widths.specs.LookUp.{LookUp, found, absent}
 use Rattle.commands.specs.declared.Kind.{Kind}
-use Rattle.commands.specs.declared.Kind.TheVariants as Kind
 use Rattle.commands.specs.Commands.{Command, kind_of_command}
 use Rattle.commands.specs.Parameters.{distance, rule_height, rule_width}
 use Rattle.list.specs.Past.{is_a}
 use Rattle.state.specs.declared.Level.{Level}
 use Rattle.state.specs.declared.Font.{Font}
 use Rattle.state.specs.declared.moving.Direction.{Direction}
-use Rattle.state.specs.declared.moving.Direction.TheVariants as Direction
 use Rattle.state.specs.declared.registers.Register.{Register}
-use Rattle.state.specs.declared.registers.Register.TheVariants as Register
 use Rattle.state.specs.Moving.{leaves}
 use Rattle.state.specs.Registers.{State, popped_to, spot_of, register_of, direction_of}
 use Rattle.placements.specs.declared.Record.{Record}

@@ -13,7 +13,6 @@ use Rattle.numbers.specs.Bytes.{unsigned_at}
 use Rattle.numbers.proofs.Bytes.{power_le, unsigned_below}
 use Rattle.numbers.proofs.Signed.{abs_cond, from_small}
 use Rattle.commands.specs.declared.Kind.{Kind}
-use Rattle.commands.specs.declared.Kind.TheVariants as Kind
 use Rattle.commands.specs.Commands.{Command, Whole, kind_of_command}
 use Rattle.commands.specs.Parameters.{distance, rule_height, rule_width}
 use Rattle.commands.specs.ByKind.{last, fixed_by}
@@ -22,19 +21,15 @@ use Rattle.list.proofs.Arms.{on_kinds}
 use Rattle.state.specs.declared.Level.{Level}
 use Rattle.state.specs.declared.Font.{Font}
 use Rattle.state.specs.declared.moving.Direction.{Direction}
-use Rattle.state.specs.declared.moving.Direction.TheVariants as Direction
 use Rattle.state.specs.declared.moving.Stride.TheVariants as Stride
 use Rattle.state.specs.declared.registers.Register.{Register}
-use Rattle.state.specs.declared.registers.Register.TheVariants as Register
 use Rattle.state.specs.Moving.{leaves}
 use Rattle.state.specs.Registers.{State, spot_of, moved_by, register_of, direction_of}
 use Rattle.state.specs.Steps.{Bounded}
 use Rattle.state.proofs.Levels.{register_in}
 use Rattle.turns.specs.declared.Terms.{Terms}
 use Rattle.placements.specs.declared.Adds.{Adds}
-use Rattle.placements.specs.declared.Adds.TheVariants as Adds
 use Rattle.turns.specs.declared.Turn.{Turn}
-use Rattle.turns.specs.declared.Turn.TheVariants as Turn
 use Rattle.turns.specs.declared.Asked.{Asked}
 use Rattle.turns.specs.Placing.{Setting, Outcome, continues, leaves_range, moves_to, rule_added, set_rule, plain_move, distance_or, register_move, after_kind, after}
 use Rattle.placements.specs.Records.{Added}

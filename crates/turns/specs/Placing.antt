@@ -15,12 +15,10 @@ use Rattle.list.specs.Past.{body, Definition, none, stands, definition_of}
 use Rattle.state.specs.declared.Level.{Level}
 use Rattle.state.specs.declared.Font.{Font}
 use Rattle.state.specs.declared.moving.Direction.{Direction}
-use Rattle.state.specs.declared.moving.Direction.TheVariants as Direction
 use Rattle.state.specs.declared.moving.Stride.TheVariants as Stride
 use Rattle.state.specs.declared.moving.Ruler.{Ruler}
 use Rattle.state.specs.Moving.{leaves}
 use Rattle.state.specs.declared.registers.Register.{Register}
-use Rattle.state.specs.declared.registers.Register.TheVariants as Register
 use Rattle.state.specs.Registers.{State, unselected, pushed, popped, spot_of, moved_by, character_moved, register_of, direction_of, moved_by_register}
 use Rattle.placements.specs.declared.Record.{Record}
 use Rattle.placements.specs.Records.{character_record, rule_record, Added, nothing, placed, missing, special}

@@ -6,24 +6,20 @@ use Rattle.names.specs.Steps.{InEights}
 use Rattle.scaling.specs.Steps.{sixteenfold_of}
 use Rattle.widths.specs.Steps.{BlockIs}
 use Rattle.commands.specs.declared.Kind.{Kind}
-use Rattle.commands.specs.declared.Kind.TheVariants as Kind
 use Rattle.commands.specs.Kinds.{is}
 use Rattle.commands.specs.Commands.{Command, kind_of_command, whole, front}
 use Rattle.commands.specs.Parameters.{distance, rule_height, rule_width}
 use Rattle.state.specs.declared.Level.{Level}
 use Rattle.state.specs.declared.Font.{Font}
 use Rattle.state.specs.declared.moving.Direction.{Direction}
-use Rattle.state.specs.declared.moving.Direction.TheVariants as Direction
 use Rattle.state.specs.declared.moving.Stride.TheVariants as Stride
 use Rattle.state.specs.declared.registers.Register.{Register}
-use Rattle.state.specs.declared.registers.Register.TheVariants as Register
 use Rattle.state.specs.Moving.{leaves}
 use Rattle.state.specs.Registers.{State, pushed, popped, spot_of, moved_by, character_moved, register_of, direction_of, moved_by_register}
 use Rattle.turns.specs.declared.Kept.{Kept}
 use Rattle.turns.specs.declared.Terms.{Terms}
 use Rattle.placements.specs.declared.Adds.{Adds}
 use Rattle.turns.specs.declared.Turn.{Turn}
-use Rattle.turns.specs.declared.Turn.TheVariants as Turn
 use Rattle.turns.specs.declared.Asked.{Asked}
 use Rattle.turns.specs.declared.Step.{Step}
 use Rattle.placements.specs.Records.{rule_record, Added, nothing, placed}

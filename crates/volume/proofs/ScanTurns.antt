@@ -16,7 +16,6 @@ use Rattle.commands.proofs.Lengths.{fixed_of, whole_fixed}
 use Rattle.commands.proofs.Readings.{command_at, Reads}
 use Rattle.list.specs.declared.Volume.{Volume}
 use Rattle.volume.specs.declared.Scanned.{Scanned}
-use Rattle.volume.specs.declared.Scanned.TheVariants as Scanned
 use Rattle.list.specs.Past.{is_a}
 use Rattle.list.specs.Rules.{fault}
 use Rattle.volume.specs.Judged.{tail, judged}

@@ -21,7 +21,7 @@ use Rattle.commands.proofs.Lengths.{fixed_of, inner_below}
 use Rattle.commands.proofs.Fronts.{after_whole, front_at}
 use Rattle.list.specs.declared.Stage.TheVariants.{OnPage}
 use Rattle.list.specs.declared.Volume.{Volume}
-use Rattle.list.specs.Past.{stage, depth, depth_after, selected, is_defined, definition_of}
+use Rattle.list.specs.Past.{stage, depth, depth_after, is_defined, definition_of}
 use Rattle.list.specs.Rules.{fault, lawful_font}
 use Rattle.list.specs.Steps.{command, changed}
 use Rattle.volume.specs.Steps.{may_push_or_pop, may_pass, Passes, Going, Onward}

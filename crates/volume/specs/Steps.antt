@@ -10,13 +10,10 @@ use Rattle.state.specs.Limits.{deepest}
 use Rattle.volume.specs.declared.Summary.{Summary}
 use Rattle.list.specs.declared.Volume.{Volume}
 use Rattle.volume.specs.declared.Scanned.{Scanned}
-use Rattle.volume.specs.declared.Scanned.TheVariants as Scanned
 use Rattle.list.specs.declared.Part.{Part}
 use Rattle.volume.specs.declared.Named.{Named}
-use Rattle.volume.specs.declared.Named.TheVariants as Named
 use Rattle.volume.specs.declared.Checked.{Checked}
-use Rattle.volume.specs.declared.Checked.TheVariants as Checked
-use Rattle.list.specs.Past.{depth, greatest, pages, definition_of}
+use Rattle.list.specs.Past.{depth, definition_of}
 use Rattle.list.specs.Steps.{Agrees, AllStanding, Lawfully, Tells, volume_of}
 use Rattle.volume.specs.Judged.{judged, judged_from}
 use Rattle.volume.specs.History.{history, history_from}

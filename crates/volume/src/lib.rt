@@ -4,7 +4,7 @@
 use list::{Part, Volume};
 use refusals::Refusal;
 
-pub mod names;
+pub mod naming;
 pub mod plain;
 pub mod scanning;
 

@@ -9,6 +9,7 @@ use list::{Volume, faults, fonts, progress};
 use refusals::Refusal;
 
 // 11: the bytes after post_post are 223s, and at least four.
+#[tactic(auto, using(crate::proofs::Tails::tail_short, crate::proofs::Tails::tail_done, crate::proofs::Tails::tail_wrong))]
 fn ended(file: &[u8], at: usize, v: Volume) -> Scanned
     requires { at ≤ length file.now }
     ensures result_value { scan_answer result ≡ tail (summary_of v) at 0 (drop at file.now) }

@@ -11,7 +11,5 @@ use Rattle.names.proofs.has_zero.Given as goal
 abbrev pub invariant-loop-index : goal.invariant-loop-index
 invariant-loop-index l = has_zero l.bytes ≡ has_zero (drop l.index l.bytes)
 
-
 abbrev pub decreases-loop-index : goal.decreases-loop-index
 decreases-loop-index l = length l.bytes - l.index
-

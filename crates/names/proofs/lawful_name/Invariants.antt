@@ -11,7 +11,5 @@ use Rattle.names.proofs.lawful_name.Given as goal
 abbrev pub invariant-loop-index : goal.invariant-loop-index
 invariant-loop-index l = name_then_zeros l.bytes ≡ name_then_zeros (drop l.index l.bytes)
 
-
 abbrev pub decreases-loop-index : goal.decreases-loop-index
 decreases-loop-index l = length l.bytes - l.index
-

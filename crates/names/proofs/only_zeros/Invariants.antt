@@ -11,7 +11,5 @@ use Rattle.names.proofs.only_zeros.Given as goal
 abbrev pub invariant-loop-index : goal.invariant-loop-index
 invariant-loop-index l = all_zeros (drop l.from l.bytes) ≡ all_zeros (drop l.index l.bytes)
 
-
 abbrev pub decreases-loop-index : goal.decreases-loop-index
 decreases-loop-index l = length l.bytes - l.index
-

@@ -13,7 +13,5 @@ use Rattle.placements.proofs.paste_at.Given as goal
 abbrev pub invariant-loop-index : goal.invariant-loop-index
 invariant-loop-index l = (l.index ≤ 20) × (length l.bytes ≡ 20) × (length l.out ≡ length l.initial.out) × (l.out ≡ paste l.initial.out l.at l.bytes l.index)
 
-
 abbrev pub decreases-loop-index : goal.decreases-loop-index
 decreases-loop-index l = 20 - l.index
-

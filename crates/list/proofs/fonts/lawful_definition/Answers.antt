@@ -11,22 +11,19 @@ use lib.Signed.{mag}
 use mir.Syntax.{w64}
 use mir.Val.{to_z, of_z}
 use mir.Facts.{to_z-of_z}
-use borrow.Author.Rules.{rules, sfits_of}
+use borrow.Author.Rules.{sfits_of}
 use Rattle.numbers.specs.Sizes.{lawful_size}
 use Rattle.commands.specs.Fields.{definition_number_size, definition_name}
 use Rattle.commands.specs.declared.Kind.TheVariants.{Define}
 use Rattle.commands.specs.Kinds.{kind_of}
 use Rattle.commands.specs.Lengths.{fixed_length}
-use Rattle.commands.specs.Commands.{Command}
 use Rattle.commands.specs.Parameters.{defined_font, definition, font_scale, font_design_size}
 use Rattle.commands.proofs.Opcodes.{kind_range}
 use Rattle.commands.proofs.Lengths.{fixed_of}
 use Rattle.state.specs.Limits.{most_fonts}
-use Rattle.list.specs.declared.Stage.{Stage}
-use Rattle.list.specs.Past.{is_after_post, Definition, definition_of}
-use Rattle.list.specs.Rules.{lawful_font, says, lawful_definition}
-use Rattle.list.specs.Steps.{command}
-use Rattle.list.proofs.FontTables.{told_yes, told_none, told_says, in_turn, wrong_number, wrong_scale_lem, wrong_design_size, turn_decides, twice_after, once_after, twice_before, once_before, said_all}
+use Rattle.list.specs.Past.{is_after_post, definition_of}
+use Rattle.list.specs.Rules.{lawful_font, says}
+use Rattle.list.proofs.FontTables.{told_none, told_says, wrong_scale_lem, wrong_design_size, turn_decides, once_after, once_before, said_all}
 use Rattle.list.proofs.fonts.lawful_definition.Goals as goal
 
 -- ---- of a definition's opcode and parameters
@@ -112,7 +109,7 @@ returns c past early late standing stage_is count_is =
     let lawful : lawful_font number ≡ true = tested lawful_font named c.lawful_font.ensures c.if-not-lawful_font.false in
     ap (λ (count : ℕ). ltb count most_fonts) count_is
     ∙ once_before past number (definition opcode params) (tested is_after_post stage_is c.after_post.ensures c.if-after_post.false)
-    (told_none early number lawful (c.entry_of-early.ensures ∙ ap (λ (n : ℤ). get_or c.args.fonts.now (nat_abs n) 0) named) c.if-early-ne0.false)
+    (told_none early number lawful (c.entry_of-early.ensures ∙ ap (λ (n : ℤ). get_or c.args.fonts.now (nat_abs n) 0) named) (omega arith))
     ∙ turn_decides past opcode params lawful
     (tested lawful_size (c.unsigned_in.ensures.value ∙ ap font_scale (said_is opcode params)) c.lawful_size.ensures c.if-not-lawful_size.false)
     (tested lawful_size (c.unsigned_in-2.ensures.value ∙ ap font_design_size (said_is opcode params)) c.lawful_size-2.ensures c.if-not-lawful_size-2.false)

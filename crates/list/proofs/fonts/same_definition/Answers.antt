@@ -3,7 +3,6 @@ use mathlib.Core.Path.{ap, ◌∙◌}
 use mathlib.Core.List.{List}
 use Prim.Native.Nat.{ℕ, ◌-◌}
 use lib.ListN.{take, drop}
-use borrow.Author.Rules.{rules}
 use Rattle.list.specs.declared.Part.{Part}
 use Rattle.list.specs.Rules.{same_bytes}
 use Rattle.list.proofs.Sayings.{part_says}

@@ -2,7 +2,6 @@
 use mathlib.Core.Path.{ap₂}
 use Prim.Native.Nat.{ℕ}
 use native.Mathlib.Omega.{arith}
-use borrow.Author.Rules.{rules}
 use Rattle.list.proofs.Sayings.{inside, opcode_between, start_is, end_is}
 use Rattle.list.proofs.fonts.saying_at.Goals as goal
 

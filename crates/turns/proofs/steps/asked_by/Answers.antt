@@ -5,7 +5,7 @@ use mathlib.Core.Logic.{◌⊎◌, inl, inr, ⊎_elim}
 use mathlib.Core.List.{List}
 use Prim.Native.Nat.{ℕ, ◌<◌, ◌≤◌}
 use native.Mathlib.Omega.{arith}
-use borrow.Author.Rules.{rules, sfits_of}
+use borrow.Author.Rules.{sfits_of}
 use borrow.Author.Tests.{lt-ltb, le-ltb}
 use lib.ListN.{length, get_or}
 use lib.Dec.{ltb}
@@ -14,7 +14,6 @@ use mir.Syntax.{w64}
 use mir.Val.{to_z, of_z}
 use mir.Facts.{to_z-of_z}
 use Rattle.commands.specs.declared.Kind.{Kind}
-use Rattle.commands.specs.declared.Kind.TheVariants as Kind
 use Rattle.commands.specs.Kinds.{kind_of}
 use Rattle.commands.specs.Commands.{Command, Whole, kind_of_command}
 use Rattle.commands.specs.Parameters.{character_code, selected_font}
@@ -23,7 +22,6 @@ use Rattle.commands.proofs.Opcodes.{kind_range}
 use Rattle.commands.proofs.Lengths.{has_inner, whole_at_most, whole_plain}
 use Rattle.placements.specs.declared.Adds.TheVariants as Adds
 use Rattle.turns.specs.declared.Turn.{Turn}
-use Rattle.turns.specs.declared.Turn.TheVariants as Turn
 use Rattle.turns.specs.declared.Asked.{Asked}
 use Rattle.turns.specs.declared.Terms.{Terms}
 use Rattle.state.specs.declared.Level.{Level}
@@ -69,14 +67,16 @@ module _ (opcode : ℕ) (params : List ℕ) (whole : Whole (command opcode param
         subst (λ (t : Bool). CharacterAsks terms table level font t (character_code opcode params) r) sets-is
         (subst (λ (z : ℤ). CharacterAsks terms table level font test z r) code-is asks)
 
-    character_asks : CharacterAsks terms table level font (ltb opcode 132) code r → (k ≡ Kind.SetCharacter) ⊎ (k ≡ Kind.PutCharacter) → (volume : List Command)
+    -- a bound on opcodes that parts the characters that are set from those that are put
+    character_asks : {bound : ℕ} → CharacterAsks terms table level font (ltb opcode bound) code r → (k ≡ Kind.SetCharacter) ⊎ (k ≡ Kind.PutCharacter)
+        → last Kind.SetCharacter < bound → bound ≤ first Kind.PutCharacter → (volume : List Command)
         → CommandAsks (terms_setting terms table volume) level font (command opcode params) r
-    character_asks given (inl is) volume =
-        let both = asked given true (lt-ltb opcode 132 (omega (arith, (range is).1))) volume in
+    character_asks {bound} given (inl is) over under volume =
+        let both = asked given true (lt-ltb opcode bound (omega (arith, (range is).1, over))) volume in
         let comes = both.0 in
         asks (terms_setting terms table volume) level font r is (record { does = comes.does; safe = comes.safe; words = comes.words }) both.1
-    character_asks given (inr is) volume =
-        let both = asked given false (le-ltb opcode 132 (omega (arith, (range is).0))) volume in
+    character_asks {bound} given (inr is) over under volume =
+        let both = asked given false (le-ltb opcode bound (omega (arith, (range is).0, under))) volume in
         let comes = both.0 in
         asks (terms_setting terms table volume) level font r is (record { does = comes.does; safe = comes.safe; words = comes.words }) both.1
 
@@ -122,7 +122,7 @@ returns-in-SetCharacter c =
     let code = c.character_code-code in
     let a = c.args in
     character_asks a.opcode a.params.now c.requires.whole c.kind_of-kind.ensures a.terms a.widths.now a.level a.font c.character.result
-    (to_z-of_z {w = w64} (sfits_of code.type_inv) ∙ code.ensures.0) c.character.ensures c.in-SetCharacter.is
+    (to_z-of_z {w = w64} (sfits_of code.type_inv) ∙ code.ensures.0) c.character.ensures c.in-SetCharacter.is (omega arith) (omega arith)
 
 pub returns-in-SetRule : goal.returns-in-SetRule
 returns-in-SetRule c volume =

@@ -3,7 +3,7 @@ use mathlib.Core.Path.{◌≡◌, sym, ap, ap₂, ◌∙◌, subst}
 use mathlib.Core.List.{List}
 use Prim.Native.Nat.{ℕ, ◌≤◌, ◌<◌, ◌^◌}
 use native.Mathlib.Omega.{arith}
-use borrow.Author.Rules.{rules, sfits_of}
+use borrow.Author.Rules.{sfits_of}
 use lib.IntN.{ℤ, nat_abs}
 use lib.ListN.{get_or}
 use mir.Syntax.{w64}
@@ -19,7 +19,6 @@ use Rattle.widths.specs.Steps.{found_at, FoundIn, Among}
 use Rattle.widths.specs.Table.{checked_table, record_of}
 use Rattle.widths.specs.declared.Metric.{Metric}
 use Rattle.widths.specs.declared.table.Place.{Place}
-use Rattle.widths.specs.declared.table.Place.TheVariants as Place
 use Rattle.refusals.specs.Answer.{given}
 use Rattle.state.specs.declared.Level.{Level}
 use Rattle.state.specs.declared.Font.{Font}
@@ -31,11 +30,10 @@ use Rattle.widths.proofs.BlockSearch.{in_order}
 use Rattle.widths.proofs.TableLaws.{record_inside}
 use Rattle.state.specs.declared.moving.Direction.TheVariants as Direction
 use Rattle.turns.specs.declared.Turn.{Turn}
-use Rattle.turns.specs.declared.Turn.TheVariants as Turn
 use Rattle.turns.specs.Placing.{look_in}
 use Rattle.turns.specs.Steps.{Known, KeptFor, unless_left}
-use Rattle.turns.proofs.Found.{Hit, looked_found, found_width, found_escapement}
-use Rattle.turns.proofs.CharacterLaws.{absent_asks, Present, put_asks, set_asks}
+use Rattle.turns.proofs.Found.{looked_found, found_width, found_escapement}
+use Rattle.turns.proofs.CharacterLaws.{Present, put_asks, set_asks}
 use Rattle.turns.proofs.Words.{word}
 use Rattle.turns.proofs.steps.character.Goals as goal
 

@@ -2,11 +2,10 @@
 use mathlib.Core.Path.{◌≡◌, sym, ap, ap₂, ◌∙◌, subst}
 use mathlib.Core.Bool.{true, false}
 use native.Mathlib.Omega.{arith}
-use borrow.Author.Rules.{rules}
 use lib.IntN.{ℤ, pos}
 use lib.Signed.{lt_z, le_z}
 use mir.Facts.{to_z-of_z}
-use Rattle.numbers.proofs.Signed.{le_yes, le_no, yes_lt, no_lt}
+use Rattle.numbers.proofs.Signed.{le_no, yes_lt}
 use Rattle.units.specs.Rounding.{rounded_up}
 use Rattle.units.proofs.Rounding.{up_within}
 use Rattle.placements.specs.Records.{rule_record, placed}

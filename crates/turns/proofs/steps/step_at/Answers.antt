@@ -3,13 +3,11 @@ use mathlib.Core.Path.{◌≡◌, sym, ap, ◌∙◌, subst}
 use mathlib.Core.List.{List}
 use Prim.Native.Nat.{ℕ, ◌+◌}
 use native.Mathlib.Omega.{arith}
-use borrow.Author.Rules.{rules}
 use lib.ListN.{length, drop}
 use Rattle.commands.specs.Commands.{Command, whole}
 use Rattle.commands.specs.Reading.{read_at}
 use Rattle.commands.specs.declared.Reading.{Reading}
 use Rattle.commands.specs.declared.Read.{Read}
-use Rattle.commands.specs.declared.Read.TheVariants as Read
 use Rattle.commands.specs.Steps.{read_answer}
 use Rattle.commands.proofs.Readings.{command_at, Reads, given_reads}
 use Rattle.turns.specs.Steps.{terms_setting, CommandAsks}

@@ -1,9 +1,7 @@
 -- `volume::plain::pass_characters` meets its contract. The loop's invariant: from the place given to the place reached stand characters of one byte.
 -- The measure is what is left of the file. Assumes nothing.
-use Prim.Native.Nat.{◌-◌}
 use native.Mathlib.Omega.{arith}
-use lib.ListN.{length}
-use Rattle.volume.specs.Steps.{Passes, none_more}
+use Rattle.volume.specs.Steps.{none_more}
 use Rattle.volume.proofs.RunLaws.{pass_character}
 use Rattle.volume.proofs.plain.pass_characters.Goals as goal
 

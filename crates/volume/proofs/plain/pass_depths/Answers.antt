@@ -1,13 +1,8 @@
 -- `volume::plain::pass_depths` meets its contract. The loop's invariant: the scan may go on from what was reached. The measure is what is left of the file.
 -- Assumes nothing.
 use mathlib.Core.Path.{sym, ◌∙◌}
-use mathlib.Core.List.{List}
-use Prim.Native.Nat.{ℕ, ◌-◌, ◌≤◌}
 use native.Mathlib.Omega.{arith}
-use lib.ListN.{length, get_or}
-use borrow.Author.Rules.{rules}
-use Rattle.list.specs.Steps.{changed}
-use Rattle.volume.specs.Steps.{Onward}
+use lib.ListN.{get_or}
 use Rattle.volume.proofs.ShortLaws.{push_shallow, onward_depth}
 use Rattle.volume.proofs.plain.pass_depths.Goals as goal
 

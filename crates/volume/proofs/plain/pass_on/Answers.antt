@@ -1,12 +1,8 @@
 -- `volume::plain::pass_on` meets its contract. The loop's invariant: the scan may go on from what was reached. The measure is what is left of the file.
 -- Assumes nothing.
-use Prim.Native.Nat.{◌-◌, ◌≤◌}
 use native.Mathlib.Omega.{arith}
-use lib.ListN.{length, get_or}
+use lib.ListN.{get_or}
 use mathlib.Core.Path.{sym, ◌∙◌}
-use borrow.Author.Rules.{rules}
-use Rattle.list.specs.Steps.{changed}
-use Rattle.volume.specs.Steps.{Onward}
 use Rattle.volume.proofs.Going.{forward}
 use Rattle.volume.proofs.ShortLaws.{pass_shallow, onward_plain, onward_short}
 use Rattle.volume.proofs.plain.pass_on.Goals as goal

@@ -1,20 +1,12 @@
 -- `volume::plain::pass_on` meets its contract. The loop's invariant: the scan may go on from what was reached. The measure is what is left of the file.
 use Prim.Native.Nat.{◌-◌, ◌≤◌}
-use native.Mathlib.Omega.{arith}
-use lib.ListN.{length, get_or}
-use mathlib.Core.Path.{sym, ◌∙◌}
-use borrow.Author.Rules.{rules}
-use borrow.Author.Tests.{not-false}
+use lib.ListN.{length}
 use Rattle.list.specs.Steps.{changed}
 use Rattle.volume.specs.Steps.{Onward}
-use Rattle.volume.proofs.Going.{forward}
-use Rattle.volume.proofs.ShortLaws.{pass_shallow, onward_plain, onward_short}
 use Rattle.volume.proofs.plain.pass_on.Given as goal
 
 abbrev pub invariant-loop-place : goal.invariant-loop-place
 invariant-loop-place l = Onward l.file l.fonts l.v (changed l.v l.v.stage l.place l.depth l.greatest) × (l.v.at ≤ l.place)
 
-
 abbrev pub decreases-loop-place : goal.decreases-loop-place
 decreases-loop-place l = length l.file - l.place
-

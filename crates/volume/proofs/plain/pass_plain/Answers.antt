@@ -1,10 +1,8 @@
 -- `volume::plain::pass_plain` meets its contract. The loop's invariant: from the place given to the place reached stand whole plain commands.
 -- The measure is what is left of the file. Assumes nothing.
 use mathlib.Core.Path.{sym, ◌∙◌}
-use Prim.Native.Nat.{◌-◌}
 use native.Mathlib.Omega.{arith}
-use lib.ListN.{length}
-use Rattle.volume.specs.Steps.{Passes, none_more}
+use Rattle.volume.specs.Steps.{none_more}
 use Rattle.volume.proofs.RunLaws.{plain_below, pass_one, passes_on}
 use Rattle.volume.proofs.Going.{forward}
 use Rattle.volume.proofs.plain.pass_plain.Goals as goal

@@ -1,17 +1,13 @@
 -- `volume::scanning::ended` meets its contract: what is judged of the tail is what is judged of the rest of it. Assumes nothing.
-use mathlib.Core.Path.{◌≡◌, refl, sym, ap, ◌∙◌}
-use Prim.Native.Nat.{ℕ, ◌+◌, ◌-◌, ◌≤◌}
-use native.Mathlib.Omega.{arith}
+use mathlib.Core.Path.{◌≡◌}
+use Prim.Native.Nat.{◌-◌, ◌≤◌}
 use lib.ListN.{length, drop}
 use Rattle.volume.specs.Judged.{tail}
 use Rattle.volume.specs.Steps.{summary_of}
-use Rattle.volume.proofs.Tails.{tail_step, tail_wrong, tail_short, tail_done}
 use Rattle.volume.proofs.scanning.ended.Given as goal
 
 abbrev pub invariant-loop-place : goal.invariant-loop-place
 invariant-loop-place l = (l.at ≤ l.place) × (l.place ≤ length l.file) × (tail (summary_of l.v) l.at 0 (drop l.at l.file) ≡ tail (summary_of l.v) l.place (l.place - l.at) (drop l.place l.file))
 
-
 abbrev pub decreases-loop-place : goal.decreases-loop-place
 decreases-loop-place l = length l.file - l.place
-

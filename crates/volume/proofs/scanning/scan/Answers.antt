@@ -1,17 +1,16 @@
 -- `volume::scanning::scan` meets its contract: at each turn what the code holds stands for the commands so far. Assumes nothing.
 use mathlib.Core.Path.{◌≡◌, refl, sym, ap, ◌∙◌, subst}
 use mathlib.Core.Bool.{Bool, true, false}
-use mathlib.Core.List.{List, [], ◌∷◌}
-use Prim.Native.Nat.{ℕ, ◌-◌}
+use mathlib.Core.List.{List, []}
+use Prim.Native.Nat.{ℕ}
 use native.Mathlib.Omega.{arith}
-use borrow.Author.Rules.{rules}
 use borrow.Author.Tests.{lt-ltb}
-use lib.ListN.{length, replicate}
+use lib.ListN.{replicate}
 use Rattle.commands.specs.declared.Kind.{Kind}
 use Rattle.commands.specs.declared.Kind.TheVariants.{PostPost}
 use Rattle.commands.specs.Kinds.{is}
 use Rattle.commands.specs.Steps.{read_answer}
-use Rattle.commands.proofs.Readings.{Reads, given_reads}
+use Rattle.commands.proofs.Readings.{given_reads}
 use Rattle.list.specs.declared.Volume.{Volume}
 use Rattle.volume.specs.Judged.{judged}
 use Rattle.list.specs.Steps.{volume_of}

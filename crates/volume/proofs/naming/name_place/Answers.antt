@@ -1,9 +1,8 @@
--- `volume::names::name_place` meets its contract: the file is judged, then the table of its definitions is asked. Assumes nothing.
-use mathlib.Core.Path.{refl, sym, ap, ◌∙◌, subst}
+-- `volume::naming::name_place` meets its contract: the file is judged, then the table of its definitions is asked. Assumes nothing.
+use mathlib.Core.Path.{sym, ap, ◌∙◌, subst}
 use mathlib.Core.Bool.{false}
 use mathlib.Core.List.{List}
 use Prim.Native.Nat.{ℕ}
-use borrow.Author.Rules.{rules}
 use mir.Syntax.{w64}
 use lib.IntN.{ℤ}
 use mir.Facts.{to_z-of_z}
@@ -14,7 +13,7 @@ use Rattle.list.specs.Past.{definition_of}
 use Rattle.volume.specs.Names.{named_by}
 use Rattle.volume.specs.History.{history}
 use Rattle.volume.specs.Steps.{scan_answer, ScanKeeps}
-use Rattle.volume.proofs.names.name_place.Goals as goal
+use Rattle.volume.proofs.naming.name_place.Goals as goal
 
 -- what follows the judgement of a file
 next : List ℕ → ℤ → Summary → Answer Part

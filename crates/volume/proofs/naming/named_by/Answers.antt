@@ -1,10 +1,9 @@
--- `volume::names::named_by` meets its contract: an entry of the table leads to the definition, and the definition to the name. Assumes nothing.
+-- `volume::naming::named_by` meets its contract: an entry of the table leads to the definition, and the definition to the name. Assumes nothing.
 use mathlib.Core.Path.{◌≡◌, sym, ap, ◌∙◌, subst}
 use mathlib.Core.Bool.{Bool, true, false}
 use mathlib.Core.List.{List}
 use Prim.Native.Nat.{ℕ, ◌-◌}
 use native.Mathlib.Omega.{arith}
-use borrow.Author.Rules.{rules}
 use mir.Syntax.{w64}
 use lib.ListN.{get_or}
 use lib.IntN.{ℤ, nat_abs}
@@ -12,8 +11,8 @@ use mir.Facts.{to_z-of_z}
 use Rattle.commands.specs.Commands.{Command}
 use Rattle.list.specs.Rules.{lawful_font}
 use Rattle.list.specs.Steps.{Tells, AllStanding}
-use Rattle.volume.proofs.NameLaws.{no_number, no_entry, Leads, leads, said_long, name_is}
-use Rattle.volume.proofs.names.named_by.Goals as goal
+use Rattle.volume.proofs.NameLaws.{Leads, leads, said_long, name_is}
+use Rattle.volume.proofs.naming.named_by.Goals as goal
 
 -- what the tests of the number and of its entry say
 lawful : {z number : ℤ} → z ≡ number → {t : Bool} → t ≡ lawful_font z → t ≡ true → lawful_font number ≡ true
@@ -39,8 +38,12 @@ returns-then-end-start-lt-DEFINITION_NAME c past tells standing lawfully =
     let a = c.args in
     let same = to_z-of_z {w = w64} c.ranges.number in
     let s = c.saying_at-part in
-    absurd (omega (arith, said_long a.file.now a.fonts.now a.number past tells standing (lawful same c.lawful_font.ensures c.if-not-lawful_font.false)
-    (definition a.file.now a.fonts.now same c.lawful_font.ensures c.if-not-lawful_font.false c.entry_of-entry.ensures c.if-entry-eq0.false past tells standing) s.result s.ensures, c.if-end-start-lt-DEFINITION_NAME.true))
+    absurd (omega (
+      arith,
+      said_long a.file.now a.fonts.now a.number past tells standing (lawful same c.lawful_font.ensures c.if-not-lawful_font.false)
+          (definition a.file.now a.fonts.now same c.lawful_font.ensures c.if-not-lawful_font.false c.entry_of-entry.ensures c.if-entry-eq0.false past tells standing) s.result s.ensures,
+      c.if-end-start-lt-DEFINITION_NAME.true,
+    ))
 
 pub returns : goal.returns
 returns c past tells standing lawfully =
