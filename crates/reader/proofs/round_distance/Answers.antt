@@ -1,9 +1,6 @@
 -- What `round` requires in `reader::round_distance`: K was given, and a 32-bit distance is small. Assumes nothing.
-use Rattle.std.proofs.Common.{◌≡◌, ℕ, ℤ, nat_abs, w32, to_z, of_z, sym, rules}
-use Rattle.refusals.specs.Answer.{given}
-use Rattle.units.specs.declared.Ratio.{Ratio}
-use Rattle.units.specs.Unit.{unit_of}
-use Rattle.units.specs.Steps.{Units, Workable}
+use Rattle.std.proofs.Common.{ℕ, ℤ, nat_abs, w32, to_z, of_z, sym, rules}
+use Rattle.units.specs.Steps.{Units}
 use Rattle.units.proofs.Unit.{accepted}
 use Rattle.reader.proofs.Words.{small_cast}
 use Rattle.reader.proofs.round_distance.Goals as goal
