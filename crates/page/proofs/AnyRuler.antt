@@ -11,7 +11,6 @@ use Rattle.refusals.specs.Answer.{Answer, refused, given, and_then}
 use Rattle.scaling.specs.Scaling.{scaled_by}
 use Rattle.widths.specs.LookUp.{LookUp, found, absent}
 use Rattle.commands.specs.declared.Kind.{Kind}
-use Rattle.commands.specs.declared.Kind.TheVariants as Kind
 use Rattle.commands.specs.Commands.{Command, kind_of_command}
 use Rattle.commands.specs.Parameters.{character_code, distance, rule_width}
 use Rattle.state.specs.declared.Level.{Level}

@@ -27,7 +27,6 @@ use Rattle.state.specs.Registers.{fresh_state}
 use Rattle.placements.specs.declared.Counts.{Counts}
 use Rattle.turns.specs.declared.Terms.{Terms}
 use Rattle.page.specs.declared.Walked.{Walked}
-use Rattle.page.specs.declared.Walked.TheVariants as Walked
 use Rattle.placements.specs.Records.{placement_record_size}
 use Rattle.page.specs.PageList.{page_of}
 use Rattle.turns.specs.Placing.{Contents, placing}

@@ -2,10 +2,10 @@
 use mathlib.Core.Path.{◌≡◌, refl, sym, ap, ap₂, ◌∙◌, subst}
 use mathlib.Core.Bool.{false}
 use mathlib.Core.List.{List}
-use Prim.Native.Nat.{ℕ, ◌+◌, ◌-◌, ◌<◌, ◌≤◌, ◌^◌}
+use Prim.Native.Nat.{ℕ, ◌+◌, ◌-◌, ◌<◌, ◌≤◌}
 use native.Mathlib.Omega.{arith}
 use lib.ListN.{length, get_or, set, length-set}
-use lib.IntN.{ℤ, nat_abs, ◌+ℤ◌}
+use lib.IntN.{ℤ}
 use mir.Syntax.{w64}
 use mir.Val.{to_z, of_z}
 use Rattle.volume.specs.History.{history}
@@ -15,29 +15,24 @@ use Rattle.state.specs.declared.KeptLevel.{KeptLevel}
 use Rattle.state.specs.declared.Font.{Font}
 use Rattle.state.specs.declared.Page.{Page}
 use Rattle.state.specs.declared.moving.Direction.{Direction}
-use Rattle.state.specs.declared.moving.Direction.TheVariants as Direction
 use Rattle.state.specs.declared.moving.Stride.{Stride}
-use Rattle.state.specs.declared.moving.Stride.TheVariants as Stride
 use Rattle.state.specs.declared.moving.Ruler.{Ruler}
 use Rattle.state.specs.declared.registers.Register.{Register}
-use Rattle.state.specs.Moving.{leaves}
-use Rattle.state.specs.Registers.{State, pushed, popped, spot_of, moved_by, character_moved, direction_of, moved_by_register}
+use Rattle.state.specs.Registers.{State, pushed, popped, moved_by, character_moved, direction_of, moved_by_register}
 use Rattle.state.specs.Steps.{zero_kept, level_in, kept_with_register, kept_moved_by, kept_past, RoundsLevel, RoundsBelow, page_state, saved_of, with_level, with_font, Ruled, Bounded}
 use Rattle.state.proofs.Levels.{bounded_moved, bounded_by_register, bounded_character, stored}
 use Rattle.state.proofs.Kept.{level_moved, level_by_register, rounds_at, rounds_register, rounds_pushed, rounds_popped}
 use Rattle.placements.specs.declared.Counts.{Counts}
-use Rattle.placements.specs.Records.{Added}
 use Rattle.placements.specs.Steps.{added_of, area_noted, count_noted, AddsInWords}
 use Rattle.turns.specs.declared.Kept.{Kept}
 use Rattle.turns.specs.declared.Step.{Step}
 use Rattle.turns.specs.declared.Terms.{Terms}
 use Rattle.turns.specs.declared.Turn.{Turn}
-use Rattle.turns.specs.declared.Turn.TheVariants as Turn
-use Rattle.turns.specs.Placing.{Setting, continues, with_numbers, font_of, placing}
+use Rattle.turns.specs.Placing.{Setting, continues, with_numbers, font_of}
 use Rattle.turns.specs.Blocks.{inside}
 use Rattle.turns.specs.Steps.{did, terms_setting, Known, KeptFor, StepAsks, Stays, Safe, turn_frame}
 use Rattle.turns.proofs.Frames.{is_ending, depth_by}
-use Rattle.turns.proofs.Words.{word, small_word}
+use Rattle.turns.proofs.Words.{word}
 use Rattle.page.specs.declared.Seen.{Seen}
 use Rattle.page.specs.Steps.{AllSeen, SeenIs}
 use Rattle.page.proofs.PageRuns.{runs_inside}

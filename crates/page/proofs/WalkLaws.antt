@@ -29,7 +29,6 @@ use Rattle.state.proofs.Kept.{rounds_zero}
 use Rattle.placements.specs.declared.Counts.{Counts}
 use Rattle.turns.specs.declared.Terms.{Terms}
 use Rattle.turns.specs.declared.Turn.{Turn}
-use Rattle.turns.specs.declared.Turn.TheVariants as Turn
 use Rattle.turns.specs.declared.Step.{Step}
 use Rattle.turns.specs.Placing.{Located, Setting, Outcome, continues, leaves_range, with_numbers, adding, on_outcome, after, placing}
 use Rattle.page.specs.PageList.{page_of}

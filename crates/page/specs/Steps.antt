@@ -6,7 +6,6 @@ use Rattle.units.specs.Steps.{Workable}
 use Rattle.widths.specs.declared.blocks.Block.{Block}
 use Rattle.widths.specs.Table.{checked_table}
 use Rattle.commands.specs.declared.Kind.{Kind}
-use Rattle.commands.specs.declared.Kind.TheVariants as Kind
 use Rattle.commands.specs.Commands.{Command, kind_of_command, whole, front}
 use Rattle.commands.specs.Parameters.{font_scale}
 use Rattle.commands.specs.Reading.{longest_file}
@@ -24,9 +23,7 @@ use Rattle.placements.specs.declared.Counts.{Counts}
 use Rattle.page.specs.declared.Seen.{Seen}
 use Rattle.turns.specs.declared.Terms.{Terms}
 use Rattle.page.specs.declared.Walked.{Walked}
-use Rattle.page.specs.declared.Walked.TheVariants as Walked
 use Rattle.page.specs.declared.PagePlaced.{PagePlaced}
-use Rattle.page.specs.declared.PagePlaced.TheVariants as PagePlaced
 use Rattle.placements.specs.Steps.{stored}
 use Rattle.turns.specs.Placing.{Located, font_by, Contents}
 use Rattle.turns.specs.Steps.{Known, KeptFor}

@@ -19,17 +19,14 @@ use Rattle.units.proofs.Rounding.{up_some}
 use Rattle.scaling.specs.Scaling.{scaled_by}
 use Rattle.widths.specs.LookUp.{LookUp, found, absent}
 use Rattle.commands.specs.declared.Kind.{Kind}
-use Rattle.commands.specs.declared.Kind.TheVariants as Kind
 use Rattle.commands.specs.Commands.{Command, kind_of_command}
 use Rattle.commands.specs.Parameters.{distance, rule_height, rule_width}
 use Rattle.list.specs.Past.{is_a}
 use Rattle.list.proofs.Arms.{is_kind}
 use Rattle.state.specs.declared.Level.{Level}
 use Rattle.state.specs.declared.moving.Direction.{Direction}
-use Rattle.state.specs.declared.moving.Direction.TheVariants as Direction
 use Rattle.state.specs.declared.moving.Stride.TheVariants as Stride
 use Rattle.state.specs.declared.registers.Register.{Register}
-use Rattle.state.specs.declared.registers.Register.TheVariants as Register
 use Rattle.state.specs.Moving.{Spot, leaves}
 use Rattle.state.specs.Registers.{State, fresh_state, popped_to, spot_of, register_of, direction_of}
 use Rattle.state.specs.Nearby.{Near, AllNear, StateNear}
@@ -42,7 +39,6 @@ use Rattle.turns.specs.Blocks.{to, lead_on, after_all}
 use Rattle.turns.proofs.CountLaws.{and_given}
 use Rattle.turns.proofs.Blocks.{out_to, to_same, run_append, placed_leads}
 use Rattle.reader.specs.declared.Placed.{Placed}
-use Rattle.reader.specs.declared.Placed.TheVariants as Placed
 use Rattle.reader.proofs.place_page.Reads as place-page
 use Rattle.promises.specs.Calls.{Arguments, area, own, Grounds, grounds_setting}
 use Rattle.promises.specs.Bars.{record_added, AtCommand, past_bar, BarMoves, bites, Covers, ClearBar}

@@ -18,7 +18,6 @@ use Rattle.rewritten.specs.OldWords.{pages_up_to}
 use Rattle.rewritten.proofs.AllPages.{up_to_right}
 use Rattle.rewritten.proofs.CutAccepted.{cut_accepted_lem, cut_length, cut_again}
 use Rattle.reader.specs.declared.PagesCut.{PagesCut}
-use Rattle.reader.specs.declared.PagesCut.TheVariants as PagesCut
 use Rattle.reader.proofs.cut_pages.Reads as cut-pages
 use Rattle.promises.specs.Cuts.{IsCut, MayCut}
 use Rattle.promises.proofs.Cutting.{cut_pages_gives}

@@ -32,7 +32,6 @@ use Rattle.rewritten.proofs.CutAccepted.{cut_accepted_lem, cut_definitions}
 use Rattle.rewritten.proofs.CutPlaces.{cut_places}
 use Rattle.reader.specs.declared.FileChecked.{FileChecked}
 use Rattle.reader.specs.declared.PagesCut.{PagesCut}
-use Rattle.reader.specs.declared.PagesCut.TheVariants as PagesCut
 use Rattle.reader.specs.declared.Placed.{Placed}
 use Rattle.reader.specs.Answers.{file_answer, name_answer, placed_answer}
 use Rattle.reader.proofs.check_file.Reads as check-file

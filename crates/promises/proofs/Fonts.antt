@@ -32,7 +32,6 @@ use Rattle.packed.proofs.Written.{table_length}
 use Rattle.packed.proofs.MadeLaws.{made_given}
 use Rattle.packed.proofs.Writing.{judged_preambled}
 use Rattle.reader.specs.declared.TableMade.{TableMade}
-use Rattle.reader.specs.declared.TableMade.TheVariants as TableMade
 use Rattle.reader.specs.Answers.{made_answer}
 use Rattle.reader.proofs.width_table.Reads as width-table
 use Rattle.promises.specs.Fonts.{IsMade, Taken, made_by, upon, Among, first, later, OneForOne, Fits, Reads, Makes}

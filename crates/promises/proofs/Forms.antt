@@ -37,7 +37,6 @@ use Rattle.turns.specs.Placing.{look_in, Contents, placing}
 use Rattle.page.specs.Answers.{page_outside, with_room, placed_page, placed_counts, area_after}
 use Rattle.reader.specs.declared.TableChecked.{TableChecked}
 use Rattle.reader.specs.declared.TableMade.{TableMade}
-use Rattle.reader.specs.declared.TableMade.TheVariants as TableMade
 use Rattle.reader.specs.declared.Placed.{Placed}
 use Rattle.reader.specs.Answers.{table_answer, placed_answer}
 use Rattle.reader.proofs.check_table.Reads as check-table

@@ -4,23 +4,14 @@ use Prim.Native.Nat.{ℕ, zero, suc}
 use Rattle.refusals.specs.Answer.{Answer, refused, given}
 use Rattle.widths.specs.LookUp.{LookUp, found, absent}
 use Rattle.reader.specs.declared.CommandRead.{CommandRead}
-use Rattle.reader.specs.declared.CommandRead.TheVariants as CommandRead
 use Rattle.reader.specs.declared.FileChecked.{FileChecked}
-use Rattle.reader.specs.declared.FileChecked.TheVariants as FileChecked
 use Rattle.reader.specs.declared.Rounded.{Rounded}
-use Rattle.reader.specs.declared.Rounded.TheVariants as Rounded
 use Rattle.reader.specs.declared.Scaled.{Scaled}
-use Rattle.reader.specs.declared.Scaled.TheVariants as Scaled
 use Rattle.reader.specs.declared.TableChecked.{TableChecked}
-use Rattle.reader.specs.declared.TableChecked.TheVariants as TableChecked
 use Rattle.reader.specs.declared.LookedUp.{LookedUp}
-use Rattle.reader.specs.declared.LookedUp.TheVariants as LookedUp
 use Rattle.reader.specs.declared.TableMade.{TableMade}
-use Rattle.reader.specs.declared.TableMade.TheVariants as TableMade
 use Rattle.reader.specs.declared.PagesCut.{PagesCut}
-use Rattle.reader.specs.declared.PagesCut.TheVariants as PagesCut
 use Rattle.reader.specs.declared.Placed.{Placed}
-use Rattle.reader.specs.declared.Placed.TheVariants as Placed
 use Rattle.reader.specs.Answers.{command_answer, file_answer, name_answer, rounded_answer, scaled_answer, table_answer, looked_answer, made_answer, cut_answer, placed_answer}
 
 -- the outcome of an answer: of a refusal, and of a result

@@ -30,7 +30,6 @@ use Rattle.placements.proofs.Areas.{record_length}
 use Rattle.turns.proofs.CountLaws.{records_counted, missing_counted, specials_counted, refused_place}
 use Rattle.turns.proofs.CountLaws as counting
 use Rattle.reader.specs.declared.Placed.{Placed}
-use Rattle.reader.specs.declared.Placed.TheVariants as Placed
 use Rattle.reader.specs.Answers.{Refuses}
 use Rattle.reader.proofs.place_page.Reads as place-page
 use Rattle.promises.specs.Calls.{Arguments, file, table, resolution, page, area, meant, unit_here, own, Grounds, grounds_setting, seen_by}

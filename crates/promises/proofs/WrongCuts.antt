@@ -20,7 +20,6 @@ use Rattle.volume.specs.Starred.{M}
 use Rattle.cutting.specs.CutFile.{cut_pages, bytes_cut, cut_area}
 use Rattle.cutting.specs.Starred.{three_pages, cut_to1, cut_to2, cuts_hold}
 use Rattle.reader.specs.declared.PagesCut.{PagesCut}
-use Rattle.reader.specs.declared.PagesCut.TheVariants as PagesCut
 use Rattle.reader.specs.Answers.{NotCut}
 use Rattle.reader.proofs.cut_pages.Reads as cut-pages
 use Rattle.promises.specs.Cuts.{IsSmallest, IsOneOfThree}

@@ -13,7 +13,6 @@ use Rattle.numbers.specs.Bytes.{unsigned_at}
 use Rattle.widths.specs.Table.{record_in, checked_from}
 use Rattle.converting.specs.Converting.{unnamed_from, widen_table, narrow_table, widened_area, narrowed_area}
 use Rattle.reader.specs.declared.TableMade.{TableMade}
-use Rattle.reader.specs.declared.TableMade.TheVariants as TableMade
 use Rattle.reader.specs.Answers.{NotMade}
 use Rattle.reader.proofs.widen_table.Reads as widen-table
 use Rattle.reader.proofs.narrow_table.Reads as narrow-table

@@ -18,9 +18,7 @@ use Rattle.placements.specs.Records.{all_bytes}
 use Rattle.page.specs.Answers.{placed_page, placed_accepted, counts_of, placed_counts, area_after}
 use Rattle.page.specs.Printed.{example, printed, printed_placed, printed_bytes, printed_bytes_lem}
 use Rattle.reader.specs.declared.FileChecked.{FileChecked}
-use Rattle.reader.specs.declared.FileChecked.TheVariants as FileChecked
 use Rattle.reader.specs.declared.Placed.{Placed}
-use Rattle.reader.specs.declared.Placed.TheVariants as Placed
 use Rattle.reader.specs.Answers.{Accepts, Refuses}
 use Rattle.reader.proofs.check_file.Reads as check-file
 use Rattle.reader.proofs.place_page.Reads as place-page

@@ -19,7 +19,6 @@ use Rattle.widths.specs.Entries.{entry_bytes}
 use Rattle.packed.specs.Table.{table_made, records_made, table_area}
 use Rattle.packed.specs.Starred.{opening, xi, record_for}
 use Rattle.reader.specs.declared.TableMade.{TableMade}
-use Rattle.reader.specs.declared.TableMade.TheVariants as TableMade
 use Rattle.reader.specs.Answers.{NotMade}
 use Rattle.reader.proofs.width_table.Reads as width-table
 use Rattle.promises.specs.Fonts.{IsXi}

@@ -8,7 +8,6 @@ use Rattle.cutting.specs.Chosen.{wrong_list}
 use Rattle.cutting.specs.CutFile.{cut_file}
 use Rattle.cutting.specs.Starred.{three_pages}
 use Rattle.reader.specs.declared.PagesCut.{PagesCut}
-use Rattle.reader.specs.declared.PagesCut.TheVariants as PagesCut
 
 -- of a file and a list a call with an area gave so many bytes and left the area so (rules 9.1, 9.10)
 pub record Gives (file list area : List ℕ) (bytes : ℕ) (after : List ℕ) : Type 0 where

@@ -18,7 +18,6 @@ use Rattle.packed.specs.Judged.{taken}
 use Rattle.packed.specs.Table.{font_checksum, entry_of, font_table, with_room}
 use Rattle.packed.specs.Starred.{opening, xi}
 use Rattle.reader.specs.declared.TableMade.{TableMade}
-use Rattle.reader.specs.declared.TableMade.TheVariants as TableMade
 
 -- the commands of a list upon those before, the newest first (rule 11.9)
 abbrev pub upon : List Command → List Command → List Command

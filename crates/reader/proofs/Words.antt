@@ -17,3 +17,6 @@ module _ {z : ℤ} (f : SFits w32 z) where
 
   pub cast_is : to_z w64 (of_z w64 (to_z w32 (of_z w32 z))) ≡ z
   cast_is = simp (to_z-of_z, f, sfits_widen {w = w32} {w' = w64} tt f)
+
+  pub small_cast : nat_abs (to_z w64 (of_z w64 (to_z w32 (of_z w32 z)))) ≤ 2 ^ 31
+  small_cast = rw cast_is (small z f)

@@ -8,23 +8,14 @@ use Rattle.volume.specs.declared.Summary.{Summary}
 use Rattle.list.specs.declared.Part.{Part}
 use Rattle.placements.specs.declared.Counts.{Counts}
 use Rattle.reader.specs.declared.CommandRead.{CommandRead}
-use Rattle.reader.specs.declared.CommandRead.TheVariants as CommandRead
 use Rattle.reader.specs.declared.FileChecked.{FileChecked}
-use Rattle.reader.specs.declared.FileChecked.TheVariants as FileChecked
 use Rattle.reader.specs.declared.Scaled.{Scaled}
-use Rattle.reader.specs.declared.Scaled.TheVariants as Scaled
 use Rattle.reader.specs.declared.TableChecked.{TableChecked}
-use Rattle.reader.specs.declared.TableChecked.TheVariants as TableChecked
 use Rattle.reader.specs.declared.LookedUp.{LookedUp}
-use Rattle.reader.specs.declared.LookedUp.TheVariants as LookedUp
 use Rattle.reader.specs.declared.Rounded.{Rounded}
-use Rattle.reader.specs.declared.Rounded.TheVariants as Rounded
 use Rattle.reader.specs.declared.TableMade.{TableMade}
-use Rattle.reader.specs.declared.TableMade.TheVariants as TableMade
 use Rattle.reader.specs.declared.PagesCut.{PagesCut}
-use Rattle.reader.specs.declared.PagesCut.TheVariants as PagesCut
 use Rattle.reader.specs.declared.Placed.{Placed}
-use Rattle.reader.specs.declared.Placed.TheVariants as Placed
 
 -- read_command: the opcode, where its parameters start, and the place behind them (rule 9.3)
 abbrev pub command_answer : CommandRead → Answer Reading

@@ -1,7 +1,7 @@
 -- The new list goes along with the old one: what holds of both after each command, and that the new one keeps the rules. Assumes nothing.
 use Prim.Native.Nat.{ℕ, zero, suc, ◌+◌, ◌^◌, ◌≤◌, ◌<◌, max}
 use mathlib.Core.Path.{◌≡◌, refl, sym, ap, ap₂, ◌∙◌, subst}
-use mathlib.Core.Bool.{Bool, true, false, cond, not, ◌&&◌, ◌||◌, true≢false, false≢true, and_false}
+use mathlib.Core.Bool.{Bool, true, false, cond, not, ◌&&◌, ◌||◌, true≢false, false≢true, and-false}
 use mathlib.Core.List.{List, ◌∷◌}
 use native.Mathlib.Numerals.{add-one}
 use native.Mathlib.Omega.{arith}
@@ -292,7 +292,7 @@ module _ (first : List Command) (chosen : ℕ → Bool) (none-zero : chosen 0 �
           let still = inner_stage (kind_of_command c) inner (stage past) in
           subst (Along first chosen (c ∷ past)) (sym (rw (inner.no_bop, at, t)))
           (goes a (rw (still, inner.no_bop)) (rw inner.no_bop) (rw (still, inner.no_bop, at, t))
-          (λ o. absurd (false≢true (rw (still, inner.no_bop, at, t) at o))) (rw at (and_false (is_a Define c))))
+          (λ o. absurd (false≢true (rw (still, inner.no_bop, at, t) at o))) (rw at (and-false (is_a Define c))))
       on_inner inner true t true d =
           let k : kind_of_command c ≡ Define = is_kind (kind_of_command c) Define d in
           subst (Along first chosen (c ∷ past)) (sym (rw (k, at, t)))

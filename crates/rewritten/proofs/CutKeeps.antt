@@ -104,9 +104,15 @@ module _ (chosen : ℕ → Bool) (none-zero : chosen 0 ≡ false) (past : List C
         last = closed.last;
       }
 
+  same_opening : opening (c ∷ past) ≡ opening past
+  same_opening = rw k refl
+
+  cut_after_is : (first : List Command) → cut_after first chosen (c ∷ past) ≡ mended (cut_after first chosen past) c ∷ cut_after first chosen past
+  cut_after_is first = rw (k, old_end) refl
+
   -- the whole new list
   pub cut_is : cut_past chosen (c ∷ past) ≡ mended new c ∷ new
-  cut_is = rw (k, old_end)
+  cut_is = ap (λ (first : List Command). cut_after first chosen (c ∷ past)) same_opening ∙ cut_after_is (opening past)
 
   -- it is no longer, up to post_post
   pub cut_short : place (mended new c ∷ new) ≤ place (c ∷ past)

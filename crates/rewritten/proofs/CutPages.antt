@@ -1,7 +1,7 @@
 -- Each chosen page has, in the new list, the old page's commands without the definitions, at their new places. Assumes nothing.
 use Prim.Native.Nat.{ℕ, ◌+◌, ◌≤◌, ◌<◌}
 use mathlib.Core.Path.{◌≡◌, refl, sym, ap, ap₂, ◌∙◌, subst}
-use mathlib.Core.Bool.{Bool, true, false, cond, not, ◌&&◌, true≢false, false≢true, and_false}
+use mathlib.Core.Bool.{Bool, true, false, cond, not, ◌&&◌, true≢false, false≢true, and-false}
 use mathlib.Core.List.{List, [], ◌∷◌, ◌++◌}
 use native.Mathlib.Omega.{arith}
 use lib.Dec.{eqb, ltb}
@@ -31,7 +31,7 @@ page_empty page [] h = refl
 page_empty page (c ∷ past) h =
     let before : pages past < page = by (is_a Bop c) h in
     let other : eqb (pages past) page ≡ false = ne_eqb (pages past) page (λ e. omega arith) in
-    rw (other, and_false (is_on_page (stage past))) (page_empty page past before)
+    rw (other, and-false (is_on_page (stage past))) (page_empty page past before)
   where
     by : (bop : Bool) → cond bop (pages past + 1) (pages past) < page → pages past < page
     by true h = omega arith
@@ -89,7 +89,7 @@ module _ (first : List Command) (chosen : ℕ → Bool) (none-zero : chosen 0 �
     here = record { at = place past; command = c }
 
     on_inner : stage past ≡ OnPage → Inner (kind_of_command c) → (t : Bool) → chosen (pages past) ≡ t → (define : Bool) → is_a Define c ≡ define → Same (c ∷ past) next
-    on_inner at inner false t define d = goes_by (rw (inner.no_bop, at, t)) (rw (other_page t, and_false (is_on_page (stage past))))
+    on_inner at inner false t define d = goes_by (rw (inner.no_bop, at, t)) (rw (other_page t, and-false (is_on_page (stage past))))
     on_inner at inner true t true d =
         let k = is_kind (kind_of_command c) Define d in
         let e : next ≡ new = rw (k, at, t) in
@@ -123,7 +123,7 @@ module _ (first : List Command) (chosen : ℕ → Bool) (none-zero : chosen 0 �
     on_eop at k = by
       where
         off : (x y : Bool) → (x && (y && not (is_a Eop c))) ≡ false
-        off x y = rw (k, and_false y, and_false x)
+        off x y = rw (k, and-false y, and-false x)
 
         by : (t : Bool) → chosen (pages past) ≡ t → Same (c ∷ past) next
         by false t = goes_by (rw (k, at, t)) (off (is_on_page (stage past)) (eqb (pages past) i))

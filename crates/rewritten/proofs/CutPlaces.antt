@@ -5,7 +5,7 @@ use mathlib.Core.Bool.{Bool, true, false, cond}
 use mathlib.Core.List.{List, ◌∷◌, ◌++◌}
 use native.Mathlib.Omega.{arith}
 use lib.Dec.{ltb, eqb}
-use lib.ListN.{length, length_map}
+use lib.ListN.{length, length-map}
 use lib.IntN.{ℤ}
 use borrow.Author.Tests.{le-leb, ne_eqb}
 use Rattle.refusals.specs.Numbers.{position_out_of_range, area_too_short}
@@ -58,7 +58,7 @@ module _ (page : ℕ) (moved : ℕ → ℕ) where
   room_renumbered : (room : ℕ) (x : Answer Contents) → and_then (renumbered page moved x) (with_room room) ≡ renumbered page moved (and_then x (with_room room))
   room_renumbered room (refused number at) = refl
   room_renumbered room (given p) =
-      ap (λ (n : ℕ). refuse_if (ltb room (placement_record_size * n)) area_too_short 0 (given (contents_on page p))) (length_map p.placements (record_on page))
+      ap (λ (n : ℕ). refuse_if (ltb room (placement_record_size * n)) area_too_short 0 (given (contents_on page p))) (length-map p.placements (record_on page))
       ∙ by (ltb room (placement_record_size * length p.placements))
     where
       by : (short : Bool) → refuse_if short area_too_short 0 (given (contents_on page p)) ≡ renumbered page moved (refuse_if short area_too_short 0 (given p))
@@ -84,7 +84,7 @@ module _ (page : ℕ) (moved : ℕ → ℕ) where
   counts_given : (x : Answer Contents) (counts : Counts) → placed_counts x ≡ given counts → placed_counts (renumbered page moved x) ≡ given counts
   counts_given (refused number at) counts e = absurd (given_not_refused counts number at (sym e))
   counts_given (given p) counts e =
-      ap (λ (n : ℕ). given (record { records = n; missing = p.missing_characters; specials = p.specials })) (length_map p.placements (record_on page)) ∙ e
+      ap (λ (n : ℕ). given (record { records = n; missing = p.missing_characters; specials = p.specials })) (length-map p.placements (record_on page)) ∙ e
 
   -- the number of what is refused
   number_refused : (x : Answer Contents) (number at : ℕ) → placed_counts x ≡ refused number at → (there : ℕ) × (placed_counts (renumbered page moved x) ≡ refused number there)

@@ -9,17 +9,14 @@ use Rattle.units.specs.Rounding.{rounded_up}
 use Rattle.scaling.specs.Scaling.{scaled_by}
 use Rattle.widths.specs.LookUp.{LookUp, found, absent}
 use Rattle.commands.specs.declared.Kind.{Kind}
-use Rattle.commands.specs.declared.Kind.TheVariants as Kind
 use Rattle.commands.specs.Commands.{Command, kind_of_command}
 use Rattle.commands.specs.Parameters.{character_code, distance, rule_height, rule_width, selected_font}
 use Rattle.list.specs.Past.{is_a, Definition, none, stands, definition_of}
 use Rattle.list.proofs.Arms.{is_kind}
 use Rattle.state.specs.declared.Font.{Font}
 use Rattle.state.specs.declared.moving.Direction.{Direction}
-use Rattle.state.specs.declared.moving.Direction.TheVariants as Direction
 use Rattle.state.specs.declared.moving.Stride.TheVariants as Stride
 use Rattle.state.specs.declared.registers.Register.{Register}
-use Rattle.state.specs.declared.registers.Register.TheVariants as Register
 use Rattle.state.specs.Moving.{leaves}
 use Rattle.state.specs.Registers.{State, spot_of, moved_by, register_of, direction_of}
 use Rattle.placements.specs.Records.{rule_record, Added, nothing, placed, missing, special}

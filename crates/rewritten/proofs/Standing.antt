@@ -16,7 +16,7 @@ use Rattle.cutting.specs.CutList.{opening, stays, mended, cut_after, cut_past}
 use Rattle.cutting.proofs.Turning.{Turn, starts, idles, defines_early, begins, within, finishes, posts, idles_late, defines_again, ends, turn_of}
 use Rattle.rewritten.specs.OldWords.{new_place_after}
 use Rattle.rewritten.specs.SameCommand.{SameCommand}
-use Rattle.rewritten.proofs.Unwinding.{Sound, more, Closed}
+use Rattle.rewritten.proofs.Unwinding.{Sound, start, more, Closed}
 use Rattle.rewritten.proofs.NewPlaces.{place_there}
 
 -- ---- in the old list
@@ -28,6 +28,7 @@ IsAmong at c (l ∷ rest) = ((at ≡ l.at) × (c ≡ l.command)) ⊎ IsAmong at 
 
 among_more : (at : ℕ) (c : Command) (cs : List Located) (l : Located) → IsAmong at c (cs ++ (l ∷ [])) → IsAmong at c cs ⊎ ((at ≡ l.at) × (c ≡ l.command))
 among_more at c [] l (inl here) = inr here
+among_more at c [] l (inr there) = elim there [ ]
 among_more at c (d ∷ cs) l (inl here) = inl (inl here)
 among_more at c (d ∷ cs) l (inr there) = on (among_more at c cs l there)
   where
@@ -81,6 +82,7 @@ module _ (page at : ℕ) (c : Command) where
       by false is-on there = further (deeper there)
 
   before_end : {past : List Command} → Sound past → IsAmong at c (page_of page past) → Standing page at c past
+  before_end start among = elim among [ ]
   before_end (more sound w allowed not_last) among = with_more allowed (before_end sound) among
 
   -- so each of a page's commands stands in the whole list

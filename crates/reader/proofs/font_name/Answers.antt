@@ -1,9 +1,8 @@
 -- `reader::font_name` meets its contract: a refusal's number is one of the list, so never 0. Assumes nothing.
-use Rattle.std.proofs.Common.{◌≡◌, ◌∙◌, ℕ, ◌+◌, ◌≤◌, List, ℤ, length, sym, ap, subst, arith}
+use Rattle.std.proofs.Common.{◌≡◌, ◌∙◌, ℕ, ◌≤◌, List, ℤ, sym, ap, subst, arith}
 use Rattle.refusals.specs.Answer.{refused}
 use Rattle.refusals.specs.RefusedOnly.{Listed}
 use Rattle.volume.specs.Names.{name_place}
-use Rattle.reader.specs.Answers.{name_answer}
 use Rattle.reader.proofs.Words.{cast_is}
 use Rattle.reader.proofs.Listed.{name_listed}
 use Rattle.reader.proofs.Names.{refusal_answer}

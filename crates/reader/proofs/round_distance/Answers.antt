@@ -1,11 +1,8 @@
 -- What `round` requires in `reader::round_distance`: K was given, and a 32-bit distance is small. Assumes nothing.
-use Rattle.std.proofs.Common.{◌≡◌, ℕ, ℤ, nat_abs, w32, to_z, of_z, sym, rules}
-use Rattle.refusals.specs.Answer.{given}
-use Rattle.units.specs.declared.Ratio.{Ratio}
-use Rattle.units.specs.Unit.{unit_of}
-use Rattle.units.specs.Steps.{Units, Workable}
+use Rattle.std.proofs.Common.{ℕ, ℤ, nat_abs, w32, to_z, of_z, sym, rules}
+use Rattle.units.specs.Steps.{Units}
 use Rattle.units.proofs.Unit.{accepted}
-use Rattle.reader.proofs.Words.{small, cast_is}
+use Rattle.reader.proofs.Words.{small_cast}
 use Rattle.reader.proofs.round_distance.Goals as goal
 
 -- a 32-bit number as the code reads it
@@ -16,4 +13,4 @@ pub round-requires : goal.round-requires
 round-requires c =
     let a = c.args in
     let units : Units (read a.num) (read a.den) (read a.mag) = search rules in
-    ((accepted (read a.num) (read a.den) (read a.mag) a.resolution c.in-Is.k units (sym c.in-Is.ensures)).1, rw (cast_is c.ranges.n) (small a.n c.ranges.n))
+    ((accepted (read a.num) (read a.den) (read a.mag) a.resolution c.in-Is.k units (sym c.in-Is.ensures)).1, search (rules, small_cast))

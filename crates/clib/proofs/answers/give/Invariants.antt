@@ -1,13 +1,8 @@
 -- `clib::answers::give` meets its contract: so many numbers stand in front as the loop has gone round. Assumes nothing.
-use Prim.Native.Nat.{ℕ, ◌≤◌, ◌-◌}
-use mathlib.Core.List.{List, ◌++◌}
-use mathlib.Core.Path.{◌≡◌, refl, sym, ap, ◌∙◌}
-use native.Mathlib.Nat.{zero-add}
-use native.Mathlib.Omega.{arith}
-use native.Mathlib.Numerals.{add-one}
-use lib.ListN.{length, set, get_or, take, drop, length-set}
-use lib.Seq.{paste, paste-zero, paste-suc, take_all}
-use borrow.Author.Rules.{rules}
+use Prim.Native.Nat.{◌≤◌, ◌-◌}
+use mathlib.Core.Path.{◌≡◌}
+use lib.ListN.{length}
+use lib.Seq.{paste}
 use Rattle.clib.proofs.answers.give.Given as goal
 
 abbrev pub invariant-loop-index : goal.invariant-loop-index

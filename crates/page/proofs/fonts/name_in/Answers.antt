@@ -4,7 +4,7 @@ use Rattle.numbers.specs.Bytes.{unsigned_at}
 use lib.ListN.{drop, drop_of_length-le}
 use native.Mathlib.Omega.{arith}
 use Prim.Native.Nat.{ℕ, ◌+◌}
-use mathlib.Core.Path.{◌≡◌, sym, ap, ◌∙◌}
+use mathlib.Core.Path.{sym, ap, ◌∙◌}
 use Rattle.page.proofs.fonts.name_in.Goals as goal
 
 pub returns-then-said-start : goal.returns-then-said-start

@@ -1,14 +1,11 @@
 -- `page::placing::place_accepted` meets its contract: 12 to 15 in their order, then the page's commands. Assumes nothing.
 use mathlib.Core.Path.{◌≡◌, refl, sym, ap, ◌∙◌}
 use mathlib.Core.List.{List}
-use Prim.Native.Nat.{ℕ, ◌<◌, ◌≤◌}
+use Prim.Native.Nat.{ℕ}
 use native.Mathlib.Omega.{arith}
 use lib.ListN.{length}
-use Rattle.refusals.specs.Answer.{Answer, refused, given, and_then}
-use Rattle.refusals.specs.declared.Refusal.{Refusal}
-use Rattle.units.specs.declared.Ratio.{Ratio}
+use Rattle.refusals.specs.Answer.{Answer, and_then}
 use Rattle.units.specs.declared.UnitFound.{UnitFound}
-use Rattle.units.specs.declared.UnitFound.TheVariants as UnitFound
 use Rattle.units.specs.Unit.{unit_of, drift}
 use Rattle.units.specs.Steps.{unit_answer}
 use Rattle.widths.specs.declared.table.Table.{Table}

@@ -15,7 +15,7 @@ use Rattle.page.proofs.Turned.{asks, ruled, safe, less, all_small, handed, stays
 use Rattle.page.proofs.walking.walk.Goals as goal
 
 pub loop-stride-init : goal.loop-stride-init
-loop-stride-init c = 
+loop-stride-init c =
     let fresh = c.fresh-page in
     let right = c.requires.right in (
       starting c.requires c.args.out.now fresh.result fresh.ensures.0 fresh.ensures.1 fresh.ensures.2 fresh.ensures.3,
@@ -24,7 +24,7 @@ loop-stride-init c =
     )
 
 pub step_at-step-requires : goal.step_at-step-requires
-step_at-step-requires c = 
+step_at-step-requires c =
     let w = c.loop-stride.invariant.0 in
     (w.ready.right, w.ready.unit, w.sound.known, subst Bounded (sym c.level_of-level.ensures) w.sound.bounded, c.length_table-table.ensures, c.loop-stride.invariant.1)
 
@@ -59,28 +59,28 @@ pub loop-stride-preserved-in-Stay : goal.loop-stride-preserved-in-Stay
 loop-stride-preserved-in-Stay c = stays c.loop-stride.invariant.0 c.step_at-step.result c.level_of-level.ensures c.step_at-step.ensures c.loop-stride.seen c.loop-stride.invariant.1 c.loop-stride.invariant.2 c.note-counts.ensures.value c.note-counts.ensures.out_after c.in-Stay.is
 
 pub sideways-page-requires : goal.sideways-page-requires
-sideways-page-requires c = 
+sideways-page-requires c =
     record { ruled = (ruled c.loop-stride.invariant.0 c.step_at-step.result c.level_of-level.ensures c.step_at-step.ensures, c.loop-stride.invariant.0.sound.bounded, c.loop-stride.invariant.0.sound.rounds Direction.Sideways); n_bound = handed c.loop-stride.invariant.0 c.step_at-step.result c.level_of-level.ensures c.step_at-step.ensures Direction.Sideways c.in-Sideways.n (safe c.loop-stride.invariant.0 c.step_at-step.result c.level_of-level.ensures c.step_at-step.ensures (Turn.Sideways c.in-Sideways.stride c.in-Sideways.n) c.in-Sideways.is) }
 
 pub loop-stride-preserved-in-Sideways : goal.loop-stride-preserved-in-Sideways
 loop-stride-preserved-in-Sideways c = moves_sideways c.loop-stride.invariant.0 c.step_at-step.result c.level_of-level.ensures c.step_at-step.ensures c.loop-stride.seen c.loop-stride.invariant.1 c.loop-stride.invariant.2 c.note-counts.ensures.value c.note-counts.ensures.out_after c.in-Sideways.is c.sideways-page.ensures.value
 
 pub down-page-requires : goal.down-page-requires
-down-page-requires c = 
+down-page-requires c =
     record { ruled = (ruled c.loop-stride.invariant.0 c.step_at-step.result c.level_of-level.ensures c.step_at-step.ensures, c.loop-stride.invariant.0.sound.bounded, c.loop-stride.invariant.0.sound.rounds Direction.Down); n_bound = handed c.loop-stride.invariant.0 c.step_at-step.result c.level_of-level.ensures c.step_at-step.ensures Direction.Down c.in-Down.n (safe c.loop-stride.invariant.0 c.step_at-step.result c.level_of-level.ensures c.step_at-step.ensures (Turn.Down c.in-Down.n) c.in-Down.is) }
 
 pub loop-stride-preserved-in-Down : goal.loop-stride-preserved-in-Down
 loop-stride-preserved-in-Down c = moves_down c.loop-stride.invariant.0 c.step_at-step.result c.level_of-level.ensures c.step_at-step.ensures c.loop-stride.seen c.loop-stride.invariant.1 c.loop-stride.invariant.2 c.note-counts.ensures.value c.note-counts.ensures.out_after c.in-Down.is c.down-page.ensures.value
 
 pub moved_by_register-next-requires : goal.moved_by_register-next-requires
-moved_by_register-next-requires c = 
+moved_by_register-next-requires c =
     record { ruled = (ruled c.loop-stride.invariant.0 c.step_at-step.result c.level_of-level.ensures c.step_at-step.ensures, c.loop-stride.invariant.0.sound.bounded, c.loop-stride.invariant.0.sound.rounds (direction_of c.in-ByRegister.register)); n_bound = handed c.loop-stride.invariant.0 c.step_at-step.result c.level_of-level.ensures c.step_at-step.ensures (direction_of c.in-ByRegister.register) c.in-ByRegister.n (safe c.loop-stride.invariant.0 c.step_at-step.result c.level_of-level.ensures c.step_at-step.ensures (Turn.ByRegister c.in-ByRegister.register c.in-ByRegister.n) c.in-ByRegister.is) }
 
 pub loop-stride-preserved-in-ByRegister : goal.loop-stride-preserved-in-ByRegister
 loop-stride-preserved-in-ByRegister c = moves_by_register c.loop-stride.invariant.0 c.step_at-step.result c.level_of-level.ensures c.step_at-step.ensures c.loop-stride.seen c.loop-stride.invariant.1 c.loop-stride.invariant.2 c.note-counts.ensures.value c.note-counts.ensures.out_after c.in-ByRegister.is c.moved_by_register-next.ensures.value c.moved_to-page.ensures
 
 pub past_character-page-requires : goal.past_character-page-requires
-past_character-page-requires c = 
+past_character-page-requires c =
     let v = c.in-PastCharacter in
     let ok = safe c.loop-stride.invariant.0 c.step_at-step.result c.level_of-level.ensures c.step_at-step.ensures (Turn.PastCharacter v.width v.escapement) v.is in
     let by = handed c.loop-stride.invariant.0 c.step_at-step.result c.level_of-level.ensures c.step_at-step.ensures Direction.Sideways v.width ok.0 in
@@ -129,7 +129,7 @@ pub shape_of-out-in-End : goal.shape_of-out-in-End
 shape_of-out-in-End c = c.note-counts.auto.out ∙ c.loop-stride.invariant.0.long
 
 pub returns-in-End : goal.returns-in-End
-returns-in-End c = 
+returns-in-End c =
     let w = c.loop-stride.invariant.0 in
     let a = asks c.loop-stride.invariant.0 c.step_at-step.result c.level_of-level.ensures c.step_at-step.ensures in
     let r = c.step_at-step.result in
