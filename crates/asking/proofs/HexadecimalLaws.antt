@@ -10,7 +10,6 @@ use lib.ListN.{length, get_or, take, drop, set, length-drop, drop_of_length-le}
 use lib.Seq.{take-suc-set}
 use Rattle.io.specs.Counts.{IsPrefixLen}
 use Rattle.asking.specs.declared.words.Byte.{Byte}
-use Rattle.asking.specs.declared.words.Byte.TheVariants as Byte
 use Rattle.asking.specs.declared.spelled.BytesRead.{BytesRead}
 use Rattle.asking.specs.Hexadecimal.{Spelling, nothing, bytes, byte_of_pair, before, pairs_within, spelled_within, said_in}
 use Rattle.asking.proofs.DecimalLaws.{next}

@@ -3,11 +3,8 @@ use Rattle.std.specs.Prelude.{ℕ, ◌+◌, ◌-◌, ◌*◌, ◌≤◌, Bool, c
 use Rattle.asking.specs.declared.words.Unsigned.{Unsigned}
 use Rattle.asking.specs.declared.words.Unsigned.TheVariants.{Is, Not}
 use Rattle.asking.specs.declared.words.Unsigned32.{Unsigned32}
-use Rattle.asking.specs.declared.words.Unsigned32.TheVariants as Unsigned32
 use Rattle.asking.specs.declared.words.Byte.{Byte}
-use Rattle.asking.specs.declared.words.Byte.TheVariants as Byte
 use Rattle.asking.specs.declared.words.Signed32.{Signed32}
-use Rattle.asking.specs.declared.words.Signed32.TheVariants as Signed32
 
 -- the digits 0 to 9 are the bytes 48 to 57
 abbrev pub is_digit : ℕ → Bool

@@ -1,7 +1,6 @@
 -- Bytes in words, in lower-case hexadecimal. Assumes nothing.
 use Rattle.std.specs.Prelude.{ℕ, zero, suc, ◌+◌, ◌-◌, ◌*◌, Bool, cond, ◌&&◌, List, [], ◌∷◌, leb, eqb, take}
 use Rattle.asking.specs.declared.words.Byte.{Byte}
-use Rattle.asking.specs.declared.words.Byte.TheVariants as Byte
 use Rattle.asking.specs.declared.spelled.BytesRead.{BytesRead}
 use Rattle.asking.specs.Decimal.{is_digit}
 

@@ -57,12 +57,7 @@ fn number_argument<R: Env>(rt: &R, index: usize) -> Unsigned
     words::read_unsigned(&word[..length], 999999999)
 }
 
-fn place<R: Env + Files, W: Write>(
-    rt: &R,
-    out: &mut W,
-    resolution: u32,
-    page: u32,
-) -> Result<()> {
+fn place<R: Env + Files, W: Write>(rt: &R, out: &mut W, resolution: u32, page: u32) -> Result<()> {
     let mut file = [0u8; 65536];
     let file_read = file_argument(rt, 1, &mut file);
     if !file_read.whole {

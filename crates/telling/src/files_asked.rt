@@ -108,12 +108,7 @@ fn named(file: &[u8], font: i32) -> Line
 }
 
 // spell FILE FONT, whose answer can be longer than a line holds: it is printed as it is found
-pub fn spell<R: Files, W: Write>(
-    rt: &R,
-    out: &mut W,
-    line: &[u8],
-    file: &mut [u8],
-) -> Result<()> {
+pub fn spell<R: Files, W: Write>(rt: &R, out: &mut W, line: &[u8], file: &mut [u8]) -> Result<()> {
     let Signed32::Is(font) = words::read_signed32(word(line, 2)) else {
         return asking::no_input(out);
     };

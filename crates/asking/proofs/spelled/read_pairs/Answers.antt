@@ -1,5 +1,5 @@
 -- `asking::spelled::read_pairs` meets its contract.
-use Rattle.std.proofs.Common.{◌≡◌, sym, ◌∙◌, arith}
+use Rattle.std.proofs.Common.{sym, ◌∙◌, arith}
 use Rattle.asking.proofs.HexadecimalLaws.{ends, odd, full, wrong, right, unsaid}
 use Rattle.asking.proofs.spelled.read_pairs.Goals as goal
 
