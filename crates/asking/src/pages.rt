@@ -1,5 +1,5 @@
 // The answer of a page that was placed: a line a record, then the counts.
-ghost use Rattle.std.specs.Prelude.{◌≡◌, ◌+◌, ◌*◌, ◌≤◌, length, IfOk};
+ghost use Rattle.std.specs.Prelude.{◌≡◌, ◌+◌, ◌*◌, ◌≤◌, length, IfOk, OnErr};
 
 use printing::line::Line;
 use reader::Placed;
@@ -48,10 +48,11 @@ fn print_records<W: Write>(out: &mut W, area: &[u8], records: usize) -> Result<(
     printing::text(out, &block[..held])
 }
 
-// How much of the block is held with a line more; where it has no room for a line, what it holds is written first.
+// How much of the block is held with a line more; where it has no room for a line, what it holds is written first. Where that fails, the block is as it was.
 fn hold<W: Write>(out: &mut W, block: &mut [u8], held: usize, line: Line) -> Result<usize>
     requires { (length block.old ≡ 4096) × (held ≤ 4096) × (line.length ≤ 160) }
-    ensures { IfOk result (λ held. held ≤ 4096) }
+    ensures held { IfOk result (λ held. held ≤ 4096) }
+    ensures failed { OnErr result (block.new ≡ block.old) }
 {
     if 3936 < held {
         printing::text(out, &block[..held])?;
