@@ -8,9 +8,5 @@ pub fn paste(out: &mut [u8], at: usize, bytes: &[u8])
     requires { at + length bytes.now ≤ length out.old }
     ensures { out.new ≡ take at out.old ++ bytes.now ++ drop (at + length bytes.now) out.old }
 {
-    let mut index: usize = 0;
-    while index < bytes.len() {
-        out[at + index] = bytes[index];
-        index += 1;
-    }
+    out[at..at + bytes.len()].copy_from_slice(bytes);
 }

@@ -1,3 +1,2 @@
 pub mod DecimalLaws
 pub mod HexadecimalLaws
-pub mod RoomLaws

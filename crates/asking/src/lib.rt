@@ -2,9 +2,14 @@
 // Each function that writes fails where a write of it fails, and nowhere else.
 #![tactic(auto)]
 
-ghost use Rattle.std.specs.Prelude.{◌≤◌};
+ghost use Rattle.std.specs.Prelude.{◌≡◌, ◌++◌, [], ◌∷◌, IfSome, None};
+ghost use lib.Chars.{codes};
+ghost use Rattle.std.specs.Fmt.Cut.{IsTextOrCut};
+ghost use Rattle.std.specs.Fmt.InlineText.{inline_text};
+ghost use Rattle.refusals.specs.Printed.{refusal_text};
 
 use printing::line::Line;
+use refusals::Refusal;
 use std::io::{Result, Write};
 
 pub mod files;
@@ -15,11 +20,26 @@ pub mod words;
 
 // What answers a line, or arguments, that are no question
 pub fn no_input_line() -> Line
-    ensures { result.length ≤ 160 }
+    ensures { IsTextOrCut 160 (codes "no input\n") (inline_text result) }
 {
-    Line::empty().text(b"no input\n")
+    Line::of("no input\n")
 }
 
 pub fn no_input<W: Write>(out: &mut W) -> Result<()> {
-    no_input_line().print(out)
+    printing::line::print(out, &no_input_line())
+}
+
+// The answer of a question, and where there is none, because the words are no such question, what says so
+pub fn or_no_input(answer: Option<Line>) -> Line
+    ensures given { IfSome answer (λ line. result ≡ line) }
+    ensures none { answer ≡ None → IsTextOrCut 160 (codes "no input\n") (inline_text result) }
+{
+    answer.unwrap_or_else(no_input_line)
+}
+
+// What answers a question that the reader refuses
+pub fn refused(refusal: Refusal) -> Line
+    ensures { IsTextOrCut 160 (refusal_text refusal ++ 10 ∷ []) (inline_text result) }
+{
+    Line::of(format_args!("{refusal}\n"))
 }

@@ -1,127 +1,54 @@
-// Decimal numbers in words.
-ghost use Rattle.std.specs.Prelude.{◌≡◌, ◌≤◌, ◌^◌, pos, neg_ℤ};
-ghost use Rattle.asking.specs.Decimal.{decimal_of, may_follow, AtMost, unsigned32_of, byte_of, plain, minus, signed32_of};
-
-// The number that a word says, or that it says none of that kind
-#[derive(Clone, Copy)]
-pub enum Unsigned {
-    Is(u64),
-    Not,
-}
-
-#[derive(Clone, Copy)]
-pub enum Unsigned32 {
-    Is(u32),
-    Not,
-}
-
-#[derive(Clone, Copy)]
-pub enum Byte {
-    Is(u8),
-    Not,
-}
-
-#[derive(Clone, Copy)]
-pub enum Signed32 {
-    Is(i32),
-    Not,
-}
+// Decimal numbers in words. The library's own reading takes a plus sign too, which rule 10.2 does not: so these read digit by digit.
+ghost use Rattle.std.specs.Prelude.{◌≡◌, cond};
+ghost use Rattle.std.specs.declared.option.Option.TheVariants.{Some, None};
+ghost use Rattle.asking.specs.Decimal.{decimal_of, may_follow, appended, AtMost, unsigned32_of, byte_of, signed32_of};
 
 // One digit or more and nothing else, up to a greatest number.
-pub fn read_unsigned(word: &[u8], most: u64) -> Unsigned
+pub fn read_unsigned(word: &[u8], most: u64) -> Option<u64>
     ensures value { result ≡ decimal_of most word.now }
     ensures at_most { AtMost most result }
 {
-    if word.len() == 0 {
-        return Unsigned::Not;
+    if word.is_empty() {
+        return None;
     }
     let mut value: u64 = 0;
-    let mut i: usize = 0;
-    while i < word.len() {
-        let digit = numbers::wide(word[i]);
-        if !may_follow(most, value, digit) {
-            return Unsigned::Not;
-        }
-        value = value * 10 + (digit - 48);
-        i += 1;
+    for byte in word {
+        value = with_digit(most, value, *byte)?;
     }
-    Unsigned::Is(value)
+    Some(value)
 }
 
-// Whether a byte is a digit that makes no number above the greatest.
-fn may_follow(most: u64, value: u64, byte: u64) -> bool
-    ensures { result ≡ may_follow most value byte }
+// The number with a digit more; none where the byte is no digit, or makes a number above the greatest.
+fn with_digit(most: u64, value: u64, byte: u8) -> Option<u64>
+    ensures value { result ≡ cond (may_follow most value byte) (Some (appended value byte)) None }
+    ensures at_most { AtMost most result }
 {
-    if byte < 48 {
-        return false;
-    }
-    if 57 < byte {
-        return false;
-    }
-    let digit = byte - 48;
-    if most < digit {
-        return false;
-    }
-    if (most - digit) / 10 < value {
-        return false;
-    }
-    true
+    let b'0'..=b'9' = byte else {
+        return None;
+    };
+    let more = value.checked_mul(10)?.checked_add(u64::from(byte - b'0'))?;
+    if more <= most { Some(more) } else { None }
 }
 
-pub fn read_unsigned32(word: &[u8]) -> Unsigned32
+// This and `read_byte` differ in a type and a bound alone: one generic function would have to be handed both.
+pub fn read_unsigned32(word: &[u8]) -> Option<u32>
     ensures { result ≡ unsigned32_of word.now }
 {
-    match read_unsigned(word, 4294967295) {
-        Unsigned::Is(value) => Unsigned32::Is(value as u32),
-        Unsigned::Not => Unsigned32::Not,
-    }
+    Some(read_unsigned(word, 4294967295)? as u32)
 }
 
-pub fn read_byte(word: &[u8]) -> Byte
+pub fn read_byte(word: &[u8]) -> Option<u8>
     ensures { result ≡ byte_of word.now }
 {
-    match read_unsigned(word, 255) {
-        Unsigned::Is(value) => Byte::Is(value as u8),
-        Unsigned::Not => Byte::Not,
-    }
+    Some(read_unsigned(word, 255)? as u8)
 }
 
 // A minus may stand before the digits.
-pub fn read_signed32(word: &[u8]) -> Signed32
+pub fn read_signed32(word: &[u8]) -> Option<i32>
     ensures { result ≡ signed32_of word.now }
 {
-    if word.len() == 0 {
-        return Signed32::Not;
+    match word {
+        [b'-', digits @ ..] => Some(-(read_unsigned(digits, 2147483648)? as i64) as i32),
+        _ => Some(read_unsigned(word, 2147483647)? as i32),
     }
-    if word[0] == b'-' {
-        return read_minus(&word[1..]);
-    }
-    read_plain(word)
-}
-
-fn read_plain(digits: &[u8]) -> Signed32
-    ensures { result ≡ plain (decimal_of 2147483647 digits.now) }
-{
-    match read_unsigned(digits, 2147483647) {
-        Unsigned::Is(size) => Signed32::Is(size as i32),
-        Unsigned::Not => Signed32::Not,
-    }
-}
-
-// What the digits after a minus say
-fn read_minus(digits: &[u8]) -> Signed32
-    ensures { result ≡ minus (decimal_of 2147483648 digits.now) }
-{
-    match read_unsigned(digits, 2147483648) {
-        Unsigned::Is(size) => Signed32::Is(negative(size)),
-        Unsigned::Not => Signed32::Not,
-    }
-}
-
-// −size
-fn negative(size: u64) -> i32
-    requires { size ≤ 2 ^ 31 }
-    ensures { result ≡ neg_ℤ (pos size) }
-{
-    numbers::with_sign(-1, size) as i32
 }

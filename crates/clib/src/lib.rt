@@ -3,6 +3,7 @@
 #![tactic(auto)]
 
 mod answers;
+mod results;
 
 ghost use Rattle.std.specs.Prelude.{◌≡◌, length};
 ghost use Rattle.commands.specs.Reading.{command_read};
@@ -18,10 +19,6 @@ ghost use Rattle.cutting.specs.CutFile.{cut_pages, bytes_cut, cut_area};
 ghost use Rattle.page.specs.Answers.{placed_page, placed_counts, area_after};
 ghost use Rattle.clib.specs.Answers.{if_room, code, array_after, command_numbers, file_numbers, signed_numbers, placed_numbers, table_numbers, cut_numbers, looked_numbers, name_numbers};
 
-use reader::{
-    CommandRead, FileChecked, LookedUp, PagesCut, Placed, Rounded, Scaled, TableChecked, TableMade,
-};
-
 // The command at a place of the file: its opcode, where its parameters start, and the place after them.
 pub fn hurlyburn_read_command(file: &[u8], at: usize, answer: &mut [u64]) -> u32
     ensures value { result ≡ code 3 answer.old (command_read file.now at) }
@@ -30,17 +27,7 @@ pub fn hurlyburn_read_command(file: &[u8], at: usize, answer: &mut [u64]) -> u32
     if answer.len() < 3 {
         return answers::ARRAY_TOO_SHORT;
     }
-    match reader::read_command(file, at) {
-        CommandRead::Command {
-            opcode,
-            start,
-            next,
-        } => {
-            let numbers = [opcode as u64, start as u64, next as u64];
-            answers::give(answer, &numbers)
-        }
-        CommandRead::Refused { number, place } => answers::refuse(answer, number, place),
-    }
+    answers::tell(answer, reader::read_command(file, at))
 }
 
 // The check of a whole file: pages, fonts, greatest depth, place of post.
@@ -51,18 +38,7 @@ pub fn hurlyburn_check_file(file: &[u8], answer: &mut [u64]) -> u32
     if answer.len() < 4 {
         return answers::ARRAY_TOO_SHORT;
     }
-    match reader::check_file(file) {
-        FileChecked::Accepted {
-            pages,
-            fonts,
-            depth,
-            post,
-        } => {
-            let numbers = [pages as u64, fonts as u64, depth as u64, post as u64];
-            answers::give(answer, &numbers)
-        }
-        FileChecked::Refused { number, place } => answers::refuse(answer, number, place),
-    }
+    answers::tell(answer, reader::check_file(file))
 }
 
 // One page, its records written into the area: records, missing characters, specials.
@@ -81,17 +57,8 @@ pub fn hurlyburn_place_page(
     if answer.len() < 3 {
         return answers::ARRAY_TOO_SHORT;
     }
-    match reader::place_page(file, widths, resolution, page, area) {
-        Placed::Records {
-            records,
-            missing,
-            specials,
-        } => {
-            let numbers = [records as u64, missing as u64, specials as u64];
-            answers::give(answer, &numbers)
-        }
-        Placed::Refused { number, place } => answers::refuse(answer, number, place),
-    }
+    let outcome = reader::place_page(file, widths, resolution, page, area);
+    answers::tell(answer, outcome)
 }
 
 // A distance in pixels, at a file's units and a resolution.
@@ -109,13 +76,8 @@ pub fn hurlyburn_round_distance(
     if answer.len() < 1 {
         return answers::ARRAY_TOO_SHORT;
     }
-    match reader::round_distance(num, den, mag, resolution, n) {
-        Rounded::To(distance) => {
-            let numbers = [answers::word_of(distance)];
-            answers::give(answer, &numbers)
-        }
-        Rounded::Refused { number, place } => answers::refuse(answer, number, place),
-    }
+    let outcome = reader::round_distance(num, den, mag, resolution, n);
+    answers::tell(answer, outcome)
 }
 
 // The width of a fix word, bytes b0 to b3, at a font's scale.
@@ -126,13 +88,7 @@ pub fn hurlyburn_scale_width(scale: u32, b0: u8, b1: u8, b2: u8, b3: u8, answer:
     if answer.len() < 1 {
         return answers::ARRAY_TOO_SHORT;
     }
-    match reader::scale_width(scale, b0, b1, b2, b3) {
-        Scaled::To(width) => {
-            let numbers = [answers::word_of(width)];
-            answers::give(answer, &numbers)
-        }
-        Scaled::Refused { number, place } => answers::refuse(answer, number, place),
-    }
+    answers::tell(answer, reader::scale_width(scale, b0, b1, b2, b3))
 }
 
 // The check of a width table: records.
@@ -143,13 +99,7 @@ pub fn hurlyburn_check_table(table: &[u8], answer: &mut [u64]) -> u32
     if answer.len() < 1 {
         return answers::ARRAY_TOO_SHORT;
     }
-    match reader::check_table(table) {
-        TableChecked::Right(records) => {
-            let numbers = [records as u64];
-            answers::give(answer, &numbers)
-        }
-        TableChecked::Refused { number, place } => answers::refuse(answer, number, place),
-    }
+    answers::tell(answer, reader::check_table(table))
 }
 
 // What a width table says of a character of a font, by the font's name without its area: 1, escapement and the fix word's four bytes; or 0 where it is absent.
@@ -168,22 +118,21 @@ pub fn hurlyburn_look_up(
         return answers::ARRAY_TOO_SHORT;
     }
     match reader::look_up(table, checksum, scale, name, character) {
-        LookedUp::Found {
-            escapement,
-            b0,
-            b1,
-            b2,
-            b3,
-        } => {
-            let word = answers::word_of(escapement);
-            let numbers = [1, word, b0 as u64, b1 as u64, b2 as u64, b3 as u64];
+        Ok(None) => answers::give(answer, &[0]),
+        Ok(Some(metric)) => {
+            let escapement = answers::word_of(metric.escapement);
+            let width = metric.width;
+            let numbers = [
+                1,
+                escapement,
+                u64::from(width.b0),
+                u64::from(width.b1),
+                u64::from(width.b2),
+                u64::from(width.b3),
+            ];
             answers::give(answer, &numbers)
         }
-        LookedUp::Absent => {
-            let numbers = [0];
-            answers::give(answer, &numbers)
-        }
-        LookedUp::Refused { number, place } => answers::refuse(answer, number, place),
+        Err(refusal) => answers::refuse(answer, refusal),
     }
 }
 
@@ -196,13 +145,7 @@ pub fn hurlyburn_width_table(pk: &[u8], scale: u32, area: &mut [u8], answer: &mu
     if answer.len() < 1 {
         return answers::ARRAY_TOO_SHORT;
     }
-    match reader::width_table(pk, scale, area) {
-        TableMade::Records(records) => {
-            let numbers = [records as u64];
-            answers::give(answer, &numbers)
-        }
-        TableMade::Refused { number, place } => answers::refuse(answer, number, place),
-    }
+    answers::tell(answer, reader::width_table(pk, scale, area))
 }
 
 // A width table of the old form in the new one, written into the area: records.
@@ -214,13 +157,7 @@ pub fn hurlyburn_widen_table(old: &[u8], area: &mut [u8], answer: &mut [u64]) ->
     if answer.len() < 1 {
         return answers::ARRAY_TOO_SHORT;
     }
-    match reader::widen_table(old, area) {
-        TableMade::Records(records) => {
-            let numbers = [records as u64];
-            answers::give(answer, &numbers)
-        }
-        TableMade::Refused { number, place } => answers::refuse(answer, number, place),
-    }
+    answers::tell(answer, reader::widen_table(old, area))
 }
 
 // A width table none of whose records has a name, in the old form, written into the area: records.
@@ -232,13 +169,7 @@ pub fn hurlyburn_narrow_table(table: &[u8], area: &mut [u8], answer: &mut [u64])
     if answer.len() < 1 {
         return answers::ARRAY_TOO_SHORT;
     }
-    match reader::narrow_table(table, area) {
-        TableMade::Records(records) => {
-            let numbers = [records as u64];
-            answers::give(answer, &numbers)
-        }
-        TableMade::Refused { number, place } => answers::refuse(answer, number, place),
-    }
+    answers::tell(answer, reader::narrow_table(table, area))
 }
 
 // Chosen pages of a file, written into the area as a file of their own: bytes.
@@ -250,13 +181,7 @@ pub fn hurlyburn_cut_pages(file: &[u8], pages: &[u32], area: &mut [u8], answer: 
     if answer.len() < 1 {
         return answers::ARRAY_TOO_SHORT;
     }
-    match reader::cut_pages(file, pages, area) {
-        PagesCut::Bytes(bytes) => {
-            let numbers = [bytes as u64];
-            answers::give(answer, &numbers)
-        }
-        PagesCut::Refused { number, place } => answers::refuse(answer, number, place),
-    }
+    answers::tell(answer, reader::cut_pages(file, pages, area))
 }
 
 // The name of a font: where the part of the file that holds it starts, and the place past its end.
@@ -267,13 +192,11 @@ pub fn hurlyburn_font_name(file: &[u8], font: i32, answer: &mut [u64]) -> u32
     if answer.len() < 2 {
         return answers::ARRAY_TOO_SHORT;
     }
-    let mut number: u8 = 0;
-    let mut place: usize = 0;
-    let name = reader::font_name(file, font, &mut number, &mut place);
-    if number != 0 {
-        return answers::refuse(answer, number, place);
+    match reader::font_name(file, font) {
+        Ok(name) => {
+            let end = name.start + name.bytes.len();
+            answers::give(answer, &[name.start as u64, end as u64])
+        }
+        Err(refusal) => answers::refuse(answer, refusal),
     }
-    let end = place + name.len();
-    let numbers = [place as u64, end as u64];
-    answers::give(answer, &numbers)
 }

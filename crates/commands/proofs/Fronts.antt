@@ -12,7 +12,7 @@ use borrow.Author.Tests.{lt-ltb, le-ltb, le-leb, lt-leb}
 use Rattle.commands.specs.Lengths.{size_of}
 use Rattle.commands.specs.Commands.{Command, Whole, form, cut, undefined, whole, front_after, front}
 use Rattle.numbers.proofs.Radix.{less_or_not}
-use Rattle.commands.proofs.Lengths.{size_append, size_take, whole_fixed}
+use Rattle.commands.proofs.ParameterLengths.{size_append, size_take, whole_fixed}
 
 -- ---- what stands after an opcode, case by case
 

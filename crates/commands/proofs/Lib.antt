@@ -1,6 +1,6 @@
 pub mod Ranges
 pub mod Opcodes
-pub mod Lengths
+pub mod ParameterLengths
 pub mod Fronts
 pub mod Readings
 pub mod RefusedWith

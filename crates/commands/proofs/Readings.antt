@@ -12,32 +12,31 @@ use Rattle.commands.specs.declared.Reading.{Reading}
 use Rattle.commands.specs.Lengths.{size_of}
 use Rattle.commands.specs.Commands.{Command, Whole, form, Front, cut, undefined, whole, front}
 use Rattle.commands.specs.Reading.{reading, read_at}
-use Rattle.commands.proofs.Fronts.{after_undefined, after_cut, after_whole, front_at, front_end, front_sound, front_length}
+use Rattle.commands.proofs.Fronts.{after_undefined, after_cut, after_whole, front_at, front_sound, front_length}
 
 -- ---- the answer, case by case
 
 module _ (file : List ℕ) (at : ℕ) where
-  pub read_end : length file ≤ at → refused file_ends at ≡ read_at file at
-  read_end h = rw (front_end file at h)
+  -- where a byte stands, as a look at it says
+  module _ {opcode : ℕ} (stands : (at < length file) × ((otherwise : ℕ) → opcode ≡ get_or file at otherwise)) where
+    pub read_undefined : 250 ≤ opcode → refused undefined_opcode at ≡ read_at file at
+    read_undefined h = rw (front_at file at stands.0, ← stands.1 0, after_undefined opcode (drop (at + 1) file) h)
 
-  module _ (starts : at < length file) where
-    pub read_undefined : 250 ≤ get_or file at 0 → refused undefined_opcode at ≡ read_at file at
-    read_undefined h = rw (front_at file at starts, after_undefined (get_or file at 0) (drop (at + 1) file) h)
-
-    module _ (defined : get_or file at 0 < 250) where
-      pub read_cut : length file < at + 1 + size_of (get_or file at 0) (drop (at + 1) file) → refused file_ends at ≡ read_at file at
+    module _ (defined : opcode < 250) where
+      pub read_cut : length file < at + 1 + size_of opcode (drop (at + 1) file) → refused file_ends at ≡ read_at file at
       read_cut h =
-          let short : length (drop (at + 1) file) < size_of (get_or file at 0) (drop (at + 1) file) = simp length-drop (omega arith) in
-          rw (front_at file at starts, after_cut (get_or file at 0) (drop (at + 1) file) defined short)
+          let short : length (drop (at + 1) file) < size_of opcode (drop (at + 1) file) = simp length-drop (omega arith) in
+          rw (front_at file at stands.0, ← stands.1 0, after_cut opcode (drop (at + 1) file) defined short)
 
-      pub read_whole : {next : ℕ} → next ≡ at + 1 + size_of (get_or file at 0) (drop (at + 1) file) → next ≤ length file
-          → given (record { opcode = get_or file at 0; start = at + 1; next = next }) ≡ read_at file at
+      pub read_whole : {next : ℕ} → next ≡ at + 1 + size_of opcode (drop (at + 1) file) → next ≤ length file
+          → given (record { opcode = opcode; start = at + 1; next = next }) ≡ read_at file at
       read_whole e h =
-          let fits : size_of (get_or file at 0) (drop (at + 1) file) ≤ length (drop (at + 1) file) = simp length-drop (omega arith) in
+          let fits : size_of opcode (drop (at + 1) file) ≤ length (drop (at + 1) file) = simp length-drop (omega arith) in
           rw (
-            front_at file at starts,
-            after_whole (get_or file at 0) (drop (at + 1) file) defined fits,
-            length-take-le (size_of (get_or file at 0) (drop (at + 1) file)) (drop (at + 1) file) fits,
+            front_at file at stands.0,
+            ← stands.1 0,
+            after_whole opcode (drop (at + 1) file) defined fits,
+            length-take-le (size_of opcode (drop (at + 1) file)) (drop (at + 1) file) fits,
             e,
           )
 

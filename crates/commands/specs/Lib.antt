@@ -4,5 +4,4 @@ pub mod Parameters
 pub mod Lengths
 pub mod Commands
 pub mod Reading
-pub mod Steps
 pub mod ByKind

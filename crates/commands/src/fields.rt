@@ -2,7 +2,8 @@
 ghost use Rattle.std.specs.Prelude.{◌≡◌, ◌+◌, ◌≤◌, ◌<◌, ◌^◌, length, nat_abs};
 ghost use Rattle.commands.specs.Fields.{unsigned_in, signed_in};
 
-// A field without a sign: where it starts, and how many bytes it has
+// A field without a sign: where it starts, and how many bytes it has. This and the next are two types, so that no field is read with the wrong sign,
+// and not one with a parameter: definitions of specs/Fields build both by their fields (`as_signed`), and a parameter that no field holds says no more.
 #[derive(Clone, Copy)]
 pub struct UnsignedField {
     pub at: usize,
@@ -49,6 +50,7 @@ pub const END_POINTER: SignedField = SignedField { at: 0, size: 4 };
 pub const END_IDENTIFICATION: UnsignedField = UnsignedField { at: 4, size: 1 };
 
 // The opcodes before xxx1, before fnt1 and before fnt_def1: an opcode is as far above as its first number has bytes.
+// Numbers and no enum: they are ends of ranges, and are subtracted; kinds are `Kind`.
 pub const BEFORE_SPECIAL: u8 = 238;
 
 pub const BEFORE_SELECTION: u8 = 234;

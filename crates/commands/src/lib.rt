@@ -1,7 +1,7 @@
 // One command: its kind, the length of its parameters, and the reading of what stands at a place.
 #![tactic(auto)]
 
-use refusals::Refusal;
+use refusals::{Reason, Refusal};
 
 pub mod fields;
 pub mod parameters;
@@ -10,13 +10,13 @@ ghost use Rattle.std.specs.Prelude.{◌≡◌, ◌+◌, ◌≤◌, ◌<◌, leng
 ghost use Rattle.commands.specs.Kinds.{kind_of};
 ghost use Rattle.commands.specs.Lengths.{lengths, fixed_length, inner_length};
 ghost use Rattle.commands.specs.Reading.{read_at};
-ghost use Rattle.commands.specs.Steps.{read_answer};
+ghost use Rattle.refusals.specs.Answer.{answered};
 
 // A file longer than this is refused
 pub const LONGEST_FILE: usize = 16777216;
 
 // What a command is, by its range of opcodes
-#[derive(Clone, Copy)]
+#[derive(Clone, Copy, PartialEq, Eq)]
 pub enum Kind {
     SetCharacter,
     SetRule,
@@ -50,97 +50,50 @@ pub struct Reading {
     pub next: usize,
 }
 
-// What stands at a place, or refusal 2 or 3
-#[derive(Clone, Copy)]
-pub enum Read {
-    Command(Reading),
-    Refused(Refusal),
+// The table of parameter lengths. Whoever reads many commands holds it: it would be laid out anew at each look at the constant.
+#[derive(Drop)]
+pub struct Lengths {
+    table: [u8; 122],
+    ghost right: { table ≡ lengths },
 }
 
-// The parameter bytes of opcodes 128 to 249, without what a length inside the command adds.
-const LENGTHS: [u8; 122] = [
+// The parameter bytes of opcodes 128 to 249, without what a length inside the command adds: one constant table, as document 01 has it.
+const LENGTH_TABLE: [u8; 122] = [
     1, 2, 3, 4, 8, 1, 2, 3, 4, 8, 0, 44, 0, 0, 0, 1, 2, 3, 4, 0, 1, 2, 3, 4, 0, 1, 2, 3, 4, 1, 2,
     3, 4, 0, 1, 2, 3, 4, 0, 1, 2, 3, 4, 0, 0, 0, 0, 0, 0, 0, 0, 0, 0, 0, 0, 0, 0, 0, 0, 0, 0, 0, 0,
     0, 0, 0, 0, 0, 0, 0, 0, 0, 0, 0, 0, 0, 0, 0, 0, 0, 0, 0, 0, 0, 0, 0, 0, 0, 0, 0, 0, 0, 0, 0, 0,
     0, 0, 0, 0, 0, 0, 0, 0, 0, 0, 0, 0, 1, 2, 3, 4, 1, 2, 3, 4, 15, 16, 17, 18, 14, 28, 5,
 ];
 
-// The kind of an opcode.
-pub fn kind_of(opcode: u8) -> Kind
-    ensures { result ≡ kind_of opcode }
-{
-    match opcode {
-        0..=131 => Kind::SetCharacter,
-        132..=137 => rule_kind(opcode),
-        138..=142 => marker_kind(opcode),
-        143..=146 => Kind::Right,
-        147..=151 => Kind::W,
-        152..=156 => Kind::X,
-        157..=160 => Kind::Down,
-        161..=165 => Kind::Y,
-        166..=170 => Kind::Z,
-        171..=238 => Kind::Select,
-        239..=242 => Kind::Special,
-        243..=246 => Kind::Define,
-        247..=249 => frame_kind(opcode),
-        _ => Kind::Undefined,
-    }
-}
+impl From<u8> for Kind {
+    ghost from_gives = { λ opcode kind. kind ≡ kind_of opcode };
 
-// The kind of an opcode from 132 to 137.
-fn rule_kind(opcode: u8) -> Kind
-    requires { (132 ≤ opcode) × (opcode ≤ 137) }
-    ensures { result ≡ kind_of opcode }
-{
-    match opcode {
-        132 => Kind::SetRule,
-        137 => Kind::PutRule,
-        _ => Kind::PutCharacter,
+    fn from(opcode: u8) -> Kind {
+        match opcode {
+            0..=131 => Kind::SetCharacter,
+            132 => Kind::SetRule,
+            133..=136 => Kind::PutCharacter,
+            137 => Kind::PutRule,
+            138 => Kind::Nop,
+            139 => Kind::Bop,
+            140 => Kind::Eop,
+            141 => Kind::Push,
+            142 => Kind::Pop,
+            143..=146 => Kind::Right,
+            147..=151 => Kind::W,
+            152..=156 => Kind::X,
+            157..=160 => Kind::Down,
+            161..=165 => Kind::Y,
+            166..=170 => Kind::Z,
+            171..=238 => Kind::Select,
+            239..=242 => Kind::Special,
+            243..=246 => Kind::Define,
+            247 => Kind::Pre,
+            248 => Kind::Post,
+            249 => Kind::PostPost,
+            _ => Kind::Undefined,
+        }
     }
-}
-
-// The kind of an opcode from 138 to 142.
-fn marker_kind(opcode: u8) -> Kind
-    requires { (138 ≤ opcode) × (opcode ≤ 142) }
-    ensures { result ≡ kind_of opcode }
-{
-    match opcode {
-        138 => Kind::Nop,
-        139 => Kind::Bop,
-        140 => Kind::Eop,
-        141 => Kind::Push,
-        _ => Kind::Pop,
-    }
-}
-
-// The kind of an opcode from 247 to 249.
-fn frame_kind(opcode: u8) -> Kind
-    requires { (247 ≤ opcode) × (opcode ≤ 249) }
-    ensures { result ≡ kind_of opcode }
-{
-    match opcode {
-        247 => Kind::Pre,
-        248 => Kind::Post,
-        _ => Kind::PostPost,
-    }
-}
-
-// The table of parameter lengths. Whoever reads many commands holds it: it would be laid out anew at each look at the constant.
-pub fn length_table() -> [u8; 122]
-    ensures { result ≡ lengths }
-{
-    LENGTHS
-}
-
-// The parameter bytes that the table gives.
-pub fn fixed_length(table: &[u8; 122], opcode: u8) -> usize
-    requires { (table.now ≡ lengths) × (opcode < 250) }
-    ensures { result ≡ fixed_length opcode }
-{
-    if opcode < 128 {
-        return 0;
-    }
-    numbers::wide(table[(opcode - 128) as usize]) as usize
 }
 
 // What a length inside the command adds, of the parameters that start at a place.
@@ -150,62 +103,77 @@ fn inner_length(file: &[u8], start: usize, opcode: u8) -> usize
 {
     match opcode {
         239..=242 => {
-            let count = (opcode - fields::BEFORE_SPECIAL) as usize;
+            let count = usize::from(opcode - fields::BEFORE_SPECIAL);
             numbers::unsigned_at(file, start, count) as usize
         }
         243..=246 => {
-            let said = start + (opcode - fields::BEFORE_DEFINITION) as usize;
-            let area_length = numbers::wide(file[said + fields::DEFINITION_AREA_LENGTH.at]);
-            let name_length = numbers::wide(file[said + fields::DEFINITION_NAME_LENGTH.at]);
-            (area_length + name_length) as usize
+            let said = start + usize::from(opcode - fields::BEFORE_DEFINITION);
+            let area_length = usize::from(file[said + fields::DEFINITION_AREA_LENGTH.at]);
+            let name_length = usize::from(file[said + fields::DEFINITION_NAME_LENGTH.at]);
+            area_length + name_length
         }
-        247 => numbers::wide(file[start + fields::PRE_COMMENT_LENGTH.at]) as usize,
+        247 => usize::from(file[start + fields::PRE_COMMENT_LENGTH.at]),
         _ => 0,
     }
 }
 
-// One command, read at a place, by the table of lengths.
-pub fn read_by(table: &[u8; 122], file: &[u8], at: usize) -> Read
-    requires { table.now ≡ lengths }
-    ensures { read_answer result ≡ read_at file.now at }
-{
-    let ends = Read::Refused(Refusal {
-        number: refusals::FILE_ENDS,
-        place: at,
-    });
-    if file.len() <= at {
-        return ends;
+impl Lengths {
+    pub fn new() -> Lengths {
+        Lengths {
+            table: LENGTH_TABLE,
+        }
     }
-    let opcode = file[at];
-    if 250 <= opcode {
-        return Read::Refused(Refusal {
-            number: refusals::UNDEFINED_OPCODE,
+
+    // The parameter bytes that the table gives.
+    pub fn fixed(&self, opcode: u8) -> usize
+        requires { opcode < 250 }
+        ensures { result ≡ fixed_length opcode }
+    {
+        if opcode < 128 {
+            return 0;
+        }
+        usize::from(self.table[usize::from(opcode - 128)])
+    }
+
+    // One command, read at a place.
+    pub fn read(&self, file: &[u8], at: usize) -> Result<Reading, Refusal>
+        ensures { answered result ≡ read_at file.now at }
+    {
+        let ends = Refusal {
+            reason: Reason::FileEnds,
             place: at,
-        });
+        };
+        let Some(&opcode) = file.get(at) else {
+            return Err(ends);
+        };
+        if 250 <= opcode {
+            return Err(Refusal {
+                reason: Reason::UndefinedOpcode,
+                place: at,
+            });
+        }
+        let start = at + 1;
+        let left = file.len() - start;
+        let fixed = self.fixed(opcode);
+        if left < fixed {
+            return Err(ends);
+        }
+        let inner = inner_length(file, start, opcode);
+        if left - fixed < inner {
+            return Err(ends);
+        }
+        let next = start + fixed + inner;
+        Ok(Reading {
+            opcode,
+            start,
+            next,
+        })
     }
-    let start = at + 1;
-    let left = file.len() - start;
-    let fixed = fixed_length(table, opcode);
-    if left < fixed {
-        return ends;
-    }
-    let inner = inner_length(file, start, opcode);
-    if left - fixed < inner {
-        return ends;
-    }
-    let size = fixed + inner;
-    let next = start + size;
-    Read::Command(Reading {
-        opcode: opcode,
-        start: start,
-        next: next,
-    })
 }
 
-// One command, read at a place.
-pub fn read_at(file: &[u8], at: usize) -> Read
-    ensures { read_answer result ≡ read_at file.now at }
+// One command, read at a place of a file.
+pub fn read_at(file: &[u8], at: usize) -> Result<Reading, Refusal>
+    ensures { answered result ≡ read_at file.now at }
 {
-    let table = length_table();
-    read_by(&table, file, at)
+    Lengths::new().read(file, at)
 }

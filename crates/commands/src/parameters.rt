@@ -11,7 +11,7 @@ fn number_at(params: &[u8], at: usize, count: usize) -> i64
     ensures { (result ≡ number_at params.now at count) × (nat_abs result ≤ 2 ^ 31) }
 {
     if count == 1 {
-        return numbers::wide(params[at]) as i64;
+        return i64::from(params[at]);
     }
     if count == 4 {
         return numbers::signed_at(params, at, count);
@@ -25,7 +25,7 @@ pub fn character_code(opcode: u8, params: &[u8]) -> i64
     ensures { (result ≡ character_code opcode params.now) × (nat_abs result ≤ 2 ^ 31) }
 {
     if opcode < 128 {
-        return opcode as i64;
+        return i64::from(opcode);
     }
     number_at(params, 0, params.len())
 }
@@ -38,7 +38,7 @@ pub fn distance_of(params: &[u8]) -> i64
     numbers::signed_at(params, 0, params.len())
 }
 
-// A rule's height.
+// A rule's height. It and the width are each a field read by its name, as definitions are named alike: one function over the field is `signed_in`.
 pub fn rule_height(params: &[u8]) -> i64
     requires { rule_height_field.at + rule_height_field.size ≤ length params.now }
     ensures { (result ≡ rule_height params.now) × (nat_abs result ≤ 2 ^ 31) }
@@ -60,9 +60,9 @@ pub fn selected_font(opcode: u8, params: &[u8]) -> i64
     ensures { (result ≡ selected_font opcode params.now) × (nat_abs result ≤ 2 ^ 31) }
 {
     if opcode < 235 {
-        return (opcode - 171) as i64;
+        return i64::from(opcode - 171);
     }
-    number_at(params, 0, (opcode - fields::BEFORE_SELECTION) as usize)
+    number_at(params, 0, usize::from(opcode - fields::BEFORE_SELECTION))
 }
 
 // The font that a definition names.
@@ -70,5 +70,5 @@ pub fn defined_font(opcode: u8, params: &[u8]) -> i64
     requires { (243 ≤ opcode) × (opcode ≤ 246) × (definition_number_size opcode ≤ length params.now) }
     ensures { (result ≡ defined_font opcode params.now) × (nat_abs result ≤ 2 ^ 31) }
 {
-    number_at(params, 0, (opcode - fields::BEFORE_DEFINITION) as usize)
+    number_at(params, 0, usize::from(opcode - fields::BEFORE_DEFINITION))
 }

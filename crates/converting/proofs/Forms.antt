@@ -3,7 +3,6 @@ use Prim.Native.Nat.{ℕ, zero, suc, ◌+◌, ◌*◌, ◌≤◌, ◌<◌}
 use mathlib.Core.Path.{◌≡◌, refl, sym, ap, ap₂, ◌∙◌}
 use mathlib.Core.List.{List, ◌++◌, append_assoc}
 use native.Mathlib.Nat.{suc-mul, zero-mul, zero-add, suc-add, mul-le-mul_right}
-use native.Mathlib.Numerals.{add-one}
 use native.Mathlib.Omega.{arith}
 use lib.ListN.{length, get_or, take, drop, replicate, length-append, length-drop, length-replicate, get_or-replicate, get_or-append}
 use lib.Seq.{sets, length-take-le, drop-drop, drop_at, get_or-take, get_or-drop, get_or-append-add}
@@ -17,10 +16,6 @@ use Rattle.converting.specs.Converting.{in_form}
 pub record_fits : (size records index at room : ℕ) → records * size ≤ room → index < records → at ≡ index * size → at + size ≤ room
 record_fits size records index at room fits inside at_is =
     let past : suc index * size ≤ records * size = mul-le-mul_right size inside in omega (arith, suc-mul index size)
-
--- the place of the record after so many more
-pub next_place : (size index at : ℕ) → at ≡ index * size → at + size ≡ (index + 1) * size
-next_place size index at at_is = omega (arith, suc-mul index size, ap (λ (n : ℕ). n * size) (add-one index))
 
 -- ---- parts
 

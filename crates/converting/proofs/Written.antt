@@ -1,7 +1,7 @@
 -- A record written into the area, in three parts, and all of them one after the other. Assumes nothing.
-use Prim.Native.Nat.{ℕ, zero, suc, ◌+◌, ◌-◌, ◌*◌, ◌≤◌}
-use mathlib.Core.Path.{◌≡◌, refl, sym, ap, ap₂, ◌∙◌}
-use mathlib.Core.List.{List, ◌∷◌, ◌++◌, append_assoc, append-nil}
+use Prim.Native.Nat.{ℕ, ◌+◌, ◌-◌, ◌*◌, ◌≤◌}
+use mathlib.Core.Path.{◌≡◌, sym, ap, ap₂, ◌∙◌}
+use mathlib.Core.List.{List, ◌++◌, append_assoc, append-nil}
 use native.Mathlib.Omega.{arith}
 use lib.ListN.{length, take, drop, replicate, length-append, length-drop}
 use lib.Seq.{sets, sets-eq, length-sets, length-take-le, drop-drop}
@@ -31,22 +31,17 @@ part_length table at count inside =
     let same : at + count - at ≡ count = omega arith in
     ap (λ (n : ℕ). length (take n (drop at table))) same ∙ length-take-le count (drop at table) (omega (arith, length-drop at table))
 
-zeros_taken : (count more : ℕ) → count ≤ more → take count (replicate {A = ℕ} more 0) ≡ replicate count 0
-zeros_taken zero more h = refl
-zeros_taken (suc count) zero h = absurd (omega arith)
-zeros_taken (suc count) (suc more) h = ap (λ (l : List ℕ). 0 ∷ l) (zeros_taken count more (omega arith))
-
--- the three parts of a record in the other form, as the code takes them from the table and from sixteen zeros
-pub record_parts : (from to : ℕ) (table : List ℕ) (at behind : ℕ) → to ≤ 16 → behind ≡ at + 8 + from
-    → take (at + 8 - at) (drop at table) ++ (take to (replicate {A = ℕ} 16 0) ++ take (behind + 8 - behind) (drop behind table)) ≡ in_form from to 1 (drop at table)
-record_parts from to table at behind small behind_is =
+-- the three parts of a record in the other form, as the code takes them from the table and from zeros
+pub record_parts : (from to : ℕ) (table : List ℕ) (at behind : ℕ) → behind ≡ at + 8 + from
+    → take (at + 8 - at) (drop at table) ++ (replicate to 0 ++ take (behind + 8 - behind) (drop behind table)) ≡ in_form from to 1 (drop at table)
+record_parts from to table at behind behind_is =
     let eight : at + 8 - at ≡ 8 = omega arith in
     let eight-more : behind + 8 - behind ≡ 8 = omega arith in
     let place : behind ≡ at + (8 + from) = omega arith in
     let rest : take (behind + 8 - behind) (drop behind table) ≡ take 8 (drop (8 + from) (drop at table)) =
     ap₂ (λ (n p : ℕ). take n (drop p table)) eight-more place ∙ ap (take 8) (sym (drop-drop (8 + from) at table)) in
     ap₂ (λ (x y : List ℕ). x ++ y) (ap (λ (n : ℕ). take n (drop at table)) eight)
-    (ap₂ (λ (x y : List ℕ). x ++ y) (zeros_taken to 16 small) (rest ∙ sym (append-nil (take 8 (drop (8 + from) (drop at table))))))
+    (ap (λ (y : List ℕ). replicate to 0 ++ y) (rest ∙ sym (append-nil (take 8 (drop (8 + from) (drop at table))))))
 
 -- ---- all records
 

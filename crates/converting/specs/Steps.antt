@@ -1,13 +1,8 @@
 -- What the code's own steps give and keep; no promise cites this. Assumes nothing.
 use Rattle.std.specs.Prelude.{ℕ, ◌+◌, ◌*◌, ◌%◌, ◌^◌, ◌≤◌, ◌<◌, ◌≡◌, Bool, true, not, List, ltb, get_or}
-use Rattle.refusals.specs.Numbers.{named_record}
-use Rattle.refusals.specs.Answer.{Answer, refused, given, refusal}
 use Rattle.numbers.specs.Bytes.{unsigned_at}
 use Rattle.numbers.specs.Sizes.{lawful_size}
-use Rattle.widths.specs.declared.table.Table.{Table}
-use Rattle.widths.specs.declared.table.Table.TheVariants.{Right, Wrong}
 use Rattle.converting.specs.declared.old.OldKey.{OldKey}
-use Rattle.converting.specs.declared.Converted.{Converted}
 
 -- a key of the old form as the number of its nine bytes
 abbrev pub old_key_number : OldKey → ℕ
@@ -27,13 +22,3 @@ old_reaches key least = not (ltb (old_key_number key) (old_key_number least))
 -- what a next key must reach: where a key of its head can have its code, its scale is lawful
 abbrev pub OldLeastKey : OldKey → Type 0
 OldLeastKey least = (least.code ≤ 256) × (least.code < 256 → lawful_size (least.head % 2 ^ 32) ≡ true)
-
--- the search for a name: 24 at the first record that has one, or how many records
-abbrev pub named_says : Table → Answer ℕ
-named_says (Right records) = given records
-named_says (Wrong place) = refused named_record place
-
--- what the code's answer says
-abbrev pub converted_says : Converted → Answer ℕ
-converted_says (Converted.Records records) = given records
-converted_says (Converted.Refused r) = refusal r

@@ -3,6 +3,7 @@ pub mod Turning
 pub mod Pasted
 pub mod Rising
 pub mod Walks
+pub mod Stepped
 pub mod Standing
 pub mod Becoming
 pub mod MendedForms

@@ -12,7 +12,7 @@ use Rattle.numbers.specs.Signs.{to_twos}
 use Rattle.numbers.specs.Bytes.{bytes_of}
 use Rattle.numbers.proofs.Bytes.{length_bytes}
 use Rattle.commands.specs.Commands.{Command, kind_of_command, Whole, form}
-use Rattle.commands.proofs.Lengths.{whole_plain}
+use Rattle.commands.proofs.ParameterLengths.{whole_plain}
 use Rattle.list.specs.Past.{greatest, pages, last_bop, post_place}
 use Rattle.commands.specs.Fields.{post_depth, post_pages}
 use Rattle.cutting.specs.CutList.{with_unsigned, mended}

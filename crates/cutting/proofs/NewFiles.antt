@@ -1,24 +1,21 @@
 -- The new file's bytes: the new list up to post_post, then its 223s. Assumes nothing.
-use Prim.Native.Nat.{ℕ, zero, suc, ◌+◌, ◌-◌, ◌%◌, ◌≤◌, ◌<◌}
+use Prim.Native.Nat.{ℕ, zero, suc, ◌+◌, ◌≤◌, ◌<◌}
 use mathlib.Core.Path.{◌≡◌, refl, sym, ap, ◌∙◌}
 use mathlib.Core.Bool.{Bool, true, false, not, ◌||◌, true≢false}
 use mathlib.Core.List.{List, [], ◌∷◌, ◌++◌, append_assoc}
-use native.Mathlib.Nat.{mod-lt}
 use native.Mathlib.Omega.{arith}
-use lib.ListN.{length, take, drop, replicate, length-append}
-use lib.Seq.{sets, sets-eq, length-take-le}
+use lib.ListN.{length, drop, replicate, length-append, length-replicate}
+use lib.Seq.{sets, sets-eq}
 use borrow.Author.Tests.{lt-ltb, le-ltb, not-false}
-use Rattle.refusals.specs.Numbers.{area_too_short, wrong_pages}
+use Rattle.refusals.specs.Numbers.{area_too_short}
 use Rattle.refusals.specs.Answer.{refused, given}
 use Rattle.commands.specs.Commands.{Command, form, written, place}
 use Rattle.list.specs.Lawful.{fillers}
-use Rattle.volume.specs.declared.Summary.{Summary}
-use Rattle.volume.specs.Judged.{judged}
 use Rattle.volume.specs.History.{history}
 use Rattle.areas.proofs.Pasting.{sets_behind}
 use Rattle.cutting.specs.Chosen.{is_in, is_empty, rises_from, wrong_list}
 use Rattle.cutting.specs.CutList.{cut_past, fillers_at, onto}
-use Rattle.cutting.specs.CutFile.{cut_file, cut_accepted, cut_pages, cut_area}
+use Rattle.cutting.specs.CutFile.{cut_file, cut_accepted, cut_area}
 use Rattle.cutting.specs.Steps.{forms_of}
 use Rattle.cutting.proofs.WriteLaws.{forms_length}
 
@@ -35,28 +32,23 @@ written_onto : (past later : List Command) → written (onto past later) ≡ for
 written_onto [] later = refl
 written_onto (c ∷ past) later = written_onto past (c ∷ later) ∙ sym (append_assoc (forms_of past) (form c) (written later))
 
--- 223s are the front of more of them
-fillers_front : (n m : ℕ) → n ≤ m → written (fillers n) ≡ take n (replicate m 223)
-fillers_front zero m h = refl
-fillers_front (suc n) zero h = absurd (omega arith)
-fillers_front (suc n) (suc m) h = ap (λ (l : List ℕ). 223 ∷ l) (fillers_front n m (omega arith))
-
--- at most seven of them are asked
-pub fillers_few : (at : ℕ) → fillers_at at ≤ 7
-fillers_few at = let small : (4 - at % 4) % 4 < 4 = mod-lt (4 - at % 4) (omega arith) in omega arith
+-- so many 223s
+fillers_written : (n : ℕ) → written (fillers n) ≡ replicate n 223
+fillers_written zero = refl
+fillers_written (suc n) = ap (λ (l : List ℕ). 223 ∷ l) (fillers_written n)
 
 module _ (file list : List ℕ) where
   abbrev new : List Command
   new = cut_past (is_in list) (history file)
 
   abbrev tail : List ℕ
-  tail = take (fillers_at (place new)) (replicate 7 223)
+  tail = replicate (fillers_at (place new)) 223
 
   tail_length : length tail ≡ fillers_at (place new)
-  tail_length = length-take-le (fillers_at (place new)) (replicate 7 223) (fillers_few (place new))
+  tail_length = length-replicate {A = ℕ} (fillers_at (place new)) 223
 
   file_is : cut_file file list ≡ forms_of new ++ tail
-  file_is = written_onto new (fillers (fillers_at (place new))) ∙ ap (λ (l : List ℕ). forms_of new ++ l) (fillers_front (fillers_at (place new)) 7 (fillers_few (place new)))
+  file_is = written_onto new (fillers (fillers_at (place new))) ∙ ap (λ (l : List ℕ). forms_of new ++ l) (fillers_written (fillers_at (place new)))
 
   pub file_length : length (cut_file file list) ≡ place new + fillers_at (place new)
   file_length = ap length file_is ∙ length-append (forms_of new) tail ∙ omega (arith, forms_length new, tail_length)
@@ -81,19 +73,3 @@ module _ (file list : List ℕ) where
       ∙ sets-eq (forms_of new ++ tail) entry 0 (omega (arith, long))
       ∙ ap (λ (n : ℕ). (forms_of new ++ tail) ++ drop n entry) none_before
       ∙ ap (λ (l : List ℕ). l ++ drop (length l) entry) (sym file_is)
-
--- ---- what cutting comes to
-
-module _ (file list : List ℕ) (room : ℕ) where
-  -- the file is refused
-  pub cut_refused : (number at : ℕ) → judged file ≡ refused number at → cut_pages file list room ≡ refused number at
-  cut_refused number at e = rw e refl
-
-  module _ (s : Summary) (accepted : judged file ≡ given s) where
-    -- the list is wrong
-    pub cut_wrong : wrong_list s.pages list ≡ true → cut_pages file list room ≡ refused wrong_pages 0
-    cut_wrong wrong = rw (accepted, wrong) refl
-
-    -- neither is
-    pub cut_right : wrong_list s.pages list ≡ false → cut_pages file list room ≡ cut_accepted file list room
-    cut_right right = rw (accepted, right) refl

@@ -1,16 +1,16 @@
 -- A rising list of page numbers, met from its front. Assumes nothing.
 use Prim.Native.Nat.{ℕ, zero, suc, ◌+◌, ◌≤◌, ◌<◌}
 use mathlib.Core.Path.{◌≡◌, refl, sym, ap, ◌∙◌}
-use mathlib.Core.Bool.{true, false, cond, not, ◌&&◌, ◌||◌, and-eq-true_iff}
+use mathlib.Core.Bool.{true, false, cond, ◌||◌, and-eq-true_iff}
 use mathlib.Core.List.{List, [], ◌∷◌}
 use mathlib.Core.Logic.{⊎_elim}
 use native.Mathlib.Omega.{arith}
 use lib.Dec.{eqb, ltb, leb}
 use lib.ListN.{length, get_or, drop}
 use lib.Seq.{drop-cons, drop-nil}
-use borrow.Author.Tests.{eq-eqb, ne_eqb, ltb-true, lt-leb, le-leb, lt-ltb, le-ltb}
+use borrow.Author.Tests.{eq-eqb, ne_eqb, ltb-true, lt-ltb, le-ltb}
 use Rattle.numbers.proofs.Radix.{less_or_not}
-use Rattle.cutting.specs.Chosen.{is_in, is_empty, rises_from, wrong_list}
+use Rattle.cutting.specs.Chosen.{is_in, rises_from}
 use Rattle.cutting.specs.Steps.{next_chosen}
 
 -- past its end a list has nothing left
@@ -25,44 +25,6 @@ module _ (last : ℕ) (list : List ℕ) where
   -- what is judged from the front on: above the number before, the list goes on from an index as the whole does from its start
   abbrev pub Judging : ℕ → ℕ → Type 0
   Judging before index = rises_from 0 last list ≡ rises_from before last (drop index list)
-
-  -- there is a number at an index
-  some_left : (index : ℕ) → index < length list → is_empty list ≡ false
-  some_left index h = by list h
-    where
-      by : (l : List ℕ) → index < length l → is_empty l ≡ false
-      by [] h = absurd (omega arith)
-      by (p ∷ l) h = refl
-
-  module _ (before index : ℕ) (j : Judging before index) (there : index < length list) where
-    ahead : rises_from 0 last list ≡ (ltb before (get_or list index 0) && (leb (get_or list index 0) last && rises_from (get_or list index 0) last (drop (suc index) list)))
-    ahead = j ∙ ap (rises_from before last) (drop-cons list index 0 there)
-
-    -- a number that is not above the one before
-    pub not_rising : get_or list index 0 ≤ before → false ≡ not (wrong_list last list)
-    not_rising h =
-        let falls : rises_from 0 last list ≡ false = ahead ∙ rw (le-ltb before (get_or list index 0) h) in
-        rw (some_left index there, falls)
-
-    -- a page that is not there
-    pub not_there : before < get_or list index 0 → last < get_or list index 0 → false ≡ not (wrong_list last list)
-    not_there low h =
-        let absent : rises_from 0 last list ≡ false = ahead ∙ rw (lt-ltb before (get_or list index 0) low, lt-leb (get_or list index 0) last h) in
-        rw (some_left index there, absent)
-
-    -- one that is right
-    pub judged_on : before < get_or list index 0 → get_or list index 0 ≤ last → Judging (get_or list index 0) (suc index)
-    judged_on low high = ahead ∙ rw (lt-ltb before (get_or list index 0) low, le-leb (get_or list index 0) last high)
-
-  -- at the list's end
-  pub judged_all : (before index : ℕ) → Judging before index → length list ≤ index → ltb 0 (length list) ≡ not (wrong_list last list)
-  judged_all before index j over =
-      let rises : rises_from 0 last list ≡ true = j ∙ ap (rises_from before last) (gone list index over) in
-      rw rises (by list)
-    where
-      by : (l : List ℕ) → ltb 0 (length l) ≡ not (is_empty l || false)
-      by [] = refl
-      by (p ∷ l) = lt-ltb 0 (suc (length l)) (omega arith)
 
 -- ---- meeting its pages one after the other
 

@@ -1,11 +1,11 @@
 -- What the code holds of the commands so far, and what it makes of one more; no promise cites this. Assumes nothing.
 use Rattle.std.specs.Prelude.{ℕ, ◌+◌, ◌-◌, ◌≤◌, max, ◌≡◌, Bool, true, false, cond, ◌&&◌, ◌||◌, List, [], ◌∷◌, ◌++◌, ltb, leb, eqb, length, get_or, take, drop}
 use Rattle.std.proofs.lemmas.List.Edits.{sets}
-use Rattle.refusals.specs.Answer.{Answer, given, refusal}
 use Rattle.numbers.specs.Bytes.{bytes_of}
 use Rattle.commands.specs.declared.Kind.{Kind}
 use Rattle.commands.specs.declared.Kind.TheVariants.{Bop, Eop, Push, Pop, Select, Define, Pre, Post, PostPost}
-use Rattle.commands.specs.Kinds.{is}
+use Rattle.commands.specs.declared.Reading.{Reading}
+use Rattle.commands.specs.Kinds.{kind_of, is}
 use Rattle.commands.specs.Fields.{bop_pointer, post_pointer, post_depth, post_pages, end_pointer, end_identification}
 use Rattle.commands.specs.Commands.{Command, kind_of_command, form, whole, front, place}
 use Rattle.list.specs.Past.{depth_after, greatest, pages}
@@ -15,9 +15,9 @@ use Rattle.volume.specs.Steps.{is_plain}
 use Rattle.cutting.specs.declared.Spot.{Spot}
 use Rattle.cutting.specs.declared.Run.{Run}
 use Rattle.cutting.specs.declared.Fate.{Fate}
+use Rattle.cutting.specs.declared.Step.{Step}
 use Rattle.cutting.specs.declared.Counted.{Counted}
 use Rattle.cutting.specs.declared.Made.{Made}
-use Rattle.cutting.specs.declared.Cut.{Cut}
 use Rattle.cutting.specs.Chosen.{is_in, rises_from}
 use Rattle.cutting.specs.CutList.{opening, cut_past}
 
@@ -46,6 +46,13 @@ fate_of kind chosen p =
     cond (is kind Bop) (cond chosen Fate.Mended Fate.Dropped)
     (cond (is kind Post || is kind PostPost) Fate.Mended
     (cond (is kind Pre) Fate.Opening (cond (is kind Define) (cond p.late Fate.Copied Fate.Opening) (cond (p.on && chosen) Fate.Copied Fate.Dropped))))
+
+-- the command that is read at a place, where a walk stands that has come so far
+abbrev pub step_of : List ℕ → ℕ → Spot → Reading → Step
+step_of list at p reading =
+    let kind = kind_of reading.opcode in
+    let after = spot_after list kind p in
+    record { at = at; next = reading.next; kind = kind; fate = fate_of kind after.here p; after = after }
 
 -- ---- runs of commands that on a page change at most the depth
 
@@ -184,10 +191,3 @@ pub record Writable (file list : List ℕ) (m : Counted) (room : ℕ) : Type 0 w
   pub rising : rises_from 0 (pages (history file)) list ≡ true
   pub counts : CountsAll file list m
   pub fits : place (cut_past (is_in list) (history file)) ≤ room
-
--- ---- the answer
-
--- what the code's answer says
-abbrev pub cut_answer : Cut → Answer ℕ
-cut_answer (Cut.Bytes bytes) = given bytes
-cut_answer (Cut.Refused r) = refusal r

@@ -1,6 +1,5 @@
 // The first walk: how long the new file is, and how deep its pages go.
 ghost use Rattle.std.specs.Prelude.{◌≡◌, true, ◌+◌, ◌-◌, ◌≤◌, ◌<◌, ◌^◌};
-ghost use Rattle.commands.specs.Lengths.{lengths};
 ghost use Rattle.list.specs.Past.{pages};
 ghost use Rattle.list.specs.Lawful.{Lawful};
 ghost use Rattle.volume.specs.History.{history};
@@ -8,100 +7,87 @@ ghost use Rattle.cutting.specs.Chosen.{rises_from};
 ghost use Rattle.cutting.specs.Steps.{one_kept, counted_after, run_counted, CountsAll};
 
 use crate::{Counted, Fate, Run, Spot, walking};
-use commands::{Kind, Read};
+use commands::{Kind, Lengths};
 use list::progress;
 
-// After a command that stays, of so many bytes.
-fn one_kept(kind: Kind, size: usize, m: Counted) -> Counted
-    requires { (m.kept + size < 2 ^ 32) × (m.depth < 2 ^ 32) }
-    ensures { result ≡ one_kept kind size m }
-{
-    let opened = m.opened;
-    let kept = m.kept;
-    let depth = progress::next_depth(kind, m.depth);
-    let greatest = progress::greater(m.greatest, depth);
-    Counted {
-        opened,
-        kept: kept + size,
-        depth,
-        greatest,
-    }
-}
-
-// After one more command of so many bytes.
-fn counted_after(fate: Fate, kind: Kind, size: usize, m: Counted) -> Counted
-    requires { (m.opened + size < 2 ^ 32) × (m.kept + size < 2 ^ 32) × (m.depth < 2 ^ 32) }
-    ensures { result ≡ counted_after fate kind size m }
-{
-    let opened = m.opened;
-    let kept = m.kept;
-    let depth = m.depth;
-    let greatest = m.greatest;
-    match fate {
-        Fate::Dropped => m,
-        Fate::Copied => one_kept(kind, size, m),
-        Fate::Mended => one_kept(kind, size, m),
-        Fate::Opening => Counted {
-            opened: opened + size,
-            kept,
+impl Counted {
+    // After a command that stays, of so many bytes.
+    fn one_kept(self, kind: Kind, size: usize) -> Counted
+        requires { (self.kept + size < 2 ^ 32) × (self.depth < 2 ^ 32) }
+        ensures { result ≡ one_kept kind size self }
+    {
+        let depth = progress::next_depth(kind, self.depth);
+        Counted {
+            kept: self.kept + size,
             depth,
-            greatest,
-        },
+            greatest: self.greatest.max(depth),
+            ..self
+        }
     }
-}
 
-// After a run from a place: on a chosen page its commands stay, elsewhere they go.
-fn run_counted(p: Spot, at: usize, run: Run, m: Counted) -> Counted
-    requires { (at ≤ run.at) × (m.kept + (run.at - at) < 2 ^ 32) }
-    ensures { result ≡ run_counted p.here at run m }
-{
-    if !p.here {
-        return m;
+    // After one more command of so many bytes.
+    fn counted_after(self, fate: Fate, kind: Kind, size: usize) -> Counted
+        requires { (self.opened + size < 2 ^ 32) × (self.kept + size < 2 ^ 32) × (self.depth < 2 ^ 32) }
+        ensures { result ≡ counted_after fate kind size self }
+    {
+        match fate {
+            Fate::Dropped => self,
+            Fate::Copied | Fate::Mended => self.one_kept(kind, size),
+            Fate::Opening => Counted {
+                opened: self.opened + size,
+                ..self
+            },
+        }
     }
-    let opened = m.opened;
-    let kept = m.kept;
-    let end = run.at;
-    let depth = run.depth;
-    let greatest = run.greatest;
-    Counted {
-        opened,
-        kept: kept + (end - at),
-        depth,
-        greatest,
+
+    // After a run from a place: on a chosen page its commands stay, elsewhere they go.
+    fn run_counted(self, here: bool, at: usize, run: Run) -> Counted
+        requires { (at ≤ run.at) × (self.kept + (run.at - at) < 2 ^ 32) }
+        ensures { result ≡ run_counted here at run self }
+    {
+        if !here {
+            return self;
+        }
+        Counted {
+            kept: self.kept + (run.at - at),
+            depth: run.depth,
+            greatest: run.greatest,
+            ..self
+        }
     }
 }
 
 // The walk over all commands.
-pub fn count(table: &[u8; 122], file: &[u8], list: &[u32]) -> Counted
-    requires { (table.now ≡ lengths) × Lawful file.now × (rises_from 0 (pages (history file.now)) list.now ≡ true) }
+pub fn count(lengths: &Lengths, file: &[u8], list: &[u32]) -> Counted
+    requires { Lawful file.now × (rises_from 0 (pages (history file.now)) list.now ≡ true) }
     ensures { CountsAll file.now list.now result }
 {
-    let mut at: usize = 0;
-    let mut p = walking::start();
+    let mut at = 0;
+    let mut p = Spot::start();
     let mut m = Counted {
         opened: 0,
         kept: 0,
         depth: 0,
         greatest: 0,
     };
+    // No range: the place goes on by a command's length. No closure handed to one walk for both: what the two
+    // share stands in run_from and step_at already.
     loop {
-        let end = walking::run_from(table, file, p, at, m.depth, m.greatest);
-        m = run_counted(p, at, end, m);
-        let run = end.at;
-        match commands::read_by(table, file, run) {
-            Read::Refused(_) => return m,
-            Read::Command(reading) => {
-                let next = reading.next;
-                let kind = commands::kind_of(reading.opcode);
-                let after = walking::spot_after(list, kind, p);
-                let fate = walking::fate_of(kind, after.here, p);
-                m = counted_after(fate, kind, next - run, m);
-                if let Kind::PostPost = kind {
-                    return m;
-                }
-                p = after;
-                at = next;
-            }
+        let from = Run {
+            at,
+            depth: m.depth,
+            greatest: m.greatest,
+        };
+        let run = walking::run_from(lengths, file, p, from);
+        m = m.run_counted(p.here, at, run);
+        let Ok(step) = walking::step_at(lengths, file, list, run.at, p) else {
+            return m;
+        };
+        m = m.counted_after(step.fate, step.kind, step.next - step.at);
+        if step.kind == Kind::PostPost {
+            return m;
         }
+        p = step.after;
+        at = step.next;
     }
 }

@@ -1,15 +1,16 @@
-// The second walk: the new file's bytes. What opens it goes to the area's front, all that stays behind the opening; what stands together in the old file is copied at once.
+// The second walk: the new file's bytes. What opens it goes to the area's front, the other commands that stay behind that.
+// What stands together in the old file is copied at once.
+// No struct of file, area and Made: each contract would have to say what becomes of all three.
 ghost use Rattle.std.specs.Prelude.{◌≡◌, cond, ◌+◌, ◌-◌, ◌≤◌, length};
 ghost use Rattle.std.proofs.lemmas.List.Edits.{sets};
 ghost use Rattle.numbers.specs.Bytes.{bytes_of};
-ghost use Rattle.commands.specs.Lengths.{lengths};
 ghost use Rattle.volume.specs.History.{history};
 ghost use Rattle.cutting.specs.Chosen.{is_in};
 ghost use Rattle.cutting.specs.CutList.{cut_past};
 ghost use Rattle.cutting.specs.Steps.{forms_of, between, made_copied, area_copied, made_opened, mended_form, mended_size, made_mended, made_after, area_turned, RoomToCopy, RoomToTurn, Writable};
 
-use crate::{Counted, Fate, Made, walking};
-use commands::{Kind, Read, fields};
+use crate::{Counted, Fate, Made, Run, Spot, Step, Totals, walking};
+use commands::{Kind, Lengths, fields};
 
 // Where a field of a bop, a post or a post_post starts, counted from the opcode.
 const BOP_POINTER: usize = 1 + fields::BOP_POINTER.at;
@@ -22,98 +23,47 @@ const POST_PAGES: usize = 1 + fields::POST_PAGES.at;
 
 const END_POINTER: usize = 1 + fields::END_POINTER.at;
 
-// −1 in four bytes, read without a sign: the pointer of the first bop.
+// −1 in four bytes, read without a sign: the pointer of the first bop. No Option: the file gets this number.
 const NO_BOP: usize = 4294967295;
 
-// The four bytes of a pointer, by its number without a sign.
-fn four_bytes(n: usize) -> [u8; 4]
-    ensures { result ≡ bytes_of 4 n }
+// A pointer, a depth or a number of pages at a place of the area, in so many bytes, by its number without a sign.
+fn put_number(out: &mut [u8], at: usize, count: usize, n: usize)
+    requires { (at + count ≤ length out.old) × (count ≤ 8) }
+    ensures { out.new ≡ sets out.old at (bytes_of count n) }
 {
-    [
-        (n / 256 / 256 / 256 % 256) as u8,
-        (n / 256 / 256 % 256) as u8,
-        (n / 256 % 256) as u8,
-        (n % 256) as u8,
-    ]
-}
-
-// The two bytes of a depth or a number of pages.
-fn two_bytes(n: usize) -> [u8; 2]
-    ensures { result ≡ bytes_of 2 n }
-{
-    [(n / 256 % 256) as u8, (n % 256) as u8]
-}
-
-// A pointer at a place of the area.
-fn put_pointer(out: &mut [u8], at: usize, n: usize)
-    requires { at + 4 ≤ length out.old }
-    ensures { out.new ≡ sets out.old at (bytes_of 4 n) }
-{
-    let bytes = four_bytes(n);
-    areas::paste(out, at, &bytes);
-}
-
-// A depth or a number of pages at a place of the area.
-fn put_count(out: &mut [u8], at: usize, n: usize)
-    requires { at + 2 ≤ length out.old }
-    ensures { out.new ≡ sets out.old at (bytes_of 2 n) }
-{
-    let bytes = two_bytes(n);
-    areas::paste(out, at, &bytes);
+    areas::paste(out, at, &n.to_be_bytes()[8 - count..]);
 }
 
 // A bop, a post or a post_post with its numbers mended, where the commands that stay go on.
-fn mended(
-    out: &mut [u8],
-    kind: Kind,
-    command: &[u8],
-    m: Made,
-    greatest: usize,
-    pages: usize,
-) -> Made
+fn mended(out: &mut [u8], kind: Kind, command: &[u8], totals: Totals, m: Made) -> Made
     requires { (length command.now ≡ mended_size kind) × (m.size + mended_size kind ≤ length out.old) }
     ensures value { result ≡ made_mended kind (mended_size kind) m }
-    ensures out_after { out.new ≡ sets out.old m.size (mended_form kind m.bop m.post greatest pages command.now) }
+    ensures out_after { out.new ≡ sets out.old m.size (mended_form kind m.bop m.post totals.greatest totals.pages command.now) }
 {
-    let from = m.from;
-    let opened = m.opened;
-    let size = m.size;
-    let bop = m.bop;
-    let post = m.post;
-    areas::paste(out, size, command);
-    let end = size + command.len();
+    areas::paste(out, m.size, command);
+    let size = m.size + command.len();
     match kind {
         Kind::Bop => {
-            put_pointer(out, size + BOP_POINTER, bop);
+            put_number(out, m.size + BOP_POINTER, 4, m.bop);
             Made {
-                from,
-                opened,
-                size: end,
-                bop: size,
-                post,
+                size,
+                bop: m.size,
+                ..m
             }
         }
         Kind::Post => {
-            put_pointer(out, size + POST_POINTER, bop);
-            put_count(out, size + POST_DEPTH, greatest);
-            put_count(out, size + POST_PAGES, pages);
+            put_number(out, m.size + POST_POINTER, 4, m.bop);
+            put_number(out, m.size + POST_DEPTH, 2, totals.greatest);
+            put_number(out, m.size + POST_PAGES, 2, totals.pages);
             Made {
-                from,
-                opened,
-                size: end,
-                bop,
-                post: size,
+                size,
+                post: m.size,
+                ..m
             }
         }
         _ => {
-            put_pointer(out, size + END_POINTER, post);
-            Made {
-                from,
-                opened,
-                size: end,
-                bop,
-                post,
-            }
+            put_number(out, m.size + END_POINTER, 4, m.post);
+            Made { size, ..m }
         }
     }
 }
@@ -124,18 +74,11 @@ fn copied(file: &[u8], out: &mut [u8], at: usize, next: usize, m: Made) -> Made
     ensures value { result ≡ made_copied at next m }
     ensures out_after { out.new ≡ area_copied file.now at m out.old }
 {
-    let from = m.from;
-    let opened = m.opened;
-    let size = m.size;
-    let bop = m.bop;
-    let post = m.post;
-    areas::paste(out, size, &file[from..at]);
+    areas::paste(out, m.size, &file[m.from..at]);
     Made {
         from: next,
-        opened,
-        size: size + (at - from),
-        bop,
-        post,
+        size: m.size + (at - m.from),
+        ..m
     }
 }
 
@@ -157,59 +100,40 @@ fn opened(file: &[u8], out: &mut [u8], at: usize, next: usize, m: Made) -> Made
     ensures value { result ≡ made_opened (next - at) m }
     ensures out_after { out.new ≡ sets out.old m.opened (between at next file.now) }
 {
-    let from = m.from;
-    let opened = m.opened;
-    let size = m.size;
-    let bop = m.bop;
-    let post = m.post;
-    areas::paste(out, opened, &file[at..next]);
+    areas::paste(out, m.opened, &file[at..next]);
     Made {
-        from,
-        opened: opened + (next - at),
-        size,
-        bop,
-        post,
+        opened: m.opened + (next - at),
+        ..m
     }
 }
 
-// After one more command, from a place to another.
-fn turn(
-    file: &[u8],
-    out: &mut [u8],
-    fate: Fate,
-    kind: Kind,
-    at: usize,
-    next: usize,
-    m: Made,
-    greatest: usize,
-    pages: usize,
-) -> Made
-    requires { RoomToTurn fate kind file.now at next m (length out.old) }
-    ensures value { result ≡ made_after fate kind at next m }
-    ensures out_after { out.new ≡ area_turned fate kind greatest pages file.now at next m out.old }
+// After one more command.
+fn turn(file: &[u8], out: &mut [u8], step: Step, totals: Totals, m: Made) -> Made
+    requires { RoomToTurn step.fate step.kind file.now step.at step.next m (length out.old) }
+    ensures value { result ≡ made_after step.fate step.kind step.at step.next m }
+    ensures out_after { out.new ≡ area_turned step.fate step.kind totals.greatest totals.pages file.now step.at step.next m out.old }
 {
-    match fate {
+    match step.fate {
         Fate::Copied => m,
-        Fate::Dropped => copied(file, out, at, next, m),
+        Fate::Dropped => copied(file, out, step.at, step.next, m),
         Fate::Opening => {
-            let after = copied(file, out, at, next, m);
-            opened(file, out, at, next, after)
+            let after = copied(file, out, step.at, step.next, m);
+            opened(file, out, step.at, step.next, after)
         }
         Fate::Mended => {
-            let after = copied(file, out, at, next, m);
-            mended(out, kind, &file[at..next], after, greatest, pages)
+            let after = copied(file, out, step.at, step.next, m);
+            mended(out, step.kind, &file[step.at..step.next], totals, after)
         }
     }
 }
 
 // The walk over all commands, by the counts of the first.
-pub fn write(table: &[u8; 122], file: &[u8], list: &[u32], counted: Counted, out: &mut [u8])
-    requires { (table.now ≡ lengths) × Writable file.now list.now counted (length out.old) }
+pub fn write(lengths: &Lengths, file: &[u8], list: &[u32], counted: Counted, out: &mut [u8])
+    requires { Writable file.now list.now counted (length out.old) }
     ensures { out.new ≡ sets out.old 0 (forms_of (cut_past (is_in list.now) (history file.now))) }
 {
-    let greatest = counted.greatest;
-    let mut at: usize = 0;
-    let mut p = walking::start();
+    let mut at = 0;
+    let mut p = Spot::start();
     let mut m = Made {
         from: 0,
         opened: 0,
@@ -217,24 +141,28 @@ pub fn write(table: &[u8; 122], file: &[u8], list: &[u32], counted: Counted, out
         bop: NO_BOP,
         post: 0,
     };
+    // No range: the place goes on by a command's length. No closure handed to one walk for both: what the two
+    // share stands in run_from and step_at already.
     loop {
-        let end = walking::run_from(table, file, p, at, 0, 0);
-        let run = end.at;
+        let from = Run {
+            at,
+            depth: 0,
+            greatest: 0,
+        };
+        let run = walking::run_from(lengths, file, p, from).at;
         m = run_passed(file, out, at, run, p.here, m);
-        match commands::read_by(table, file, run) {
-            Read::Refused(_) => return,
-            Read::Command(reading) => {
-                let next = reading.next;
-                let kind = commands::kind_of(reading.opcode);
-                let after = walking::spot_after(list, kind, p);
-                let fate = walking::fate_of(kind, after.here, p);
-                m = turn(file, out, fate, kind, run, next, m, greatest, p.met);
-                if let Kind::PostPost = kind {
-                    return;
-                }
-                p = after;
-                at = next;
-            }
+        let Ok(step) = walking::step_at(lengths, file, list, run, p) else {
+            return;
+        };
+        let totals = Totals {
+            greatest: counted.greatest,
+            pages: p.met,
+        };
+        m = turn(file, out, step, totals, m);
+        if step.kind == Kind::PostPost {
+            return;
         }
+        p = step.after;
+        at = step.next;
     }
 }

@@ -1,110 +1,66 @@
-// A line's question, by its first word and how many words it has.
-use asking::lines;
-use filling::forms_asked::Form;
+// A line's question, by how many words it has and its first one.
+use crate::lines::Line;
+use asking::lines::{word, word_count};
 use filling::{cuts_asked, fonts_asked, forms_asked, pages_asked};
+use printing::line;
 use std::fs::Files;
 use std::io::{Result, Write};
 use telling::{files_asked, numbers_asked, tables_asked};
 
-#[derive(Clone, Copy)]
-enum Question {
-    Read,
-    Check,
-    Name,
-    Spell,
-    Round,
-    Scale,
-    Table,
-    Look,
-    Widths,
-    // a table in its other form
-    Convert(Form),
-    Place,
-    // of so many pages
-    Cut(usize),
-    Nothing,
+// Where the questions' files are read, and what they fill
+#[derive(Drop)]
+pub struct Room {
+    file: [u8; 262144],
+    widths: [u8; 65536],
+    area: [u8; 262144],
 }
 
-fn question_of(line: &[u8]) -> Question {
-    let name = lines::word(line, 0);
-    let count = lines::word_count(line);
-    if name == b"cut".as_slice() {
-        return cut_of(count);
-    }
-    match count {
-        2 => of_two(name),
-        3 => of_three(name),
-        4 => of_four(name),
-        6 => of_six(name),
-        _ => Question::Nothing,
+impl Room {
+    pub fn new() -> Room {
+        Room {
+            file: [0; 262144],
+            widths: [0; 65536],
+            area: [0; 262144],
+        }
     }
 }
 
-// `cut` has as many words as it likes behind its first three.
-fn cut_of(count: usize) -> Question {
-    if count < 3 {
-        return Question::Nothing;
-    }
-    Question::Cut(count - 3)
-}
-
-fn of_two(name: &[u8]) -> Question {
-    match name {
-        b"check" => Question::Check,
-        b"table" => Question::Table,
-        _ => Question::Nothing,
-    }
-}
-
-fn of_three(name: &[u8]) -> Question {
-    match name {
-        b"read" => Question::Read,
-        b"name" => Question::Name,
-        b"spell" => Question::Spell,
-        b"widen" => Question::Convert(Form::New),
-        b"narrow" => Question::Convert(Form::Old),
-        _ => Question::Nothing,
-    }
-}
-
-fn of_four(name: &[u8]) -> Question {
-    match name {
-        b"widths" => Question::Widths,
-        _ => Question::Nothing,
+pub fn answer<R: Files, W: Write>(rt: &R, out: &mut W, line: &Line, room: &mut Room) -> Result<()> {
+    let Some(line) = line.whole() else {
+        return asking::no_input(out);
+    };
+    let count = word_count(line);
+    match (count, word(line, 0)) {
+        (3, b"spell") => files_asked::spell(rt, out, line, &mut room.file),
+        (4, b"widths") => fonts_asked::widths(rt, out, line, &mut room.file, &mut room.area),
+        (3, b"widen") => forms_asked::widen(rt, out, line, &mut room.widths, &mut room.area),
+        (3, b"narrow") => forms_asked::narrow(rt, out, line, &mut room.widths, &mut room.area),
+        (6, b"place") => pages_asked::place(
+            rt,
+            out,
+            line,
+            &mut room.file,
+            &mut room.widths,
+            &mut room.area,
+        ),
+        // as many pages as it likes behind its first three words
+        (3.., b"cut") => {
+            cuts_asked::cut(rt, out, line, count - 3, &mut room.file, &mut room.area)
+        }
+        _ => line::print(out, &told(rt, line, count, room)),
     }
 }
 
-fn of_six(name: &[u8]) -> Question {
-    match name {
-        b"round" => Question::Round,
-        b"scale" => Question::Scale,
-        b"look" => Question::Look,
-        b"place" => Question::Place,
-        _ => Question::Nothing,
-    }
-}
-
-pub fn answer<R: Files, W: Write>(
-    rt: &R,
-    out: &mut W,
-    line: &[u8],
-    file: &mut [u8],
-    widths: &mut [u8],
-    area: &mut [u8],
-) -> Result<()> {
-    match question_of(line) {
-        Question::Read => files_asked::read(rt, line, file).print(out),
-        Question::Check => files_asked::check(rt, line, file).print(out),
-        Question::Name => files_asked::name(rt, line, file).print(out),
-        Question::Spell => files_asked::spell(rt, out, line, file),
-        Question::Round => numbers_asked::round(line).print(out),
-        Question::Scale => numbers_asked::scale(line).print(out),
-        Question::Table => tables_asked::table(rt, line, widths).print(out),
-        Question::Look => tables_asked::look(rt, line, widths).print(out),
-        Question::Widths => fonts_asked::widths(rt, out, line, file, area),
-        Question::Convert(to) => forms_asked::convert(rt, out, line, to, widths, area),
-        Question::Place => pages_asked::place(rt, out, line, file, widths, area),
-        Question::Cut(pages) => cuts_asked::cut(rt, out, line, pages, file, area),
-        Question::Nothing => asking::no_input(out),
+// A question whose answer is a line
+fn told<R: Files>(rt: &R, line: &[u8], count: usize, room: &mut Room) -> line::Line {
+    match (count, word(line, 0)) {
+        (2, b"check") => files_asked::check(rt, line, &mut room.file),
+        (2, b"table") => tables_asked::table(rt, line, &mut room.widths),
+        (3, b"read") => files_asked::read(rt, line, &mut room.file),
+        (3, b"name") => files_asked::name(rt, line, &mut room.file),
+        (6, b"round") => numbers_asked::round(line),
+        (6, b"scale") => numbers_asked::scale(line),
+        (6, b"look") => tables_asked::look(rt, line, &mut room.widths),
+        _ => asking::no_input_line(),
     }
 }

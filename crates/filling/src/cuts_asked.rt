@@ -1,10 +1,9 @@
 // The question that names chosen pages, a thousand at most. The file of them can be long: it is printed in rows of 32 bytes.
+use crate::rooms;
 use asking::lines::word;
-use asking::words::{Unsigned, Unsigned32};
-use asking::{files, lines, words};
+use asking::{files, words};
 use printing::line::Line;
-use printing::rows;
-use reader::PagesCut;
+use printing::{line, rows};
 use std::fs::Files;
 use std::io::{Result, Write};
 
@@ -17,74 +16,41 @@ pub fn cut<R: Files, W: Write>(
     file: &mut [u8],
     area: &mut [u8],
 ) -> Result<()> {
-    let mut list = [0u32; 1000];
-    cut_by(rt, out, line, pages, &mut list, file, area)
+    try_cut(rt, out, line, pages, file, area).unwrap_or_else(|| asking::no_input(out))
 }
 
-fn cut_by<R: Files, W: Write>(
+fn try_cut<R: Files, W: Write>(
     rt: &R,
     out: &mut W,
     line: &[u8],
     pages: usize,
-    list: &mut [u32],
     file: &mut [u8],
     area: &mut [u8],
-) -> Result<()> {
-    if list.len() < pages {
-        return asking::no_input(out);
-    }
-    if !read_pages(line, &mut list[..pages]) {
-        return asking::no_input(out);
-    }
-    cut_listed(rt, out, line, &list[..pages], file, area)
+) -> Option<Result<()>> {
+    // No heap: fixed memory, of which the line's pages take the start.
+    let mut list = [0u32; 1000];
+    let list = list.get_mut(..pages)?;
+    read_pages(line, list)?;
+    let room = rooms::within(word(line, 2), area.len())?;
+    let length = files::read_whole(rt, word(line, 1), file)?;
+    Some(made(out, &file[..length], list, &mut area[..room]))
 }
 
-// Whether the words from the fourth on are numbers of pages, as many as the list has; it takes them up.
-fn read_pages(line: &[u8], list: &mut [u32]) -> bool {
-    let mut start = lines::word_start(line, 3);
-    let mut index: usize = 0;
-    while index < list.len() {
-        let end = lines::word_end(line, start);
-        let Unsigned32::Is(page) = words::read_unsigned32(&line[start..end]) else {
-            return false;
-        };
-        list[index] = page;
-        start = lines::after_blank(line, end);
-        index += 1;
+// The words from the fourth on, as numbers of pages; none where one is no such number.
+fn read_pages(line: &[u8], list: &mut [u32]) -> Option<()> {
+    let words = line.split(|byte| *byte == b' ').skip(3);
+    for (page, word) in list.iter_mut().zip(words) {
+        *page = words::read_unsigned32(word)?;
     }
-    true
-}
-
-fn cut_listed<R: Files, W: Write>(
-    rt: &R,
-    out: &mut W,
-    line: &[u8],
-    list: &[u32],
-    file: &mut [u8],
-    area: &mut [u8],
-) -> Result<()> {
-    let Unsigned::Is(room) = words::read_unsigned(word(line, 2), area.len() as u64) else {
-        return asking::no_input(out);
-    };
-    let found = files::read_whole(rt, word(line, 1), file);
-    if !found.whole {
-        return asking::no_input(out);
-    }
-    let length = found.length;
-    let lent = room as usize;
-    made(out, &file[..length], list, &mut area[..lent])
+    Some(())
 }
 
 fn made<W: Write>(out: &mut W, file: &[u8], list: &[u32], area: &mut [u8]) -> Result<()> {
     match reader::cut_pages(file, list, area) {
-        PagesCut::Bytes(bytes) => {
+        Ok(bytes) => {
             rows::print(out, &area[..bytes], 32)?;
-            Line::empty()
-                .text(b"end")
-                .count(bytes as u64)
-                .text(b"\n")
-                .print(out)
+            line::print(out, &Line::of(format_args!("end {bytes}\n")))
         }
-        PagesCut::Refused { number, place } => printing::refused(out, number, place),
+        Err(refusal) => line::print(out, &asking::refused(refusal)),
     }
 }

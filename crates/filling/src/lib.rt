@@ -1,5 +1,5 @@
-// Questions whose answer fills an area, which is printed: a placed page, width tables, files of chosen pages.
-// Each function that writes fails where a write of it fails, and nowhere else.
+// Questions whose answer fills an area: a placed page, a width table, a table in its other form, a file of chosen pages. Each
+// function that writes fails where a write of it fails, and nowhere else.
 #![tactic(auto)]
 
 pub mod cuts_asked;

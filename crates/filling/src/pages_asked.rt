@@ -1,7 +1,6 @@
 // The question that places a page.
 use crate::rooms;
 use asking::lines::word;
-use asking::words::{Unsigned, Unsigned32};
 use asking::{files, pages, words};
 use std::fs::Files;
 use std::io::{Result, Write};
@@ -15,44 +14,28 @@ pub fn place<R: Files, W: Write>(
     widths: &mut [u8],
     area: &mut [u8],
 ) -> Result<()> {
-    let most = rooms::for_records(area.len());
-    let Unsigned::Is(room) = words::read_unsigned(word(line, 5), most as u64) else {
-        return asking::no_input(out);
-    };
-    let lent = room as usize;
-    place_in(rt, out, line, file, widths, &mut area[..lent])
+    try_place(rt, out, line, file, widths, area).unwrap_or_else(|| asking::no_input(out))
 }
 
-fn place_in<R: Files, W: Write>(
+fn try_place<R: Files, W: Write>(
     rt: &R,
     out: &mut W,
     line: &[u8],
     file: &mut [u8],
     widths: &mut [u8],
     area: &mut [u8],
-) -> Result<()> {
-    let Unsigned32::Is(resolution) = words::read_unsigned32(word(line, 3)) else {
-        return asking::no_input(out);
-    };
-    let Unsigned32::Is(page) = words::read_unsigned32(word(line, 4)) else {
-        return asking::no_input(out);
-    };
-    let file_read = files::read_whole(rt, word(line, 1), file);
-    if !file_read.whole {
-        return asking::no_input(out);
-    }
-    let widths_read = files::read_whole(rt, word(line, 2), widths);
-    if !widths_read.whole {
-        return asking::no_input(out);
-    }
-    let file_length = file_read.length;
-    let widths_length = widths_read.length;
-    pages::place(
+) -> Option<Result<()>> {
+    let room = rooms::for_records(word(line, 5), area.len())?;
+    let resolution = words::read_unsigned32(word(line, 3))?;
+    let page = words::read_unsigned32(word(line, 4))?;
+    let file_length = files::read_whole(rt, word(line, 1), file)?;
+    let widths_length = files::read_whole(rt, word(line, 2), widths)?;
+    Some(pages::place(
         out,
         &file[..file_length],
         &widths[..widths_length],
         resolution,
         page,
-        area,
-    )
+        &mut area[..room],
+    ))
 }

@@ -1,19 +1,27 @@
 // A width table as an answer.
-ghost use Rattle.std.specs.Prelude.{◌*◌, ◌≤◌, ◌<◌, length};
+ghost use Rattle.std.specs.Prelude.{◌*◌, ◌≤◌, ◌<◌, length, IfOk};
 
 use printing::line::Line;
-use printing::rows;
-use std::io::{Result, Write};
+use printing::{line, rows};
+use reader::Refusal;
+use std::io;
+use std::io::Write;
 
-// So many records at the area's start, a line each, of so many bytes, then how many there are.
-pub fn print<W: Write>(out: &mut W, area: &[u8], records: usize, size: usize) -> Result<()>
-    requires { (0 < size) × (records * size ≤ length area.now) }
+// No heap: fixed memory, the area is lent and may be longer than its records.
+// What became of a table that was to be made at the area's start: its records, a line each, of so many bytes, then how many there are; or why there is none.
+pub fn print<W: Write>(
+    out: &mut W,
+    area: &[u8],
+    made: Result<usize, Refusal>,
+    size: usize,
+) -> io::Result<()>
+    requires { (0 < size) × IfOk made (λ records. records * size ≤ length area.now) }
 {
-    let end = records * size;
-    rows::print(out, &area[..end], size)?;
-    Line::empty()
-        .text(b"end")
-        .count(records as u64)
-        .text(b"\n")
-        .print(out)
+    match made {
+        Ok(records) => {
+            rows::print(out, &area[..records * size], size)?;
+            line::print(out, &Line::of(format_args!("end {records}\n")))
+        }
+        Err(refusal) => line::print(out, &asking::refused(refusal)),
+    }
 }

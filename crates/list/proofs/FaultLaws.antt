@@ -55,14 +55,6 @@ cond_not : (t : Bool) (a b : ℕ) → cond (not t) a b ≡ cond t b a
 cond_not true a b = refl
 cond_not false a b = refl
 
--- a rule that is broken answers its number; one that is not leaves the answer to the later rules
-module _ {asked broken : Bool} (Asked-is : asked ≡ broken) (number later : ℕ) where
-  pub answered : asked ≡ true → number ≡ cond broken number later
-  answered e = sym (ap (λ (t : Bool). cond t number later) (sym Asked-is ∙ e))
-
-  pub passed_on : {r : ℕ} → asked ≡ false → r ≡ later → r ≡ cond broken number later
-  passed_on e last = last ∙ sym (ap (λ (t : Bool). cond t number later) (sym Asked-is ∙ e))
-
 -- a rule whose number is not answered is not broken
 not_broken : (broken : Bool) (number later : ℕ) → 0 < number → cond broken number later ≡ 0 → (broken ≡ false) × (later ≡ 0)
 not_broken true number later h e = absurd (omega arith)

@@ -2,25 +2,28 @@
 use mathlib.Core.Path.{◌≡◌, refl, ap, sym, subst, ◌∙◌}
 use mathlib.Core.Bool.{Bool, true, false, cond, not, ◌&&◌, and-eq-true_iff}
 use mathlib.Core.List.{List, [], ◌∷◌}
-use Prim.Native.Nat.{ℕ, ◌+◌, ◌-◌, ◌<◌}
+use Prim.Native.Nat.{ℕ, ◌+◌, ◌<◌}
 use native.Mathlib.Omega.{arith}
 use lib.Dec.{T, eqb, ltb}
-use lib.ListN.{length, get_or, take, drop, length-drop}
-use lib.Seq.{take_all}
+use lib.ListN.{get_or, drop}
 use lib.IntN.{ℤ, pos, negsuc, nat_abs}
+use native.Mathlib.Numerals.{add-one}
 use lib.Signed.{non_neg}
 use borrow.Author.Tests.{ne_eqb, leb-true, le-leb}
+use Rattle.std.specs.Option.{is_some}
+use Rattle.std.specs.declared.option.Option.{Option}
+use Rattle.std.specs.declared.option.Option.TheVariants.{None, Some}
 use Rattle.numbers.specs.Signs.{same_number}
 use Rattle.numbers.specs.Sizes.{lawful_size}
 use Rattle.commands.specs.declared.Kind.TheVariants.{Define}
 use Rattle.commands.specs.Kinds.{kind_of, is}
-use Rattle.commands.specs.Commands.{Command, kind_of_command, place}
+use Rattle.commands.specs.Commands.{Command, kind_of_command, whole, front, place}
 use Rattle.commands.specs.Parameters.{defined_font, definition, font_scale, font_design_size}
 use Rattle.state.specs.Limits.{most_fonts}
 use Rattle.list.specs.declared.Stage.{Stage}
 use Rattle.list.specs.Past.{stage, is_after_post, defines, font_number, Definition, none, stands, definition_of, is_defined, font_count}
 use Rattle.list.specs.Rules.{lawful_font, says, lawful_definition}
-use Rattle.list.specs.Steps.{command, entry_of, Tells, StandsIn, SayingIs}
+use Rattle.list.specs.Steps.{command, entry_of, entry_place, place_in, Tells, StandsIn, AllStanding, Lawfully, SayingIs}
 use Rattle.list.proofs.Arms.{is_kind}
 
 -- ---- the numbers of a table's entries
@@ -56,7 +59,7 @@ entry_defined none = refl
 entry_defined (stands at c) = rw (ne_eqb (at + 1) 0 (λ e. absurd (omega arith)))
 
 module _ {after : Bool} {table : List ℕ} {past : List Command} (tells : Tells after table past) (number : ℤ) (lawful : lawful_font number ≡ true) where
-  pub told_entry : get_or table (nat_abs number) 0 ≡ entry_of (definition_of after number past)
+  told_entry : get_or table (nat_abs number) 0 ≡ entry_of (definition_of after number past)
   told_entry =
       let (sign, small, same) = lawful_in number lawful in
       tells.entry (nat_abs number) small ∙ ap (λ (n : ℤ). entry_of (definition_of after n past)) same
@@ -64,29 +67,70 @@ module _ {after : Bool} {table : List ℕ} {past : List Command} (tells : Tells 
   pub told_defined : not (eqb (get_or table (nat_abs number) 0) 0) ≡ is_defined (definition_of after number past)
   told_defined = rw told_entry (entry_defined (definition_of after number past))
 
-  module _ {entry : ℕ} (entry-is : entry ≡ get_or table (nat_abs number) 0) where
-    pub told_yes : (entry ≡ 0 → ⊥) → is_defined (definition_of after number past) ≡ true
-    told_yes some = sym told_defined ∙ (let e : eqb (get_or table (nat_abs number) 0) 0 ≡ false = ne_eqb _ 0 (λ z. some (entry-is ∙ z)) in rw e)
+-- ---- the place that a table tells of a number
 
-    pub told_none : entry ≡ 0 → definition_of after number past ≡ none
-    told_none no_entry = go (definition_of after number past) refl
-      where
-        go : (d : Definition) → definition_of after number past ≡ d → d ≡ none
-        go none e = refl
-        go (stands at c) e = absurd (omega (arith, told_entry ∙ ap entry_of e, entry-is))
+-- where a definition stands
+abbrev pub place_of : Definition → Option ℕ
+place_of none = None
+place_of (stands at c) = Some at
 
-    -- what is read where the entry points is the definition that stands there
-    pub told_says : (file : List ℕ) → ((n : ℕ) → StandsIn file (definition_of after (pos n) past)) → (entry ≡ 0 → ⊥)
-        → (said : List ℕ) (r : Bool) → SayingIs file (entry - 1) said r → r ≡ says (definition_of after number past) said
-    told_says file standing some said r saying = go (definition_of after number past) refl
-      where
-        go : (d : Definition) → definition_of after number past ≡ d → r ≡ says d said
-        go none e = absurd (some (entry-is ∙ told_entry ∙ ap entry_of e))
-        go (stands at c) e =
-            let (sign, small, same) = lawful_in number lawful in
-            let (rest, ahead) = subst (λ (d : Definition). StandsIn file d) (ap (λ (n : ℤ). definition_of after n past) same ∙ e) (standing (nat_abs number)) in
-            let points : entry - 1 ≡ at = omega (arith, entry-is, told_entry ∙ ap entry_of e) in
-            saying c rest (rw points ahead) (definition_kind after number past e)
+entry_tells : (d : Definition) → entry_place (entry_of d) ≡ place_of d
+entry_tells none = refl
+entry_tells (stands at c) = rw add-one refl
+
+pub some_defined : (d : Definition) → is_some (place_of d) ≡ is_defined d
+some_defined none = refl
+some_defined (stands at c) = refl
+
+pub none_there : (d : Definition) → place_of d ≡ None → d ≡ none
+none_there none e = refl
+none_there (stands at c) e = let z : ◌≡◌ {A = ℕ} 0 1 = cc in absurd (omega arith)
+
+module _ (table : List ℕ) (number : ℤ) where
+  told_as : (lawful : Bool) → lawful_font number ≡ lawful → cond lawful (entry_place (get_or table (nat_abs number) 0)) None ≡ place_in table number
+  told_as lawful e = ap (λ (t : Bool). cond t (entry_place (get_or table (nat_abs number) 0)) None) (sym e)
+
+  pub told_place : {after : Bool} {past : List Command} → Tells after table past → lawful_font number ≡ true → place_in table number ≡ place_of (definition_of after number past)
+  told_place tells lawful = sym (told_as true lawful) ∙ ap entry_place (told_entry tells number lawful) ∙ entry_tells _
+
+  -- before post, of any number
+  pub told_any : {past : List Command} → Tells false table past → Lawfully past → place_in table number ≡ place_of (definition_of false number past)
+  told_any {past} tells lawfully = by (lawful_font number) refl
+    where
+      by : (lawful : Bool) → lawful_font number ≡ lawful → place_in table number ≡ place_of (definition_of false number past)
+      by true e = told_place tells e
+      by false e = sym (told_as false e) ∙ sym (ap place_of (lawfully number e))
+
+-- the definition of a number stands in the file
+pub record Leads (file : List ℕ) (past : List Command) (number : ℤ) (at : ℕ) : Type 0 where
+  pub c : Command
+  pub rest : List ℕ
+  pub defined : definition_of false number past ≡ stands at c
+  pub ahead : front (drop at file) ≡ whole c rest
+  pub kind_is : kind_of_command c ≡ Define
+
+module _ {file : List ℕ} {past : List Command} (standing : AllStanding file past) (number : ℤ) {at : ℕ} where
+  pub leads : lawful_font number ≡ true → place_of (definition_of false number past) ≡ Some at → Leads file past number at
+  leads lawful told = by (definition_of false number past) refl told
+    where
+      by : (d : Definition) → definition_of false number past ≡ d → place_of d ≡ Some at → Leads file past number at
+      by none e q = let z : ◌≡◌ {A = ℕ} 0 1 = cc in absurd (omega arith)
+      by (stands from c) e q =
+          let (rest, ahead) = subst (StandsIn file) (ap (λ (n : ℤ). definition_of false n past) (lawful_in number lawful).2 ∙ e) (standing (nat_abs number)) in
+          let there : from ≡ at = cc in
+          record { c = c; rest = rest; defined = e ∙ ap (λ (n : ℕ). stands n c) there; ahead = ap (λ (n : ℕ). front (drop n file)) (sym there) ∙ ahead; kind_is = definition_kind false number past e }
+
+  pub leads_any : Lawfully past → place_of (definition_of false number past) ≡ Some at → Leads file past number at
+  leads_any lawfully told = by (lawful_font number) refl
+    where
+      by : (lawful : Bool) → lawful_font number ≡ lawful → Leads file past number at
+      by true e = leads e told
+      by false e = let z : None ≡ Some at = sym (ap place_of (lawfully number e)) ∙ told in let y : ◌≡◌ {A = ℕ} 0 1 = cc in absurd (omega arith)
+
+-- what is read there is what the definition says
+pub told_says : {file : List ℕ} {past : List Command} {number : ℤ} {at : ℕ} → Leads file past number at → (said : List ℕ) (r : Bool) → SayingIs file at said r
+    → r ≡ says (definition_of false number past) said
+told_says l said r saying = saying l.c l.rest l.ahead l.kind_is ∙ ap (λ (d : Definition). says d said) (sym l.defined)
 
 -- ---- a definition against the rules, test by test
 
@@ -98,9 +142,6 @@ in_turn past number said =
     (not (is_defined (definition_of false number past)) && ltb (font_count false past) most_fonts)
 
 module _ (past : List Command) (opcode : ℕ) (params : List ℕ) where
-  pub wrong_number : lawful_font (defined_font opcode params) ≡ false → false ≡ lawful_definition past (command opcode params)
-  wrong_number e = rw e
-
   module _ (number-lawful : lawful_font (defined_font opcode params) ≡ true) where
     pub wrong_scale_lem : lawful_size (font_scale (definition opcode params)) ≡ false → false ≡ lawful_definition past (command opcode params)
     wrong_scale_lem e = rw (number-lawful, e)
@@ -115,19 +156,9 @@ module _ (past : List Command) (opcode : ℕ) (params : List ℕ) where
 
 module _ (past : List Command) (number : ℤ) (said : List ℕ) where
   module _ (late : is_after_post (stage past) ≡ true) where
-    pub twice_after : is_defined (definition_of true number past) ≡ true → false ≡ in_turn past number said
-    twice_after e = rw (late, e)
-
-    pub once_after : definition_of true number past ≡ none → says (definition_of false number past) said ≡ in_turn past number said
+    pub once_after : is_defined (definition_of true number past) ≡ false → says (definition_of false number past) said ≡ in_turn past number said
     once_after e = rw (late, e)
 
   module _ (early : is_after_post (stage past) ≡ false) where
-    pub twice_before : is_defined (definition_of false number past) ≡ true → false ≡ in_turn past number said
-    twice_before e = rw (early, e)
-
-    pub once_before : definition_of false number past ≡ none → ltb (font_count false past) most_fonts ≡ in_turn past number said
+    pub once_before : is_defined (definition_of false number past) ≡ false → ltb (font_count false past) most_fonts ≡ in_turn past number said
     once_before e = rw (early, e)
-
--- the bytes of a definition's parameters from a font's number on
-pub said_all : (params : List ℕ) (from : ℕ) → take (length params - from) (drop from params) ≡ drop from params
-said_all params from = take_all (length params - from) (drop from params) (omega (arith, length-drop from params))

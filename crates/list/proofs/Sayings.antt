@@ -13,7 +13,7 @@ use Rattle.commands.specs.declared.fields.UnsignedField.{UnsignedField}
 use Rattle.commands.specs.Fields.{unsigned_in, definition_number_size, definition_area_length, definition_name_length, definition_name}
 use Rattle.commands.specs.Commands.{Command, Whole, kind_of_command, form, whole, front}
 use Rattle.commands.proofs.Opcodes.{kind_range}
-use Rattle.commands.proofs.Lengths.{fixed_of, inner_define, whole_size}
+use Rattle.commands.proofs.ParameterLengths.{fixed_of, inner_define, whole_size}
 use Rattle.commands.proofs.Fronts.{front_sound, front_length}
 use Rattle.list.specs.Past.{body}
 use Rattle.list.specs.Steps.{saying_part}
@@ -25,7 +25,7 @@ module _ (file : List ℕ) (at : ℕ) {c : Command} {rest : List ℕ} (ahead : f
   there : drop at file ≡ form c ++ rest
   there = (front_sound (drop at file) c rest ahead).1
 
-  pub inside : at + 1 + length c.params ≤ length file
+  inside : at + 1 + length c.params ≤ length file
   inside = omega (arith, front_length (drop at file) c rest ahead, length-drop at file)
 
   -- ---- the opcode
@@ -79,13 +79,19 @@ module _ (file : List ℕ) (at : ℕ) {c : Command} {rest : List ℕ} (ahead : f
   pub part_says : take ((saying_part at c).end - (saying_part at c).start) (drop (saying_part at c).start file) ≡ body c
   part_says = ap (take ((saying_part at c).end - (saying_part at c).start)) body_there ∙ take_at (body c) rest _ (sym body_all)
 
+  pub part_within : ((saying_part at c).start + definition_name ≤ (saying_part at c).end) × ((saying_part at c).end ≤ length file)
+  part_within = (omega (arith, params_long), inside)
+
   -- ---- the opcode tells where the part starts, and its own lengths where it ends
 
-  pub start_is : at + 1 + definition_number_size (get_or file at 0) ≡ (saying_part at c).start
-  start_is = ap (λ (opcode : ℕ). at + 1 + definition_number_size opcode) opcode_there
+  module _ {opcode from : ℕ} (opcode-is : opcode ≡ get_or file at 0) (from-is : from ≡ definition_number_size opcode) where
+    pub start_is : at + 1 + from ≡ (saying_part at c).start
+    start_is = ap (λ (count : ℕ). at + 1 + count) (from-is ∙ ap definition_number_size (opcode-is ∙ opcode_there))
 
-  pub end_is :
-      let start = at + 1 + definition_number_size (get_or file at 0) in
-      start + definition_name + (get_or file (start + definition_area_length.at) 0 + get_or file (start + definition_name_length.at) 0) ≡ (saying_part at c).end
-  end_is =
-      rw start_is (omega (arith, byte_there definition_area_length (omega arith) refl, byte_there definition_name_length (omega arith) refl, params_long))
+    length_is : (field : UnsignedField) → field.at + field.size ≤ definition_name → field.size ≡ 1 → get_or file (at + 1 + from + field.at) 0 ≡ unsigned_in field (body c)
+    length_is field h one = ap (λ (start : ℕ). get_or file (start + field.at) 0) start_is ∙ byte_there field h one
+
+    pub end_is : {area name : ℕ} → area ≡ get_or file (at + 1 + from + definition_area_length.at) 0 → name ≡ get_or file (at + 1 + from + definition_name_length.at) 0
+        → at + 1 + from + definition_name + area + name ≡ (saying_part at c).end
+    end_is area-is name-is =
+        omega (arith, start_is, area-is ∙ length_is definition_area_length (omega arith) refl, name-is ∙ length_is definition_name_length (omega arith) refl, params_long)

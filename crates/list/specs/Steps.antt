@@ -1,12 +1,17 @@
 -- What the code holds of the commands so far, and what it makes of one more; no promise cites this. Assumes nothing.
-use Rattle.std.specs.Prelude.{ℕ, ◌+◌, ◌<◌, ◌≤◌, max, ◌≡◌, Bool, true, false, cond, not, ◌&&◌, List, [], ◌∷◌, eqb, length, get_or, drop, set, ℤ, pos, nat_abs}
-use Rattle.refusals.specs.Numbers.{wrong_preamble, misplaced_command, wrong_depth, wrong_font_definition, no_font, wrong_pointer, wrong_postamble}
+use Rattle.std.specs.Prelude.{ℕ, zero, suc, ◌+◌, ◌<◌, ◌≤◌, max, ◌≡◌, Bool, true, false, cond, not, ◌&&◌, List, [], ◌∷◌, eqb, length, get_or, drop, set, ℤ, pos, nat_abs}
+use Rattle.std.specs.declared.option.Option.{Option}
+use Rattle.std.specs.declared.option.Option.TheVariants.{None, Some}
+use Rattle.std.specs.declared.result.Result.{Result}
+use Rattle.std.specs.declared.result.Result.TheVariants.{Ok, Err}
+use Rattle.refusals.specs.declared.Reason.{Reason}
+use Rattle.refusals.specs.Numbers.{wrong_preamble, misplaced_command, wrong_depth, wrong_font_definition, no_font, wrong_pointer, wrong_postamble, number_of}
 use Rattle.numbers.specs.Signs.{same_number}
 use Rattle.commands.specs.declared.Kind.{Kind}
 use Rattle.commands.specs.declared.Kind.TheVariants.{Bop, Select, Define, Pre, Post}
 use Rattle.commands.specs.Kinds.{kind_of, is}
 use Rattle.commands.specs.Commands.{Command, kind_of_command, whole, front, place}
-use Rattle.commands.specs.Fields.{unsigned_in, signed_in, bop_pointer, pre_num, pre_den, pre_mag, post_pointer, end_pointer, end_identification, definition_number_size}
+use Rattle.commands.specs.Fields.{unsigned_in, signed_in, bop_pointer, pre_num, pre_den, pre_mag, post_pointer, end_pointer, end_identification, definition_number_size, definition_name}
 use Rattle.commands.specs.Parameters.{defined_font, selected_font}
 use Rattle.list.specs.declared.Stage.{Stage}
 use Rattle.list.specs.declared.Volume.{Volume}
@@ -92,6 +97,11 @@ after_of page v kind params =
 
 -- ---- the faults of single kinds: by what the code holds, and where a font is defined by the commands so far
 
+-- the number of the fault that the code answers: 0 where there is none
+abbrev pub fault_number : Result (Unit {0}) Reason → ℕ
+fault_number (Ok done) = 0
+fault_number (Err reason) = number_of reason
+
 -- 4, of the first command
 abbrev pub first_fault : Kind → List ℕ → ℕ
 first_fault kind params = cond (is kind Pre && lawful_preamble params) 0 wrong_preamble
@@ -138,6 +148,15 @@ end_fault v params =
 abbrev pub entry_of : Definition → ℕ
 entry_of none = 0
 entry_of (stands at c) = at + 1
+
+-- the place that an entry tells
+abbrev pub entry_place : ℕ → Option ℕ
+entry_place zero = None
+entry_place (suc at) = Some at
+
+-- the place that a table tells of a number: none of one that is no font's
+abbrev pub place_in : List ℕ → ℤ → Option ℕ
+place_in table number = cond (lawful_font number) (entry_place (get_or table (nat_abs number) 0)) None
 
 -- a table after one more command
 abbrev pub table_after : Bool → Stage → Kind → ℕ → List ℕ → ℕ → List ℕ → List ℕ
@@ -189,12 +208,13 @@ SelectionIs fonts opcode params r =
 abbrev pub saying_part : ℕ → Command → Part
 saying_part at c = record { start = at + 1 + definition_number_size c.opcode; end = at + 1 + length c.params }
 
--- r lies within the file, and is that part where a definition stands at the place
-abbrev pub SayingAt : List ℕ → ℕ → Part → Type 0
-SayingAt file at r =
-    (r.start ≤ r.end)
+-- a part that is found lies within the file, has room for check sum, s, d, a and l, and is that part where a definition stands at the place; where none is found, none stands
+abbrev pub SayingAt : List ℕ → ℕ → Option Part → Type 0
+SayingAt file at (Some r) =
+    (r.start + definition_name ≤ r.end)
     × (r.end ≤ length file)
     × ((c : Command) (rest : List ℕ) → front (drop at file) ≡ whole c rest → kind_of_command c ≡ Define → r ≡ saying_part at c)
+SayingAt file at None = (c : Command) (rest : List ℕ) → front (drop at file) ≡ whole c rest → kind_of_command c ≡ Define → ⊥
 
 -- r says whether the definition that stands at a place says just this
 abbrev pub SayingIs : List ℕ → ℕ → List ℕ → Bool → Type 0
@@ -206,15 +226,13 @@ DefinitionIs file fonts again at_stage count opcode params r =
     (past : List Command) → Tells false fonts past → Tells true again past → AllStanding file past → at_stage ≡ stage past → count ≡ font_count false past
     → r ≡ lawful_definition past (command opcode params)
 
--- r is the fault of a selection
-abbrev pub SelectionFaultIs : List ℕ → Stage → ℕ → List ℕ → ℕ → Type 0
-SelectionFaultIs fonts at_stage opcode params r =
-    (past : List Command) → Tells false fonts past → Lawfully past → r ≡ standing_or at_stage Select (selection_fault past opcode params)
+-- r is the fault of a selection that may stand there
+abbrev pub SelectionFaultIs : List ℕ → ℕ → List ℕ → ℕ → Type 0
+SelectionFaultIs fonts opcode params r = (past : List Command) → Tells false fonts past → Lawfully past → r ≡ selection_fault past opcode params
 
--- r is the fault of a definition
+-- r is the fault of a definition that may stand there
 abbrev pub DefinitionFaultIs : List ℕ → Volume → List ℕ → List ℕ → ℕ → List ℕ → ℕ → Type 0
-DefinitionFaultIs file v fonts again opcode params r =
-    (page : ℕ) (past : List Command) → Agrees file page v fonts again past → r ≡ standing_or v.stage Define (definition_fault past opcode params)
+DefinitionFaultIs file v fonts again opcode params r = (page : ℕ) (past : List Command) → Agrees file page v fonts again past → r ≡ definition_fault past opcode params
 
 -- r is the lowest number that applies to a command
 abbrev pub FaultIs : List ℕ → Volume → List ℕ → List ℕ → ℕ → List ℕ → ℕ → Type 0

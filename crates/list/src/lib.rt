@@ -1,14 +1,19 @@
 // The list of commands and its rules: what the commands so far amount to, and the fault of the next one.
 #![tactic(auto)]
 
-pub mod comparing;
 pub mod faults;
 pub mod fonts;
 pub mod progress;
 pub mod rules;
 
+ghost use Rattle.std.specs.Prelude.{◌≡◌, ◌≤◌, length};
+ghost use Rattle.commands.specs.Kinds.{kind_of};
+ghost use Rattle.commands.specs.Lengths.{fixed_length};
+
+use commands::Kind;
+
 // Where the list of commands stands
-#[derive(Clone, Copy)]
+#[derive(Clone, Copy, PartialEq, Eq)]
 pub enum Stage {
     AtStart,
     BeforePages,
@@ -40,7 +45,16 @@ pub struct Volume {
     pub selected: bool,
 }
 
-// A part of the file, from its first byte to past its last
+// The command that comes next, with as many parameters as the table of lengths gives its opcode, or more
+#[derive(Clone, Copy)]
+pub struct NextCommand<'a> {
+    pub kind: Kind,
+    pub opcode: u8,
+    pub params: &'a [u8],
+    ghost right: { (kind ≡ kind_of opcode) × (fixed_length opcode ≤ length params.now) },
+}
+
+// A part of the file, from its first byte to past its last: a Range that is Copy
 #[derive(Clone, Copy)]
 pub struct Part {
     pub start: usize,

@@ -1,5 +1,5 @@
 // What the commands amount to after one more.
-ghost use Rattle.std.specs.Prelude.{◌≡◌, [], ℕ, ◌+◌, ◌≤◌, ◌<◌, ◌^◌, max, length};
+ghost use Rattle.std.specs.Prelude.{◌≡◌, [], ℕ, ◌+◌, ◌≤◌, ◌<◌, ◌^◌, length};
 ghost use Rattle.commands.specs.declared.Kind.TheVariants.{Push};
 ghost use Rattle.list.specs.Past.{stage_after, depth_after};
 ghost use Rattle.list.specs.Steps.{volume_of, moved_on, after_of, WithRoom};
@@ -26,20 +26,9 @@ pub fn next_depth(kind: Kind, depth: usize) -> usize
 {
     match kind {
         Kind::Push => depth + 1,
-        Kind::Pop => {
-            if depth == 0 {
-                return 0;
-            }
-            depth - 1
-        }
+        Kind::Pop => depth.saturating_sub(1),
         _ => depth,
     }
-}
-
-pub fn greater(a: usize, b: usize) -> usize
-    ensures { result ≡ max a b }
-{
-    if a < b { b } else { a }
 }
 
 // What the empty list of commands amounts to.
@@ -70,22 +59,12 @@ fn moved_on(v: Volume, kind: Kind, length: usize) -> Volume
     ensures { result ≡ moved_on v kind length }
 {
     let depth = next_depth(kind, v.depth);
-    let stage = v.stage;
     Volume {
-        stage: next_stage(kind, stage),
+        stage: next_stage(kind, v.stage),
         at: v.at + (1 + length),
-        depth: depth,
-        greatest: greater(v.greatest, depth),
-        pages: v.pages,
-        bop: v.bop,
-        wanted: v.wanted,
-        post: v.post,
-        num: v.num,
-        den: v.den,
-        mag: v.mag,
-        fonts: v.fonts,
-        again: v.again,
-        selected: v.selected,
+        depth,
+        greatest: v.greatest.max(depth),
+        ..v
     }
 }
 
@@ -95,41 +74,34 @@ pub fn after(v: Volume, page: usize, kind: Kind, params: &[u8]) -> Volume
     requires depth_le_at { (v.depth ≤ v.at) × (v.pages ≤ v.at) × (v.fonts ≤ v.at) × (v.again ≤ v.at) }
     ensures { result ≡ after_of page v kind params.now }
 {
-    let stage = v.stage;
-    let at = v.at;
-    let mut next = moved_on(v, kind, params.len());
+    let next = moved_on(v, kind, params.len());
     match kind {
-        Kind::Pre => {
-            next.num = fields::unsigned_in(fields::PRE_NUM, params);
-            next.den = fields::unsigned_in(fields::PRE_DEN, params);
-            next.mag = fields::unsigned_in(fields::PRE_MAG, params);
-            next
-        }
-        Kind::Bop => {
-            next.pages = v.pages + 1;
-            next.bop = at as i64;
-            next.selected = false;
-            if v.pages + 1 == page {
-                next.wanted = at;
-            }
-            next
-        }
-        Kind::Post => {
-            next.post = at;
-            next
-        }
-        Kind::Select => {
-            next.selected = true;
-            next
-        }
-        Kind::Define => {
-            if rules::after_post(stage) {
-                next.again = v.again + 1;
-            } else {
-                next.fonts = v.fonts + 1;
-            }
-            next
-        }
+        Kind::Pre => Volume {
+            num: fields::unsigned_in(fields::PRE_NUM, params),
+            den: fields::unsigned_in(fields::PRE_DEN, params),
+            mag: fields::unsigned_in(fields::PRE_MAG, params),
+            ..next
+        },
+        Kind::Bop => Volume {
+            pages: v.pages + 1,
+            bop: v.at as i64,
+            wanted: if v.pages + 1 == page { v.at } else { v.wanted },
+            selected: false,
+            ..next
+        },
+        Kind::Post => Volume { post: v.at, ..next },
+        Kind::Select => Volume {
+            selected: true,
+            ..next
+        },
+        Kind::Define if rules::after_post(v.stage) => Volume {
+            again: v.again + 1,
+            ..next
+        },
+        Kind::Define => Volume {
+            fonts: v.fonts + 1,
+            ..next
+        },
         _ => next,
     }
 }

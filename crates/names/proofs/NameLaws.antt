@@ -1,42 +1,14 @@
 -- Names byte by byte, and the name that a font seeks. Assumes nothing.
 use Prim.Native.Nat.{ℕ, zero, suc, ◌+◌, ◌-◌, ◌≤◌, ◌<◌}
 use mathlib.Core.Path.{◌≡◌, sym, ap, ap₂, ◌∙◌}
-use mathlib.Core.Bool.{Bool, true, false, cond, not, ◌&&◌, ◌||◌}
-use mathlib.Core.List.{List, ◌∷◌, ◌++◌, append_assoc}
+use mathlib.Core.Bool.{Bool, true, false, cond, not, ◌&&◌}
+use mathlib.Core.List.{List, ◌++◌, append_assoc}
 use native.Mathlib.Omega.{arith}
-use lib.ListN.{length, get_or, take, drop, replicate, length-append, length-replicate, replicate-append-replicate}
-use lib.Seq.{drop-cons}
-use borrow.Author.Tests.{eq-eqb, ne_eqb, le-leb, lt-leb}
+use lib.ListN.{length, take, drop, replicate, length-append, length-replicate, replicate-append-replicate}
+use borrow.Author.Tests.{le-leb, lt-leb}
 use Rattle.numbers.specs.Bytes.{unsigned_at}
 use Rattle.numbers.proofs.Bytes.{unsigned_join, unsigned_front}
-use Rattle.names.specs.Names.{has_zero, all_zeros, name_then_zeros, name_at, name_number, any_name, sought_name}
-
--- ---- a byte more
-
-module _ (bytes : List ℕ) (index : ℕ) (inside : index < length bytes) where
-  abbrev rest : List ℕ
-  rest = drop (suc index) bytes
-
-  here : drop index bytes ≡ get_or bytes index 0 ∷ rest
-  here = drop-cons bytes index 0 inside
-
-  pub zero_here : get_or bytes index 0 ≡ 0 → has_zero (drop index bytes) ≡ true
-  zero_here e = ap has_zero here ∙ ap (λ (t : Bool). t || has_zero rest) (eq-eqb (get_or bytes index 0) 0 e)
-
-  pub zero_later : (get_or bytes index 0 ≡ 0 → ⊥) → has_zero (drop index bytes) ≡ has_zero rest
-  zero_later e = ap has_zero here ∙ ap (λ (t : Bool). t || has_zero rest) (ne_eqb (get_or bytes index 0) 0 e)
-
-  pub zeros_broken : (get_or bytes index 0 ≡ 0 → ⊥) → all_zeros (drop index bytes) ≡ false
-  zeros_broken e = ap all_zeros here ∙ ap (λ (t : Bool). t && all_zeros rest) (ne_eqb (get_or bytes index 0) 0 e)
-
-  pub zeros_later : get_or bytes index 0 ≡ 0 → all_zeros (drop index bytes) ≡ all_zeros rest
-  zeros_later e = ap all_zeros here ∙ ap (λ (t : Bool). t && all_zeros rest) (eq-eqb (get_or bytes index 0) 0 e)
-
-  pub name_ends : get_or bytes index 0 ≡ 0 → name_then_zeros (drop index bytes) ≡ all_zeros (drop index bytes)
-  name_ends e = ap name_then_zeros here ∙ ap (λ (t : Bool). cond t (all_zeros rest) (name_then_zeros rest)) (eq-eqb (get_or bytes index 0) 0 e) ∙ sym (zeros_later e)
-
-  pub name_later : (get_or bytes index 0 ≡ 0 → ⊥) → name_then_zeros (drop index bytes) ≡ name_then_zeros rest
-  name_later e = ap name_then_zeros here ∙ ap (λ (t : Bool). cond t (all_zeros rest) (name_then_zeros rest)) (ne_eqb (get_or bytes index 0) 0 e)
+use Rattle.names.specs.Names.{has_zero, name_at, name_number, any_name, sought_name}
 
 -- ---- a name as one number
 

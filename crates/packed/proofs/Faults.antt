@@ -17,10 +17,10 @@ use Rattle.packed.specs.Commands.{is_packet, is_no_op, is_preamble, form_of, cou
 use Rattle.packed.specs.Packets.{code_in, width_in, escapement_in}
 use Rattle.packed.specs.Rules.{ended, met, identification, misplaced_after, too_short, lawful_escapement, packet_wrong, packet_fault, font_fault}
 use Rattle.packed.specs.Judged.{taken}
-use Rattle.packed.specs.Steps.{misplaced_at, wrong_bytes, packet_number, number_at}
+use Rattle.packed.specs.Steps.{misplaced_at, wrong_fields, packet_of}
 use Rattle.packed.proofs.Forms.{fixed_packet, fixed_preamble}
 use Rattle.packed.proofs.Fields.{counted_front, code_front, width_front, escapement_front}
-use Rattle.packed.proofs.Says.{clash}
+use Rattle.packed.proofs.Says.{clash, packet_number, number_at}
 
 -- ---- a packet that breaks no rule
 
@@ -110,7 +110,7 @@ module _ (opcode : ℕ) (rest : List ℕ) (fits : param_bytes opcode rest ≤ le
       sym (ap (λ (b : Bool). cond b (not (is_preamble opcode && eqb (identification rest) 89)) (cond (ended (before ∷ past)) (not (is_no_op opcode)) (leb 247 opcode))) later)
 
   module _ (past : List Command) (seen : List ℕ) (marked : (code : ℕ) → met code past ≡ ltb 0 (get_or seen code 0)) where
-    wrong_same : opcode < 240 → (form_of opcode).fields ≤ counted_bytes opcode rest → packet_wrong past (taken opcode rest) ≡ wrong_bytes seen opcode rest
+    wrong_same : opcode < 240 → (form_of opcode).fields ≤ counted_bytes opcode rest → packet_wrong past (taken opcode rest) ≡ wrong_fields seen (packet_of opcode rest)
     wrong_same flag room =
         let code = code_taken flag room in
         ap (λ (n : ℕ). ltb 255 n || (met n past || (not (lawful_first (width_in opcode params / 16777216)) || not (lawful_escapement (escapement_in opcode params))))) code
@@ -121,11 +121,11 @@ module _ (opcode : ℕ) (rest : List ℕ) (fits : param_bytes opcode rest ≤ le
         (escapement_taken flag room)
 
     packet_same : opcode < 240 → (b : Bool) → ltb (counted_bytes opcode rest) (form_of opcode).fields ≡ b
-        → ◌≡◌ {A = ℕ} (cond b 20 (cond (packet_wrong past (taken opcode rest)) 21 0)) (cond b 20 (cond (wrong_bytes seen opcode rest) 21 0))
+        → ◌≡◌ {A = ℕ} (cond b 20 (cond (packet_wrong past (taken opcode rest)) 21 0)) (cond b 20 (cond (wrong_fields seen (packet_of opcode rest)) 21 0))
     packet_same flag true e = refl
     packet_same flag false e = ap (λ (b : Bool). cond b 21 0) (wrong_same flag (ltb-false (counted_bytes opcode rest) (form_of opcode).fields e))
 
-    number_after : (b : Bool) → is_packet opcode ≡ b → cond b (packet_fault past (taken opcode rest)) 0 ≡ cond b (packet_number seen opcode rest (counted_bytes opcode rest)) 0
+    number_after : (b : Bool) → is_packet opcode ≡ b → cond b (packet_fault past (taken opcode rest)) 0 ≡ cond b (packet_number seen opcode rest) 0
     number_after true e =
         ap (λ (n : ℕ). cond (ltb n (form_of opcode).fields) 20 (cond (packet_wrong past (taken opcode rest)) 21 0)) counted_taken
         ∙ packet_same (ltb-true opcode 240 e) (ltb (counted_bytes opcode rest) (form_of opcode).fields) refl

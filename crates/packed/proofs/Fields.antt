@@ -4,19 +4,24 @@ use mathlib.Core.Bool.{Bool, true, false, cond}
 use mathlib.Core.List.{List, ◌++◌}
 use Prim.Native.Nat.{ℕ, ◌+◌, ◌-◌, ◌^◌, ◌≤◌}
 use native.Mathlib.Omega.{arith}
-use lib.ListN.{length, drop}
-use lib.IntN.{pos}
+use lib.ListN.{length, drop, get_or}
+use lib.IntN.{ℤ, pos}
 use Rattle.numbers.specs.Signs.{from_twos}
 use Rattle.numbers.specs.Bytes.{unsigned_at, signed_at}
-use Rattle.numbers.proofs.Bytes.{unsigned_front, unsigned_drop}
+use Rattle.numbers.proofs.Bytes.{unsigned_one, unsigned_front, unsigned_drop}
 use Rattle.packed.specs.declared.Form.{Form}
 use Rattle.packed.specs.Commands.{form_of, fixed_bytes, counted_bytes}
 use Rattle.packed.specs.Packets.{code_in, width_in, escapement_in, escapement_start, is_long, nearest}
+use Rattle.packed.specs.Steps.{packet_of}
 use Rattle.packed.proofs.Forms.{form_sized, Sort, packet, special, number, preamble, other, sort_of, fixed_packet, fixed_special, fixed_preamble, counted_packet, counted_special, counted_preamble, counted_none}
 
 -- a number that stands at a place behind another
 pub there : (pk : List ℕ) (from at place count : ℕ) → place ≡ from + at → unsigned_at pk place count ≡ unsigned_at (drop from pk) at count
 there pk from at place count e = ap (λ (n : ℕ). unsigned_at pk n count) e ∙ sym (unsigned_drop pk from at count)
+
+-- the byte behind a place
+pub first_byte : (pk : List ℕ) (at : ℕ) → unsigned_at (drop (at + 1) pk) 0 1 ≡ get_or pk (at + 1) 0
+first_byte pk at = sym (there pk (at + 1) 0 (at + 1) 1 (omega arith)) ∙ unsigned_one pk (at + 1)
 
 -- ---- how many bytes are counted
 
@@ -85,3 +90,8 @@ module _ (pk : List ℕ) (from flag : ℕ) (f : Form) (same : f ≡ form_of flag
   dx_read start e long =
       ap (λ (n : ℕ). nearest (from_twos (256 ^ 4) n)) (there pk from (f.length + f.code + f.width) start 4 e ∙ ap (λ (g : Form). unsigned_at (drop from pk) (g.length + g.code + g.width) 4) same)
       ∙ sym (ap (λ (b : Bool). cond b (nearest (signed_at (drop from pk) (escapement_start flag) 4)) (pos (unsigned_at (drop from pk) (escapement_start flag) (form_of flag).escapement))) long)
+
+-- its fields make the packet
+pub packet_is : (flag : ℕ) (rest : List ℕ) (code width : ℕ) (escapement : ℤ) → code ≡ code_in flag rest → width ≡ width_in flag rest → escapement ≡ escapement_in flag rest
+    → record { code = code; width = width; escapement = escapement } ≡ packet_of flag rest
+packet_is flag rest code width escapement code_is width_is escapement_is = rw (code_is, width_is, escapement_is) refl

@@ -1,5 +1,5 @@
 -- The three forms of packets, and the lengths of commands, case by case. Assumes nothing.
-use mathlib.Core.Path.{◌≡◌, refl, sym, ap, subst}
+use mathlib.Core.Path.{◌≡◌, refl}
 use mathlib.Core.Bool.{Bool, true, false, cond}
 use mathlib.Core.List.{List}
 use Prim.Native.Nat.{ℕ, ◌+◌, ◌-◌, ◌*◌, ◌%◌, ◌^◌, ◌≤◌, ◌<◌}
@@ -14,39 +14,23 @@ use Rattle.packed.specs.Packets.{is_long}
 -- ---- which form
 
 -- the three forms
-abbrev pub short : ℕ → Form
+abbrev short : ℕ → Form
 short flag = record { added = flag % 4 * 256; length = 1; code = 1; width = 3; escapement = 1; fields = 8 }
 
-abbrev pub extended : ℕ → Form
+abbrev extended : ℕ → Form
 extended flag = record { added = flag % 4 * 65536; length = 2; code = 1; width = 3; escapement = 2; fields = 13 }
 
-abbrev pub long : Form
+abbrev long : Form
 long = record { added = 0; length = 4; code = 4; width = 4; escapement = 4; fields = 28 }
-
-module _ (flag : ℕ) where
-  pub form_short : flag % 8 < 4 → short flag ≡ form_of flag
-  unfolding form_of
-  form_short h = rw (lt-ltb (flag % 8) 4 h) refl
-
-  pub form_extended : 4 ≤ flag % 8 → flag % 8 < 7 → extended flag ≡ form_of flag
-  unfolding form_of
-  form_extended h k = rw (le-ltb (flag % 8) 4 h, lt-ltb (flag % 8) 7 k) refl
-
-  pub form_long : 4 ≤ flag % 8 → 7 ≤ flag % 8 → long ≡ form_of flag
-  unfolding form_of
-  form_long h k = rw (le-ltb (flag % 8) 4 h, le-ltb (flag % 8) 7 k) refl
 
 -- ---- what all forms keep
 
 -- how large the fields of a form are
 pub record Sized (flag : ℕ) (f : Form) : Type 0 where
-  pub length_small : f.length ≤ 4
-  pub code_small : f.code ≤ 4
-  pub width_small : f.width ≤ 4
-  pub escapement_small : f.escapement ≤ 4
   pub fields_hold : f.width + f.escapement ≤ f.fields
   pub added_small : f.added + 256 ^ f.length ≤ 2 ^ 32
   pub long_four : is_long flag ≡ true → f.escapement ≡ 4
+  pub short_two : is_long flag ≡ false → f.escapement ≤ 2
 
 pub form_sized : (flag : ℕ) → Sized flag (form_of flag)
 unfolding form_of
@@ -55,50 +39,25 @@ form_sized flag = go (ltb (flag % 8) 4) (ltb (flag % 8) 7) refl refl
     go : (a b : Bool) → ltb (flag % 8) 4 ≡ a → ltb (flag % 8) 7 ≡ b → Sized flag (cond a (short flag) (cond b (extended flag) long))
     go true b p q =
         record {
-          length_small = omega arith;
-          code_small = omega arith;
-          width_small = omega arith;
-          escapement_small = omega arith;
           fields_hold = omega arith;
           added_small = omega arith;
           long_four = λ e. absurd (omega (arith, ltb-true (flag % 8) 4 p, eqb-true (flag % 8) 7 e));
+          short_two = λ e. omega arith;
         }
     go false true p q =
         record {
-          length_small = omega arith;
-          code_small = omega arith;
-          width_small = omega arith;
-          escapement_small = omega arith;
           fields_hold = omega arith;
           added_small = omega arith;
           long_four = λ e. absurd (omega (arith, ltb-true (flag % 8) 7 q, eqb-true (flag % 8) 7 e));
+          short_two = λ e. omega arith;
         }
     go false false p q =
         record {
-          length_small = omega arith;
-          code_small = omega arith;
-          width_small = omega arith;
-          escapement_small = omega arith;
           fields_hold = omega arith;
           added_small = omega arith;
           long_four = λ e. refl;
+          short_two = λ e. absurd (eqb-false (flag % 8) 7 e (omega (arith, ltb-false (flag % 8) 7 q)));
         }
-
--- what is known of a form that was looked up
-pub record Known (flag : ℕ) (f : Form) : Type 0 where
-  pub sized : Sized flag f
-  pub length_is : f.length ≡ (form_of flag).length
-  pub code_is : f.code ≡ (form_of flag).code
-  pub fields_are : f.fields ≡ (form_of flag).fields
-
-pub form_known : (flag : ℕ) (f : Form) → f ≡ form_of flag → Known flag f
-form_known flag f e =
-    record {
-      sized = subst (Sized flag) (sym e) (form_sized flag);
-      length_is = ap (λ (g : Form). g.length) e;
-      code_is = ap (λ (g : Form). g.code) e;
-      fields_are = ap (λ (g : Form). g.fields) e;
-    }
 
 -- ---- the lengths of each kind of command
 
@@ -111,24 +70,9 @@ module _ (opcode : ℕ) where
   unfolding fixed_bytes
   fixed_special h k = rw (le-ltb opcode 240 h, le-leb 240 opcode h, le-leb opcode 243 (omega arith)) refl
 
-  pub fixed_number : opcode ≡ 244 → 4 ≡ fixed_bytes opcode
-  unfolding fixed_bytes
-  fixed_number e = rw e refl
-
   pub fixed_preamble : opcode ≡ 247 → 18 ≡ fixed_bytes opcode
   unfolding fixed_bytes
   fixed_preamble e = rw e refl
-
-  pub fixed_none : 244 < opcode → (opcode ≡ 247 → ⊥) → 0 ≡ fixed_bytes opcode
-  unfolding fixed_bytes
-  fixed_none h n =
-      rw (
-        le-ltb opcode 240 (omega arith),
-        le-leb 240 opcode (omega arith),
-        lt-leb opcode 243 (omega arith),
-        ne_eqb opcode 244 (λ e. omega arith),
-        ne_eqb opcode 247 n,
-      ) refl
 
   module _ (params : List ℕ) where
     pub counted_packet : opcode < 240 → (form_of opcode).added + unsigned_at params 0 (form_of opcode).length ≡ counted_bytes opcode params

@@ -1,6 +1,5 @@
 pub mod Forms
 pub mod Fields
-pub mod Pixels
 pub mod Says
 pub mod Faults
 pub mod Standing

@@ -1,16 +1,18 @@
 -- What is found of a packet and of a command, case by case. Assumes nothing.
-use mathlib.Core.Path.{◌≡◌, refl, sym, ap, ◌∙◌}
-use mathlib.Core.Bool.{Bool, true, false, cond, ◌||◌, not}
+use mathlib.Core.Path.{◌≡◌, refl, ap}
+use mathlib.Core.Bool.{Bool, true, false, cond, not}
 use mathlib.Core.List.{List}
-use Prim.Native.Nat.{ℕ, ◌+◌, ◌-◌, ◌≤◌, ◌<◌}
+use Prim.Native.Nat.{ℕ, ◌+◌, ◌≤◌, ◌<◌}
 use native.Mathlib.Omega.{arith}
 use lib.Dec.{ltb}
 use lib.ListN.{length}
-use borrow.Author.Tests.{ltb-false, lt-ltb, le-ltb}
-use Rattle.packed.specs.declared.Packet.{Packet}
+use borrow.Author.Tests.{ltb-true, ltb-false}
+use Rattle.std.specs.Prelude.{Some, None}
+use Rattle.refusals.specs.Answer.{Answer, refused, given, refuse_if}
 use Rattle.packed.specs.declared.Found.{Found}
-use Rattle.packed.specs.Commands.{form_of, counted_bytes, param_bytes}
-use Rattle.packed.specs.Steps.{PacketIs, misplaced_at, wrong_fields, wrong_bytes, packet_number, number_at, PacketSays, FoundOf}
+use Rattle.packed.specs.Commands.{is_packet, form_of, counted_bytes, param_bytes}
+use Rattle.packed.specs.Packets.{code_in}
+use Rattle.packed.specs.Steps.{misplaced_at, wrong_fields, packet_of, found_at}
 
 pub clash : true ≡ false → ◌≡◌ {A = ℕ} 0 1
 clash e = cc
@@ -19,80 +21,117 @@ pub not_true : (b : Bool) → not b ≡ false → b ≡ true
 not_true true e = refl
 not_true false e = absurd (let z = clash e in omega arith)
 
--- ---- a packet
-
--- 21 by the fields that were read is 21 by the bytes
-wrong_same : (noted : List ℕ) (flag : ℕ) (rest : List ℕ) (p : Packet) → PacketIs flag rest p → wrong_fields noted p ≡ wrong_bytes noted flag rest
-wrong_same noted flag rest p is = rw (is.code_is, is.width_is, is.escapement_is) refl
-
--- a code that is not wrong is one of 256
-code_small : (code : ℕ) (others : Bool) → (ltb 255 code || others) ≡ false → code < 256
-code_small code others e = go (ltb 255 code) refl e
-  where
-    go : (b : Bool) → ltb 255 code ≡ b → (b || others) ≡ false → code < 256
-    go true f e = absurd (let z = clash e in omega arith)
-    go false f e = omega (arith, ltb-false 255 code f)
-
-module _ (noted : List ℕ) (flag : ℕ) (rest : List ℕ) (from next : ℕ) where
-  -- the bytes that the packet length counts
-  abbrev counted : ℕ
-  counted = next - (from + (form_of flag).length + (form_of flag).code)
-
-  pub says_short : counted < (form_of flag).fields → (code : ℕ) → PacketSays noted flag rest from next (record { number = 20; next = next; code = code })
-  says_short h code = (rw (lt-ltb counted (form_of flag).fields h) refl, refl, λ e. absurd (omega arith))
-
-  module _ (room : (form_of flag).fields ≤ counted) (p : Packet) (is : PacketIs flag rest p) where
-    pub says_wrong : wrong_fields noted p ≡ true → (code : ℕ) → PacketSays noted flag rest from next (record { number = 21; next = next; code = code })
-    says_wrong w code =
-        (rw (le-ltb counted (form_of flag).fields room, sym (wrong_same noted flag rest p is) ∙ w) refl, refl, λ e. absurd (omega arith))
-
-    pub says_right : wrong_fields noted p ≡ false → PacketSays noted flag rest from next (record { number = 0; next = next; code = p.code })
-    says_right w = (
-      rw (le-ltb counted (form_of flag).fields room, sym (wrong_same noted flag rest p is) ∙ w) refl,
-      refl,
-      λ e. (is.code_is, code_small p.code _ w),
-    )
-
 -- ---- a command
 
-module _ (opcode : ℕ) (rest : List ℕ) (at : ℕ) (ended : Bool) (noted : List ℕ) (whole : ℕ) where
-  pub found_cut : length rest < param_bytes opcode rest → (next code : ℕ) → FoundOf opcode rest at ended noted whole (record { number = 18; next = next; code = code })
-  found_cut h next code =
-      record {
-        lowest = rw (lt-ltb (length rest) (param_bytes opcode rest) h) refl;
-        next = λ e. absurd (omega arith);
-        packet = λ e. absurd (omega arith);
-        other = λ e. absurd (omega arith);
-      }
+-- 20 or 21 or 0, by the bytes that the packet length counts
+abbrev pub packet_number : List ℕ → ℕ → List ℕ → ℕ
+packet_number noted flag rest = cond (ltb (counted_bytes flag rest) (form_of flag).fields) 20 (cond (wrong_fields noted (packet_of flag rest)) 21 0)
 
-  module _ (next : ℕ) (ends : next ≡ at + 1 + param_bytes opcode rest) (inside : next ≤ whole) (fits : param_bytes opcode rest ≤ length rest) where
-    pub found_misplaced : misplaced_at at ended opcode rest ≡ true → (code : ℕ) → FoundOf opcode rest at ended noted whole (record { number = 19; next = next; code = code })
-    found_misplaced e code =
-        record {
-          lowest = rw (le-ltb (length rest) (param_bytes opcode rest) fits, e) refl;
-          next = λ z. absurd (omega arith);
-          packet = λ z. absurd (omega arith);
-          other = λ z. absurd (omega arith);
-        }
+-- 19 to 21 or 0
+abbrev pub number_at : ℕ → Bool → List ℕ → ℕ → List ℕ → ℕ
+number_at at ended noted opcode rest = cond (misplaced_at at ended opcode rest) 19 (cond (is_packet opcode) (packet_number noted opcode rest) 0)
 
-    pub found_other : misplaced_at at ended opcode rest ≡ false → 240 ≤ opcode → FoundOf opcode rest at ended noted whole (record { number = 0; next = next; code = 256 })
-    found_other e h =
-        record {
-          lowest = rw (le-ltb (length rest) (param_bytes opcode rest) fits, e, le-ltb opcode 240 h) refl;
-          next = λ z. (ends, inside);
-          packet = λ z l. absurd (omega arith);
-          other = λ z l. refl;
-        }
+-- the number of the refusal that a command earns, or 0
+abbrev pub fault_number : Answer Found → ℕ
+fault_number (refused number place) = number
+fault_number (given found) = 0
 
-    pub found_packet : misplaced_at at ended opcode rest ≡ false → opcode < 240 → (from : ℕ)
-        → next - (from + (form_of opcode).length + (form_of opcode).code) ≡ counted_bytes opcode rest → (r : Found) → PacketSays noted opcode rest from next r
-        → FoundOf opcode rest at ended noted whole r
-    found_packet e h from counts r says =
-        let due : packet_number noted opcode rest (counted_bytes opcode rest) ≡ cond (ltb (length rest) (param_bytes opcode rest)) 18 (number_at at ended noted opcode rest) =
-        rw (le-ltb (length rest) (param_bytes opcode rest) fits, e, lt-ltb opcode 240 h) refl in
-        record {
-          lowest = says.0 ∙ ap (packet_number noted opcode rest) counts ∙ due;
-          next = λ z. (says.1 ∙ ends, omega (arith, says.1));
-          packet = λ z l. says.2 z;
-          other = λ z l. absurd (omega arith);
-        }
+-- what is found of a command that earns one
+pub record Faulty (at number place : ℕ) : Type 0 where
+  pub some : 0 < number
+  pub here : place ≡ at
+
+-- what is found of a command that earns none
+pub record Right (at : ℕ) (opcode : ℕ) (rest : List ℕ) (f : Found) : Type 0 where
+  pub fits : param_bytes opcode rest ≤ length rest
+  pub next : f.next ≡ at + 1 + param_bytes opcode rest
+  pub packet : opcode < 240 → f.code ≡ Some (code_in opcode rest)
+  pub other : 240 ≤ opcode → f.code ≡ None
+
+module _ (at : ℕ) (ended : Bool) (noted : List ℕ) (opcode : ℕ) (rest : List ℕ) where
+  abbrev packet : Found
+  packet = record { next = at + 1 + param_bytes opcode rest; code = Some (code_in opcode rest) }
+
+  abbrev other : Found
+  other = record { next = at + 1 + param_bytes opcode rest; code = None }
+
+  -- by the outcomes of the tests: cut, misplaced, a packet, short, wrong
+  abbrev by_tests : Bool → Bool → Bool → Bool → Bool → Answer Found
+  by_tests c m p s w = refuse_if c 18 at (refuse_if m 19 at (cond p (refuse_if s 20 at (refuse_if w 21 at (given packet))) (given other)))
+
+  pub found_number : fault_number (found_at at ended noted opcode rest) ≡ cond (ltb (length rest) (param_bytes opcode rest)) 18 (number_at at ended noted opcode rest)
+  found_number =
+      go
+      (ltb (length rest) (param_bytes opcode rest))
+      (misplaced_at at ended opcode rest)
+      (is_packet opcode)
+      (ltb (counted_bytes opcode rest) (form_of opcode).fields)
+      (wrong_fields noted (packet_of opcode rest))
+    where
+      go : (c m p s w : Bool) → fault_number (by_tests c m p s w) ≡ cond c 18 (cond m 19 (cond p (cond s 20 (cond w 21 0)) 0))
+      go true m p s w = refl
+      go false true p s w = refl
+      go false false false s w = refl
+      go false false true true w = refl
+      go false false true false true = refl
+      go false false true false false = refl
+
+  pub found_faulty : (number place : ℕ) → found_at at ended noted opcode rest ≡ refused number place → Faulty at number place
+  found_faulty number place =
+      go
+      (ltb (length rest) (param_bytes opcode rest))
+      (misplaced_at at ended opcode rest)
+      (is_packet opcode)
+      (ltb (counted_bytes opcode rest) (form_of opcode).fields)
+      (wrong_fields noted (packet_of opcode rest))
+    where
+      faulty : (n : ℕ) → 0 < n → ◌≡◌ {A = Answer Found} (refused n at) (refused number place) → Faulty at number place
+      faulty n some e = let same : n ≡ number = cc in record { some = omega arith; here = cc }
+
+      never : (f : Found) → ◌≡◌ {A = Answer Found} (given f) (refused number place) → ⊥
+      never f e = let z : ◌≡◌ {A = ℕ} 0 1 = cc in omega arith
+
+      go : (c m p s w : Bool) → by_tests c m p s w ≡ refused number place → Faulty at number place
+      go true m p s w e = faulty 18 (omega arith) e
+      go false true p s w e = faulty 19 (omega arith) e
+      go false false false s w e = absurd (never other e)
+      go false false true true w e = faulty 20 (omega arith) e
+      go false false true false true e = faulty 21 (omega arith) e
+      go false false true false false e = absurd (never packet e)
+
+  pub found_right : (f : Found) → found_at at ended noted opcode rest ≡ given f → Right at opcode rest f
+  found_right f =
+      go
+      (ltb (length rest) (param_bytes opcode rest))
+      (misplaced_at at ended opcode rest)
+      (is_packet opcode)
+      (ltb (counted_bytes opcode rest) (form_of opcode).fields)
+      (wrong_fields noted (packet_of opcode rest))
+      refl
+      refl
+    where
+      never : (number : ℕ) → ◌≡◌ {A = Answer Found} (refused number at) (given f) → ⊥
+      never number e = let z : ◌≡◌ {A = ℕ} 0 1 = cc in omega arith
+
+      same : (g : Found) → ◌≡◌ {A = Answer Found} (given g) (given f) → f ≡ g
+      same g e = cc
+
+      go : (c m p s w : Bool) → ltb (length rest) (param_bytes opcode rest) ≡ c → is_packet opcode ≡ p → by_tests c m p s w ≡ given f → Right at opcode rest f
+      go true m p s w c_is p_is e = absurd (never 18 e)
+      go false true p s w c_is p_is e = absurd (never 19 e)
+      go false false false s w c_is p_is e =
+          record {
+            fits = ltb-false (length rest) (param_bytes opcode rest) c_is;
+            next = ap (λ (g : Found). g.next) (same other e);
+            packet = λ h. absurd (omega (arith, ltb-false opcode 240 p_is));
+            other = λ h. ap (λ (g : Found). g.code) (same other e);
+          }
+      go false false true true w c_is p_is e = absurd (never 20 e)
+      go false false true false true c_is p_is e = absurd (never 21 e)
+      go false false true false false c_is p_is e =
+          record {
+            fits = ltb-false (length rest) (param_bytes opcode rest) c_is;
+            next = ap (λ (g : Found). g.next) (same packet e);
+            packet = λ h. ap (λ (g : Found). g.code) (same packet e);
+            other = λ h. absurd (omega (arith, ltb-true opcode 240 p_is));
+          }

@@ -11,11 +11,10 @@ use borrow.Author.Tests.{lt-ltb, le-ltb}
 use Rattle.numbers.specs.Bytes.{bytes_of}
 use Rattle.commands.specs.Commands.{Command}
 use Rattle.widths.specs.Table.{width_record_size}
-use Rattle.packed.specs.declared.Packet.{Packet}
 use Rattle.packed.specs.Rules.{places}
 use Rattle.widths.specs.Entries.{Entry, entry_bytes, table_bytes}
 use Rattle.packed.specs.Table.{entry_of, packets_for, packets_from}
-use Rattle.packed.specs.Steps.{PacketIs, entry_from, entry_at}
+use Rattle.packed.specs.Steps.{entry_at}
 use Rattle.packed.specs.Noting.{NotedAt, none, one, IsPacket}
 
 -- ---- a record
@@ -31,10 +30,6 @@ table_length (e ∷ entries) = omega (arith, length-append (entry_bytes e) (tabl
 pub table_append : (a b : List Entry) → table_bytes (a ++ b) ≡ table_bytes a ++ table_bytes b
 table_append [] b = refl
 table_append (e ∷ a) b = ap (λ (l : List ℕ). entry_bytes e ++ l) (table_append a b) ∙ sym (append_assoc (entry_bytes e) (table_bytes a) (table_bytes b))
-
--- the fields that were read are those at the place
-pub read_entry : (checksum scale flag at : ℕ) (pk : List ℕ) (p : Packet) → flag ≡ get_or pk at 0 → PacketIs flag (drop (at + 1) pk) p → entry_from checksum scale p ≡ entry_at checksum scale pk at
-read_entry checksum scale flag at pk p e is = rw (is.code_is, is.width_is, is.escapement_is, e) refl
 
 -- a command's entry is that of the packet at its place
 pub same_entry : (checksum scale code p : ℕ) (pk : List ℕ) (c : Command) → IsPacket pk code p c → entry_at checksum scale pk p ≡ entry_of checksum scale c

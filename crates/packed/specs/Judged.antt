@@ -3,6 +3,7 @@ use Rattle.std.specs.Prelude.{ℕ, zero, suc, not, List, [], ◌∷◌, ltb, len
 use Rattle.refusals.specs.Numbers.{font_ends}
 use Rattle.refusals.specs.Answer.{Answer, refused, given, refuse_if, and_then}
 use Rattle.commands.specs.Commands.{Command, place}
+use Rattle.packed.specs.declared.Note.{Note}
 use Rattle.packed.specs.Commands.{param_bytes}
 use Rattle.packed.specs.Rules.{ended, font_fault, places, packets}
 
@@ -23,12 +24,7 @@ font_judged_from (suc left) past (opcode ∷ rest) =
 unfoldable pub font_judged : List ℕ → Answer (List Command)
 font_judged pk = font_judged_from (suc (length pk)) [] pk
 
--- what is noted of the commands: for each code the place of its packet, and how many packets there are (rule 11.10)
-pub record Note : Type 0 where
-  pub places : List ℕ
-  pub packets : ℕ
-
--- the note of a list (rule 11.10)
+-- what is noted of a list: for each code the place of its packet, and how many packets there are (rule 11.10)
 abbrev pub note_of : List Command → Note
 note_of past = record { places = places past; packets = packets past }
 

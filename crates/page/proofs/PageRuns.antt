@@ -13,7 +13,7 @@ use Rattle.commands.specs.declared.Kind.TheVariants.{Bop, Eop, Push, Pop}
 use Rattle.commands.specs.Kinds.{is}
 use Rattle.commands.specs.Commands.{Command, kind_of_command, place}
 use Rattle.commands.proofs.Fronts.{front_sound}
-use Rattle.commands.proofs.Lengths.{whole_plain}
+use Rattle.commands.proofs.ParameterLengths.{whole_plain}
 use Rattle.list.specs.declared.Stage.{Stage}
 use Rattle.list.specs.declared.Stage.TheVariants.{AtStart, BeforePages, OnPage, BetweenPages, AfterPost, AfterEnd}
 use Rattle.volume.specs.declared.Summary.{Summary}

@@ -7,13 +7,16 @@ use native.Mathlib.Nat.{zero-add}
 use native.Mathlib.Omega.{arith}
 use lib.Dec.{ltb, leb}
 use lib.ListN.{length, get_or}
-use borrow.Author.Tests.{lt-ltb, le-ltb, le-leb, lt-leb}
-use Rattle.refusals.specs.Numbers.{no_such_page, position_out_of_range, area_too_short}
-use Rattle.refusals.specs.Answer.{Answer, refused, given, refuse_if, and_then}
+use borrow.Author.Tests.{lt-ltb, le-ltb, le-leb}
+use Rattle.refusals.specs.Numbers.{number_of, no_such_page, area_too_short}
+use Rattle.std.specs.declared.result.Result.{Result}
+use Rattle.std.specs.declared.result.Result.TheVariants.{Ok, Err}
+use Rattle.refusals.specs.declared.Refusal.{Refusal}
+use Rattle.refusals.specs.Answer.{Answer, refused, given, refusal, refuse_if, and_then}
 use Rattle.refusals.proofs.Answer.{given_not_refused}
 use Rattle.units.specs.declared.Ratio.{Ratio}
 use Rattle.units.specs.Unit.{unit_of, drift}
-use Rattle.units.specs.Steps.{Units}
+use Rattle.units.specs.Steps.{Units, Workable}
 use Rattle.units.proofs.Unit.{accepted}
 use Rattle.widths.specs.Table.{checked_table}
 use Rattle.commands.specs.Reading.{longest_file}
@@ -26,7 +29,6 @@ use Rattle.volume.proofs.Accepts.{accepts_lawful}
 use Rattle.state.specs.Registers.{fresh_state}
 use Rattle.placements.specs.declared.Counts.{Counts}
 use Rattle.turns.specs.declared.Terms.{Terms}
-use Rattle.page.specs.declared.Walked.{Walked}
 use Rattle.placements.specs.Records.{placement_record_size}
 use Rattle.page.specs.PageList.{page_of}
 use Rattle.turns.specs.Placing.{Contents, placing}
@@ -83,10 +85,10 @@ module _ (out : List ℕ) where
       }
 
   -- where one walk goes through, so does each other
-  pub walk_again : (r : Walked) (answer : Answer Contents) (area : List ℕ) {p : Contents} → answer ≡ given p → ending_of area r ≡ finish out zero_counts answer
-      → (counts : Counts) × Through answer area counts
-  walk_again (Walked.Through counts) answer area a e = (counts, walk_through answer area counts e)
-  walk_again (Walked.Left place) answer area {p} a e = absurd (given_not_refused p position_out_of_range place (sym a ∙ walk_left answer position_out_of_range place e))
+  pub walk_again : (r : Result Counts Refusal) (answer : Answer Contents) (area : List ℕ) {p : Contents} → answer ≡ given p → ending_of area r ≡ finish out zero_counts answer
+      → (counts : Counts) × (r ≡ Ok counts) × Through answer area counts
+  walk_again (Ok counts) answer area a e = (counts, refl, walk_through answer area counts e)
+  walk_again (Err r) answer area {p} a e = absurd (given_not_refused p (number_of r.reason) r.place (sym a ∙ walk_left answer (number_of r.reason) r.place e))
 
 -- ---- 16 and 17, as the walks show
 
@@ -95,8 +97,8 @@ module _ (answer : Answer Contents) (entry : List ℕ) where
   judged_room = and_then answer (with_room (length entry))
 
   -- 16
-  pub left_to : (place : ℕ) → stopped position_out_of_range place ≡ finish [] zero_counts answer → ComesTo judged_room entry (refused position_out_of_range place) entry
-  left_to place e = refused_to (ap (λ (a : Answer Contents). and_then a (with_room (length entry))) (walk_left [] answer position_out_of_range place e)) entry
+  pub left_to : (r : Refusal) → stopped (number_of r.reason) r.place ≡ finish [] zero_counts answer → ComesTo judged_room entry (refusal r) entry
+  left_to r e = refused_to (ap (λ (a : Answer Contents). and_then a (with_room (length entry))) (walk_left [] answer (number_of r.reason) r.place e)) entry
 
   module _ {area : List ℕ} {counts : Counts} (first : Through [] answer area counts) where
     records_are : length first.p.placements ≡ counts.records
@@ -110,7 +112,7 @@ module _ (answer : Answer Contents) (entry : List ℕ) where
 
     -- all placed
     pub all_to : placement_record_size * counts.records ≤ length entry → (area' : List ℕ) (counts' : Counts) → Through entry answer area' counts'
-        → ComesTo judged_room entry (given counts) area'
+        → ComesTo judged_room entry (given counts') area'
     all_to room area' counts' second =
         let p = first.p in
         let fits : placement_record_size * length p.placements ≤ length entry = omega (arith, room, records_are) in
@@ -119,7 +121,7 @@ module _ (answer : Answer Contents) (entry : List ℕ) where
         let same-p : second.p ≡ p = cc in
         let both = placed_to (ap (λ (a : Answer Contents). and_then a (with_room (length entry))) first.answer_is ∙ ap (λ (t : Bool). refuse_if t area_too_short 0 (given p)) test) entry area'
         (second.area_is ∙ ap (λ (x : Contents). stored entry 0 x.placements) same-p ∙ stored_whole p.placements entry fits) in
-        (ap given first.counts_are ∙ both.0, both.1)
+        (ap given second.counts_are ∙ ap (λ (x : Contents). given (counts_of x)) same-p ∙ both.0, both.1)
 
 -- ---- 12 to 15
 
@@ -153,15 +155,7 @@ module _ (file table : List ℕ) (resolution page room pages : ℕ) where
       with_page_lem : {t : Bool} → page_outside page pages ≡ t → placed_accepted file table resolution page room pages ≡ refuse_if t no_such_page 0 (walked k rows)
       with_page_lem e = with_table_lem ∙ ap (λ (t : Bool). refuse_if t no_such_page 0 (walked k rows)) e
 
-      -- page 0
-      pub page_zero : page < 1 → placed_accepted file table resolution page room pages ≡ refused no_such_page 0
-      page_zero h = with_page_lem (ap (λ (t : Bool). not (t && leb page pages)) (lt-leb 1 page h))
-
       module _ (some : 1 ≤ page) where
-        -- a page after the last
-        pub page_beyond : pages < page → placed_accepted file table resolution page room pages ≡ refused no_such_page 0
-        page_beyond h = with_page_lem (ap₂ (λ (a b : Bool). not (a && b)) (le-leb 1 page some) (lt-leb page pages h))
-
         -- a page of the file
         pub page_there : page ≤ pages → placed_accepted file table resolution page room pages ≡ walked k rows
         page_there h = with_page_lem (ap₂ (λ (a b : Bool). not (a && b)) (le-leb 1 page some) (le-leb page pages h))
@@ -185,6 +179,10 @@ module _ {file : List ℕ} {page : ℕ} {fonts : List ℕ} {v : Volume} (held : 
   pub held_units : ((i : ℕ) → get_or file i 0 < 256) → Units v.num v.den v.mag
   held_units bytes = subst (λ (w : Volume). Units w.num w.den w.mag) (sym state_is) (accepted_units file (summary_of v) bytes held.judgement)
 
+  -- a K that was given is one that distances are rounded by
+  pub held_workable : ((i : ℕ) → get_or file i 0 < 256) → (resolution : ℕ) {k : Ratio} → unit_of v.num v.den v.mag resolution ≡ given k → Workable k
+  held_workable bytes resolution {k} unit_is = (accepted v.num v.den v.mag resolution k (held_units bytes) unit_is).1
+
   pub held_unit : (resolution : ℕ) → unit_of v.num v.den v.mag resolution ≡ unit_of (num (history file)) (den (history file)) (mag (history file)) resolution
   held_unit resolution = ap (λ (w : Volume). unit_of w.num w.den w.mag resolution) state_is
 
@@ -200,14 +198,10 @@ module _ {file : List ℕ} {page : ℕ} {fonts : List ℕ} {v : Volume} (held : 
     held_short = (accepts_lawful file (summary_of v) held.judgement).0
 
     -- all that a walk over the page starts from
-    pub held_ready : (table : List ℕ) (terms : Terms) → terms.page ≡ page → checked_table table ≡ given terms.rows
-        → (resolution : ℕ) → terms.ruler.drift ≡ drift resolution → ((i : ℕ) → get_or file i 0 < 256)
-        → unit_of v.num v.den v.mag resolution ≡ given terms.ruler.k → Ready file fonts table terms (v.wanted + 45)
-    held_ready table terms page_is table_is resolution drift-is bytes unit_is =
+    pub held_ready : (terms : Terms) → terms.page ≡ page → (resolution : ℕ) → terms.ruler.drift ≡ drift resolution → Ready file fonts terms (v.wanted + 45)
+    held_ready terms page_is resolution drift-is =
         record {
           short = held_short;
-          right = table_is;
-          unit = (accepted v.num v.den v.mag resolution terms.ruler.k (held_units bytes) unit_is).1;
           drift_small = subst (λ (d : ℕ). d ≤ 2) (sym drift-is) (drift_bound resolution);
           told =
               record {

@@ -1,19 +1,18 @@
 -- The fonts that a walk remembers: at first none, and each slot keeps a font with what is right for it. Assumes nothing.
-use mathlib.Core.Path.{◌≡◌, refl, sym, subst, ◌∙◌}
+use mathlib.Core.Path.{refl, sym, subst, ◌∙◌}
 use mathlib.Core.List.{List, [], ◌∷◌}
 use Prim.Native.Nat.{ℕ, zero, suc, ◌<◌}
 use native.Mathlib.Omega.{arith}
 use lib.ListN.{length, get_or, set, replicate, length-set, length-replicate, get_or-replicate}
 use lib.IntN.{negsuc}
-use Rattle.refusals.specs.Answer.{given}
-use Rattle.widths.specs.Table.{checked_table}
+use Rattle.widths.specs.declared.table.Widths.{Widths}
 use Rattle.scaling.proofs.OneDivision.{sixteenfold_none}
 use Rattle.widths.proofs.BlockSearch.{no_records}
 use Rattle.state.specs.Registers.{unselected}
 use Rattle.page.specs.declared.Seen.{Seen}
 use Rattle.turns.specs.Steps.{KeptFor}
 use Rattle.page.specs.Steps.{SeenIs, zero_seen, AllSeen}
-use Rattle.page.proofs.FontLaws.{unselected_known, no_lawful_number}
+use Rattle.page.proofs.FontLaws.{unselected_known, no_definition}
 
 -- ---- what holds in every place of a list
 
@@ -33,18 +32,19 @@ abbrev none_seen : Seen
 none_seen = record { number = negsuc 0; font = unselected; kept = zero_seen.kept }
 
 -- before a font is selected nothing is found
-pub none_kept : {table : List ℕ} {rows : ℕ} → checked_table table ≡ given rows → KeptFor table rows unselected zero_seen.kept
-none_kept {table} {rows} right = record { sixteenfold_is = sym sixteenfold_none; own_is = no_records table rows right; any_is = no_records table rows right }
+pub none_kept : (widths : Widths) → KeptFor widths unselected zero_seen.kept
+none_kept widths =
+    let none = no_records widths.bytes.now widths.records widths.right in record { sixteenfold_is = sym sixteenfold_none; own_is = none; any_is = none }
 
-module _ (file fonts table : List ℕ) (rows : ℕ) where
-  none_seen_lem : checked_table table ≡ given rows → SeenIs file fonts table rows none_seen
-  none_seen_lem right = (λ past told. (no_lawful_number told (negsuc 0) refl, unselected_known), none_kept right)
+module _ (file fonts : List ℕ) (widths : Widths) where
+  none_seen_lem : SeenIs file fonts widths none_seen
+  none_seen_lem = (λ past told. (no_definition told (negsuc 0) refl, unselected_known), none_kept widths)
 
-  pub nothing_seen : checked_table table ≡ given rows → AllSeen file fonts table rows (replicate 64 none_seen)
-  nothing_seen right = (
+  pub nothing_seen : AllSeen file fonts widths (replicate 64 none_seen)
+  nothing_seen = (
     length-replicate 64 none_seen,
-    λ place inside. subst (SeenIs file fonts table rows) (sym (get_or-replicate 64 place none_seen zero_seen (omega (arith, inside, length-replicate 64 none_seen)))) (none_seen_lem right),
+    λ place inside. subst (SeenIs file fonts widths) (sym (get_or-replicate 64 place none_seen zero_seen (omega (arith, inside, length-replicate 64 none_seen)))) none_seen_lem,
   )
 
-  pub seen_stored : (seen : List Seen) (place : ℕ) (x : Seen) → SeenIs file fonts table rows x → AllSeen file fonts table rows seen → AllSeen file fonts table rows (set seen place x)
-  seen_stored seen place x is all = (length-set seen place x ∙ all.0, set_all (SeenIs file fonts table rows) zero_seen seen place x is all.1)
+  pub seen_stored : (seen : List Seen) (place : ℕ) (x : Seen) → SeenIs file fonts widths x → AllSeen file fonts widths seen → AllSeen file fonts widths (set seen place x)
+  seen_stored seen place x is all = (length-set seen place x ∙ all.0, set_all (SeenIs file fonts widths) zero_seen seen place x is all.1)

@@ -36,18 +36,17 @@ use Rattle.turns.proofs.Words.{word}
 use Rattle.page.specs.declared.Seen.{Seen}
 use Rattle.page.specs.Steps.{AllSeen, SeenIs}
 use Rattle.page.proofs.PageRuns.{runs_inside}
-use Rattle.page.proofs.Remembered.{seen_stored}
 use Rattle.page.proofs.WalkLaws.{Sound, state_sound, popped_bounded, popped_font, Walking, advances, in_ranges, onwards, leveled, push_room, pop_room}
 
-module _ {file fonts table out₀ out : List ℕ} {terms : Terms} {start at : ℕ} {page : Page} {counts : Counts} (w : Walking file fonts table terms start out₀ out page counts at)
-    (r : Step) {level : Level} (level_is : level ≡ level_in page.now) (told : (volume : List Command) → StepAsks file at (terms_setting terms table volume) level page.font r) where
+module _ {file fonts out₀ out : List ℕ} {terms : Terms} {start at : ℕ} {page : Page} {counts : Counts} (w : Walking file fonts terms start out₀ out page counts at)
+    (r : Step) {level : Level} (level_is : level ≡ level_in page.now) (told : (volume : List Command) → StepAsks file at (terms_setting terms volume) level page.font r) where
   -- ---- what holds as a command has been read
 
-  pub asks : StepAsks file at (terms_setting terms table (history file)) (level_in page.now) page.font r
-  asks = subst (λ (l : Level). StepAsks file at (terms_setting terms table (history file)) l page.font r) level_is (told (history file))
+  pub asks : StepAsks file at (terms_setting terms (history file)) (level_in page.now) page.font r
+  asks = subst (λ (l : Level). StepAsks file at (terms_setting terms (history file)) l page.font r) level_is (told (history file))
 
   pub ruled : Ruled terms.ruler page.font.scale
-  ruled = record { unit = w.ready.unit; drift_small = w.ready.drift_small; scale_small = w.sound.known.scale_small }
+  ruled = record { unit = terms.workable; drift_small = w.ready.drift_small; scale_small = w.sound.known.scale_small }
 
   pub safe : (turn : Turn) → r.asked.turn ≡ turn → Safe (level_in page.now) turn
   safe turn turn_is = subst (Safe (level_in page.now)) turn_is (in_ranges w r asks).1
@@ -71,22 +70,22 @@ module _ {file fonts table out₀ out : List ℕ} {terms : Terms} {start at : �
 
   -- ---- as what the command adds has been noted
 
-  module _ {keeps : Kept} (memory : List Seen) (kept_for : KeptFor table terms.rows page.font keeps) (remembers : AllSeen file fonts table terms.rows memory)
+  module _ {keeps : Kept} (memory : List Seen) (kept_for : KeptFor terms.widths page.font keeps) (remembers : AllSeen file fonts terms.widths memory)
       {out' : List ℕ} {counts' : Counts} (counts_are : counts' ≡ count_noted counts (added_of r.asked.adds)) (out-is : out' ≡ area_noted out counts.records (added_of r.asked.adds)) where
     abbrev setting : Setting
-    setting = terms_setting terms table (history file)
+    setting = terms_setting terms (history file)
 
     -- what is kept for a font
     abbrev KeptBy : Font → Kept → Type 0
-    KeptBy font kept = KeptFor table terms.rows font kept
+    KeptBy font kept = KeptFor terms.widths font kept
 
     -- what is remembered
     abbrev Remembers : List Seen → Type 0
-    Remembers seen = AllSeen file fonts table terms.rows seen
+    Remembers seen = AllSeen file fonts terms.widths seen
 
     -- the next turn starts from this page, and with what is kept for its font and remembered
     abbrev Next : Page → Kept → List Seen → Type 0
-    Next next kept seen = Walking file fonts table terms start out₀ out' next counts' r.next × KeptBy next.font kept × Remembers seen
+    Next next kept seen = Walking file fonts terms start out₀ out' next counts' r.next × KeptBy next.font kept × Remembers seen
 
     abbrev ruler : Ruler
     ruler = terms.ruler
@@ -217,10 +216,10 @@ module _ {file fonts table out₀ out : List ℕ} {terms : Terms} {start at : �
         (omega (arith, ensures.1, sound.shallow)) (ap length ensures.2 ∙ sound.full))
         keeps (subst (λ (font : Font). KeptBy font keeps) same-font kept_for) memory remembers
 
-    pub selects : {next : Page} {number : ℤ} {found : Seen} (place : ℕ) → r.asked.turn ≡ Turn.Select number
-        → SeenIs file fonts table terms.rows found × (found.number ≡ to_z w64 (of_z w64 number)) → next ≡ with_font page found.font
-        → Next next found.kept (set memory place found)
-    selects {next} {number} {found} place is found-is next_is =
+    pub selects : {next : Page} {number : ℤ} {found : Seen} (seen : List Seen) → r.asked.turn ≡ Turn.Select number
+        → SeenIs file fonts terms.widths found × (found.number ≡ to_z w64 (of_z w64 number)) → Remembers seen → next ≡ with_font page found.font
+        → Next next found.kept seen
+    selects {next} {number} {found} seen is found-is seen-is next_is =
         let sound = w.sound in
         let ok = safe (Turn.Select number) is in
         let number_is : found.number ≡ number = found-is.1 ∙ word number ok in
@@ -231,4 +230,4 @@ module _ {file fonts table out₀ out : List ℕ} {terms : Terms} {start at : �
         (subst (Sound ruler.k) (sym next_is)
         (record { bounded = sound.bounded; saved_bounded = sound.saved_bounded; rounds = sound.rounds; rounds_below = sound.rounds_below; known = font.1; shallow = sound.shallow; full = sound.full }))
         found.kept (subst (λ (f : Font). KeptBy f found.kept) chosen found-is.0.1)
-        (set memory place found) (seen_stored file fonts table terms.rows memory place found found-is.0 remembers)
+        seen seen-is

@@ -84,12 +84,12 @@ popped_font s (l ∷ levels) = refl
 -- ---- what is still to come
 
 -- the commands still to come run from here, and end as the whole page does
-pub record Walking (file fonts table : List ℕ) (terms : Terms) (start : ℕ) (out₀ out : List ℕ) (page : Page) (counts : Counts) (at : ℕ) : Type 0 where
-  pub ready : Ready file fonts table terms start
+pub record Walking (file fonts : List ℕ) (terms : Terms) (start : ℕ) (out₀ out : List ℕ) (page : Page) (counts : Counts) (at : ℕ) : Type 0 where
+  pub ready : Ready file fonts terms start
   pub rest : List Located
   pub runs : Runs file at page.depth rest
-  pub same : finish out counts (placing (terms_setting terms table (history file)) (page_state page) rest)
-      ≡ finish out₀ zero_counts (placing (terms_setting terms table (history file)) fresh_state (page_of terms.page (history file)))
+  pub same : finish out counts (placing (terms_setting terms (history file)) (page_state page) rest)
+      ≡ finish out₀ zero_counts (placing (terms_setting terms (history file)) fresh_state (page_of terms.page (history file)))
   pub sound : Sound terms.ruler.k page
   pub few_records : counts.records ≤ at
   pub few_missing : counts.missing ≤ at
@@ -97,15 +97,15 @@ pub record Walking (file fonts table : List ℕ) (terms : Terms) (start : ℕ) (
   pub long : length out ≡ length out₀
 
 -- at the start all of the page is to come
-pub starting : {file fonts table : List ℕ} {terms : Terms} {start : ℕ} (ready : Ready file fonts table terms start) (out : List ℕ) (page : Page)
+pub starting : {file fonts : List ℕ} {terms : Terms} {start : ℕ} (ready : Ready file fonts terms start) (out : List ℕ) (page : Page)
     → page_state page ≡ fresh_state → page.depth ≡ 0 → length page.stack ≡ 100 → page.now ≡ zero_kept
-    → Walking file fonts table terms start out out page zero_counts start
-starting {file} {fonts} {table} {terms} {start} ready out page fresh flat full zero =
+    → Walking file fonts terms start out out page zero_counts start
+starting {file} {fonts} {terms} {start} ready out page fresh flat full zero =
     record {
       ready = ready;
       rest = page_of terms.page (history file);
       runs = subst (λ (depth : ℕ). Runs file start depth (page_of terms.page (history file))) (sym flat) ready.runs;
-      same = ap (λ (s : State). finish out zero_counts (placing (terms_setting terms table (history file)) s (page_of terms.page (history file)))) fresh;
+      same = ap (λ (s : State). finish out zero_counts (placing (terms_setting terms (history file)) s (page_of terms.page (history file)))) fresh;
       sound =
           state_sound terms.ruler.k page fresh_state fresh bounded_zero tt (subst (RoundsLevel terms.ruler.k) (sym zero) (rounds_zero terms.ruler.k))
           (λ place less. absurd (omega (arith, flat, less))) unselected_known (omega arith) full;
@@ -139,11 +139,11 @@ neither false b e = refl
 
 -- ---- one turn
 
-module _ {file fonts table : List ℕ} {terms : Terms} {start : ℕ} {out₀ out : List ℕ} {page : Page} {counts : Counts} {at : ℕ}
-    (w : Walking file fonts table terms start out₀ out page counts at) (r : Step)
-    (asks : StepAsks file at (terms_setting terms table (history file)) (level_in page.now) page.font r) where
+module _ {file fonts : List ℕ} {terms : Terms} {start : ℕ} {out₀ out : List ℕ} {page : Page} {counts : Counts} {at : ℕ}
+    (w : Walking file fonts terms start out₀ out page counts at) (r : Step)
+    (asks : StepAsks file at (terms_setting terms (history file)) (level_in page.now) page.font r) where
   abbrev setting : Setting
-  setting = terms_setting terms table (history file)
+  setting = terms_setting terms (history file)
 
   abbrev s : State
   s = page_state page
@@ -213,14 +213,14 @@ module _ {file fonts table : List ℕ} {terms : Terms} {start : ℕ} {out₀ out
         → (page' : Page) → page_state page' ≡ s' → page'.depth ≡ depth_by (turn_frame turn) page.depth → Sound terms.ruler.k page'
         → (out' : List ℕ) → out' ≡ area_noted out counts.records (added_of r.asked.adds)
         → (counts' : Counts) → counts' ≡ count_noted counts (added_of r.asked.adds)
-        → Walking file fonts table terms start out₀ out' page' counts' r.next
+        → Walking file fonts terms start out₀ out' page' counts' r.next
     unfolding placing
     onwards on s' led page' state_is depth_is sound out' out-is counts' counts_are = by here
       where
         added : Added
         added = added_of r.asked.adds
 
-        by : Here → Walking file fonts table terms start out₀ out' page' counts' r.next
+        by : Here → Walking file fonts terms start out₀ out' page' counts' r.next
         by (last c rest stands eop e) = absurd (true≢false (sym eop ∙ no_eop stands turn turn_is on))
         by (next c rest later stands goes_on right e runs) =
             let outcome : after setting s c ≡ continues s' added = sym (does stands turn turn_is) ∙ led in
@@ -251,7 +251,7 @@ module _ {file fonts table : List ℕ} {terms : Terms} {start : ℕ} {out₀ out
         → (page' : Page) → page' ≡ with_level page l → Bounded (level_in l) → RoundsLevel terms.ruler.k l
         → (out' : List ℕ) → out' ≡ area_noted out counts.records (added_of r.asked.adds)
         → (counts' : Counts) → counts' ≡ count_noted counts (added_of r.asked.adds)
-        → Walking file fonts table terms start out₀ out' page' counts' r.next
+        → Walking file fonts terms start out₀ out' page' counts' r.next
     leveled is-inside l led page' page_is bounded rounds out' out-is counts' counts_are =
         let sound = w.sound in
         onwards (ap is_ending is-inside) (with_numbers s (level_in l)) led page' (ap page_state page_is) (ap (λ (p : Page). p.depth) page_is ∙ sym (ap (λ (frame : Frame). depth_by frame page.depth) is-inside))

@@ -1,10 +1,12 @@
 -- What the code's own steps give and keep; no promise cites this. Assumes nothing.
 use Rattle.std.specs.Prelude.{ℕ, ◌+◌, ◌<◌, ◌≤◌, ◌≡◌, true, false, List, [], ◌∷◌, length, get_or, drop, ℤ, pos}
-use Rattle.refusals.specs.Numbers.{position_out_of_range}
-use Rattle.refusals.specs.Answer.{Answer, refused, given, refusal}
-use Rattle.units.specs.Steps.{Workable}
+use Rattle.std.specs.declared.result.Result.{Result}
+use Rattle.std.specs.declared.result.Result.TheVariants.{Ok, Err}
+use Rattle.refusals.specs.declared.Refusal.{Refusal}
+use Rattle.refusals.specs.Numbers.{number_of}
+use Rattle.refusals.specs.Answer.{Answer, refused, given}
 use Rattle.widths.specs.declared.blocks.Block.{Block}
-use Rattle.widths.specs.Table.{checked_table}
+use Rattle.widths.specs.declared.table.Widths.{Widths}
 use Rattle.commands.specs.declared.Kind.{Kind}
 use Rattle.commands.specs.Commands.{Command, kind_of_command, whole, front}
 use Rattle.commands.specs.Parameters.{font_scale}
@@ -12,7 +14,6 @@ use Rattle.commands.specs.Reading.{longest_file}
 use Rattle.list.specs.Past.{is_a, depth_after, body, Definition, none, stands, definition_of}
 use Rattle.list.specs.Rules.{wrong_at_depth}
 use Rattle.list.specs.declared.Volume.{Volume}
-use Rattle.volume.specs.declared.Scanned.TheVariants as Scanned
 use Rattle.volume.specs.Judged.{judged}
 use Rattle.volume.specs.History.{history}
 use Rattle.list.specs.Steps.{Tells, AllStanding, Lawfully}
@@ -22,8 +23,6 @@ use Rattle.state.specs.Registers.{unselected}
 use Rattle.placements.specs.declared.Counts.{Counts}
 use Rattle.page.specs.declared.Seen.{Seen}
 use Rattle.turns.specs.declared.Terms.{Terms}
-use Rattle.page.specs.declared.Walked.{Walked}
-use Rattle.page.specs.declared.PagePlaced.{PagePlaced}
 use Rattle.placements.specs.Steps.{stored}
 use Rattle.turns.specs.Placing.{Located, font_by, Contents}
 use Rattle.turns.specs.Steps.{Known, KeptFor}
@@ -48,14 +47,9 @@ abbrev pub zero_counts : Counts
 zero_counts = record { records = 0; missing = 0; specials = 0 }
 
 -- how the code's walk ended
-abbrev pub ending_of : List ℕ → Walked → Ending
-ending_of out (Walked.Through counts) = through out counts
-ending_of out (Walked.Left place) = stopped position_out_of_range place
-
--- a walk makes at most so many records
-abbrev pub Few : ℕ → Walked → Type 0
-Few most (Walked.Through counts) = counts.records ≤ most
-Few most (Walked.Left place) = Unit {0}
+abbrev pub ending_of : List ℕ → Result Counts Refusal → Ending
+ending_of out (Ok counts) = through out counts
+ending_of out (Err r) = stopped (number_of r.reason) r.place
 
 -- ---- fonts
 
@@ -76,8 +70,8 @@ abbrev pub FontIs : List ℕ → List ℕ → ℤ → Font → Type 0
 FontIs file fonts number r = (past : List Command) → Told file fonts past → (r ≡ font_by number (definition_of false number past)) × Known r
 
 -- a number, its font, and what is kept for it
-abbrev pub SeenIs : List ℕ → List ℕ → List ℕ → ℕ → Seen → Type 0
-SeenIs file fonts table rows seen = FontIs file fonts seen.number seen.font × KeptFor table rows seen.font seen.kept
+abbrev pub SeenIs : List ℕ → List ℕ → Widths → Seen → Type 0
+SeenIs file fonts widths seen = FontIs file fonts seen.number seen.font × KeptFor widths seen.font seen.kept
 
 -- all of it zeros
 abbrev pub zero_seen : Seen
@@ -86,8 +80,8 @@ zero_seen =
     record { number = pos 0; font = unselected; kept = record { sixteenfold = 0; own = nowhere; any = nowhere } }
 
 -- so in each of 64 slots
-abbrev pub AllSeen : List ℕ → List ℕ → List ℕ → ℕ → List Seen → Type 0
-AllSeen file fonts table rows seen = (length seen ≡ 64) × ((place : ℕ) → place < length seen → SeenIs file fonts table rows (get_or seen place zero_seen))
+abbrev pub AllSeen : List ℕ → List ℕ → Widths → List Seen → Type 0
+AllSeen file fonts widths seen = (length seen ≡ 64) × ((place : ℕ) → place < length seen → SeenIs file fonts widths (get_or seen place zero_seen))
 
 -- ---- the page's commands in the file
 
@@ -99,10 +93,8 @@ pub data Runs (file : List ℕ) : ℕ → ℕ → List Located → Type 0 where
       → Runs file place depth (record { at = place; command = c } ∷ cs)
 
 -- all that a walk over a page starts from
-pub record Ready (file fonts table : List ℕ) (terms : Terms) (start : ℕ) : Type 0 where
+pub record Ready (file fonts : List ℕ) (terms : Terms) (start : ℕ) : Type 0 where
   pub short : length file ≤ longest_file
-  pub right : checked_table table ≡ given terms.rows
-  pub unit : Workable terms.ruler.k
   pub drift_small : terms.ruler.drift ≤ 2
   pub told : Told file fonts (history file)
   pub runs : Runs file start 0 (page_of terms.page (history file))
@@ -112,9 +104,4 @@ pub record Ready (file fonts table : List ℕ) (terms : Terms) (start : ℕ) : T
 -- what a scan holds of an accepted file
 pub record Held (file : List ℕ) (page : ℕ) (fonts : List ℕ) (v : Volume) : Type 0 where
   pub judgement : judged file ≡ given (summary_of v)
-  pub keeps : ScanKeeps file page fonts (Scanned.Accepted v)
-
--- what the code's answer says
-abbrev pub place_answer : PagePlaced → Answer Counts
-place_answer (PagePlaced.Placed counts) = given counts
-place_answer (PagePlaced.Refused r) = refusal r
+  pub keeps : ScanKeeps file page fonts (Ok v)

@@ -10,6 +10,14 @@ use list::fonts;
 use names::Name;
 use state::Font;
 
+// No font: what is current while none is selected
+pub const UNSELECTED: Font = Font {
+    number: 0,
+    checksum: 0,
+    scale: 0,
+    name: Name::ANY,
+};
+
 // The name that a font seeks in a width table, by what its definition says: its own, without the area.
 fn name_in(said: &[u8]) -> Name
     requires { 14 ≤ length said.now }
@@ -17,39 +25,25 @@ fn name_in(said: &[u8]) -> Name
 {
     let area = fields::unsigned_in(fields::DEFINITION_AREA_LENGTH, said);
     let start = fields::DEFINITION_NAME + area as usize;
-    if said.len() < start {
-        return Name { high: 0, low: 0 };
-    }
-    names::sought_name(&said[start..])
+    let Some(name) = said.get(start..) else {
+        return Name::ANY;
+    };
+    names::sought_name(name)
 }
 
 // The font of a number, by the table of the definitions before post; one that is not defined has scale 0.
 pub fn font_of(file: &[u8], fonts: &[u32; 256], number: i64) -> Font
     ensures { FontIs file.now fonts.now number result }
 {
-    let unselected = Font {
-        number: 0,
-        checksum: 0,
-        scale: 0,
-        name: Name { high: 0, low: 0 },
+    let Some(place) = fonts::place_of(fonts, number) else {
+        return UNSELECTED;
     };
-    if !fonts::lawful_font(number) {
-        return unselected;
-    }
-    let entry = fonts::entry_of(fonts, number);
-    if entry == 0 {
-        return unselected;
-    }
-    let part = fonts::saying_at(file, entry - 1);
-    let start = part.start;
-    let end = part.end;
-    let said = &file[start..end];
-    if said.len() < fields::DEFINITION_NAME {
-        return unselected;
-    }
-    let which = number as u64;
+    let Some(part) = fonts::saying_at(file, place) else {
+        return UNSELECTED;
+    };
+    let said = &file[part.start..part.end];
     Font {
-        number: which,
+        number: number.unsigned_abs(),
         checksum: fields::unsigned_in(fields::DEFINITION_CHECKSUM, said),
         scale: fields::unsigned_in(fields::DEFINITION_SCALE, said),
         name: name_in(said),

@@ -3,7 +3,6 @@ use Rattle.std.specs.Prelude.{ℕ, ◌+◌, ◌*◌, ◌≤◌, ◌^◌, cond, L
 use Rattle.placements.specs.declared.Record.{Record}
 use Rattle.placements.specs.declared.Counts.{Counts}
 use Rattle.placements.specs.declared.Adds.{Adds}
-use Rattle.placements.specs.declared.Adds.TheVariants as Adds
 use Rattle.placements.specs.Records.{placement_record_size, record_bytes, Added, nothing, placed, missing, special}
 
 -- a record whose signed numbers are small enough to be taken apart

@@ -1,14 +1,15 @@
 // The records of a page in the output area, and their counts.
 #![tactic(auto)]
 
-ghost use Rattle.std.specs.Prelude.{◌≡◌, ◌++◌, ◌+◌, ◌≤◌, ◌<◌, length, take, drop};
+ghost use Rattle.std.specs.Prelude.{◌≡◌, ◌≤◌, ◌^◌, nat_abs};
+ghost use Rattle.numbers.specs.Bytes.{signed_bytes_of};
 ghost use Rattle.placements.specs.Records.{record_bytes};
 ghost use Rattle.placements.specs.Steps.{InWords, added_of, put_record, area_noted, count_noted, AddsInWords};
 
 // One placed character or rule
 #[derive(Clone, Copy)]
 pub struct Record {
-    // 1 character, 2 rule
+    // 1 character, 2 rule: the number that is written, which definitions of specs/Records give (`character_record`, `rule_record`)
     pub kind: u64,
     pub font: u64,
     pub page: u64,
@@ -20,7 +21,7 @@ pub struct Record {
     pub extent: i64,
 }
 
-// How many records, missing characters and specials a page has
+// How many records, missing characters and specials a page has. Definitions of specs/ build it (`count_noted`), so its bounds are asked where it is counted on.
 #[derive(Clone, Copy)]
 pub struct Counts {
     pub records: usize,
@@ -28,7 +29,7 @@ pub struct Counts {
     pub specials: usize,
 }
 
-// What a command adds to the page
+// What a command adds to the page. No closure in its place: the definition `added_of` says what each means.
 #[derive(Clone, Copy)]
 pub enum Adds {
     Nothing,
@@ -40,54 +41,29 @@ pub enum Adds {
 // How many bytes a record has.
 pub const RECORD_SIZE: usize = 20;
 
+// A signed number in four bytes, the highest first, in two's complement
+fn word_of(n: i64) -> [u8; 4]
+    requires { nat_abs n ≤ 2 ^ 31 }
+    ensures { result ≡ signed_bytes_of 4 n }
+{
+    (numbers::to_twos(4294967296, n) as u32).to_be_bytes()
+}
+
 // The bytes of a record.
 fn bytes_of(placed: Record) -> [u8; 20]
     requires { InWords placed }
     ensures { result ≡ record_bytes placed }
 {
-    let font = placed.font;
-    let page = placed.page;
-    let page_high = page / 256 % 256;
-    let page_low = page % 256;
-    let hh = numbers::to_twos(4294967296, placed.hh);
-    let vv = numbers::to_twos(4294967296, placed.vv);
-    let content = numbers::to_twos(4294967296, placed.content);
-    let extent = numbers::to_twos(4294967296, placed.extent);
+    let kind = (placed.kind % 256) as u8;
+    let font = (placed.font % 256) as u8;
+    let [p1, p0] = ((placed.page % 65536) as u16).to_be_bytes();
+    let [h3, h2, h1, h0] = word_of(placed.hh);
+    let [v3, v2, v1, v0] = word_of(placed.vv);
+    let [c3, c2, c1, c0] = word_of(placed.content);
+    let [e3, e2, e1, e0] = word_of(placed.extent);
     [
-        (placed.kind % 256) as u8,
-        (font % 256) as u8,
-        page_high as u8,
-        page_low as u8,
-        (hh / 256 / 256 / 256 % 256) as u8,
-        (hh / 256 / 256 % 256) as u8,
-        (hh / 256 % 256) as u8,
-        (hh % 256) as u8,
-        (vv / 256 / 256 / 256 % 256) as u8,
-        (vv / 256 / 256 % 256) as u8,
-        (vv / 256 % 256) as u8,
-        (vv % 256) as u8,
-        (content / 256 / 256 / 256 % 256) as u8,
-        (content / 256 / 256 % 256) as u8,
-        (content / 256 % 256) as u8,
-        (content % 256) as u8,
-        (extent / 256 / 256 / 256 % 256) as u8,
-        (extent / 256 / 256 % 256) as u8,
-        (extent / 256 % 256) as u8,
-        (extent % 256) as u8,
+        kind, font, p1, p0, h3, h2, h1, h0, v3, v2, v1, v0, c3, c2, c1, c0, e3, e2, e1, e0,
     ]
-}
-
-// The record at a place of a longer area.
-fn paste_at(out: &mut [u8], at: usize, placed: Record)
-    requires { (at + 20 ≤ length out.old) × InWords placed }
-    ensures { out.new ≡ take at out.old ++ record_bytes placed ++ drop (at + 20) out.old }
-{
-    let bytes = bytes_of(placed);
-    let mut index = 0;
-    while index < RECORD_SIZE {
-        out[at + index] = bytes[index];
-        index += 1;
-    }
 }
 
 // A record of an index, where the area has room for it.
@@ -97,7 +73,7 @@ fn put_record(out: &mut [u8], index: usize, placed: Record)
 {
     let from = RECORD_SIZE * index;
     if from + RECORD_SIZE <= out.len() {
-        paste_at(out, from, placed);
+        areas::paste(out, from, &bytes_of(placed));
     }
 }
 
@@ -107,21 +83,22 @@ pub fn note(out: &mut [u8], counts: Counts, adds: Adds) -> Counts
     ensures value { result ≡ count_noted counts (added_of adds) }
     ensures out_after { out.new ≡ area_noted out.old counts.records (added_of adds) }
 {
-    let mut noted = counts;
     match adds {
-        Adds::Nothing => noted,
+        Adds::Nothing => counts,
         Adds::Placed(placed) => {
-            put_record(out, noted.records, placed);
-            noted.records = noted.records + 1;
-            noted
+            put_record(out, counts.records, placed);
+            Counts {
+                records: counts.records + 1,
+                ..counts
+            }
         }
-        Adds::Missing => {
-            noted.missing = noted.missing + 1;
-            noted
-        }
-        Adds::Special => {
-            noted.specials = noted.specials + 1;
-            noted
-        }
+        Adds::Missing => Counts {
+            missing: counts.missing + 1,
+            ..counts
+        },
+        Adds::Special => Counts {
+            specials: counts.specials + 1,
+            ..counts
+        },
     }
 }

@@ -1,11 +1,13 @@
-// Texts and numbers, written to what the caller lends. Each function that writes fails where a write of it fails, and nowhere else.
+// Texts, written to what the caller lends. Each function that writes fails where a write of it fails, and nowhere else.
 #![tactic(auto)]
 
-ghost use Rattle.std.specs.Prelude.{◌≡◌, ◌<◌, nat_abs, OnOk};
+ghost use Rattle.std.specs.Prelude.{◌≡◌, ◌<◌, ◌/◌, ◌%◌, false, [], ◌∷◌, OnOk};
+ghost use Rattle.std.specs.Fmt.{digit_glyph};
 ghost use Rattle.std.specs.Io.KnownBytes.{Appends};
 
 use std::io::{Result, Write};
 
+pub mod block;
 pub mod line;
 pub mod rows;
 
@@ -15,35 +17,27 @@ pub fn text<W: Write>(out: &mut W, bytes: &[u8]) -> Result<()>
     out.write_all(bytes)
 }
 
-// |n|, of every i64
-fn size(n: i64) -> u64
-    ensures { result ≡ nat_abs n }
-{
-    if n < 0 {
-        (0 - (n + 1)) as u64 + 1
-    } else {
-        n as u64
-    }
-}
-
 // Bytes as two lower-case digits each
 pub fn hexadecimal<W: Write>(out: &mut W, bytes: &[u8]) -> Result<()> {
     for byte in bytes {
-        let pair = [digit(*byte / 16), digit(*byte % 16)];
-        text(out, &pair)?;
+        text(out, &pair(*byte))?;
     }
     Ok(())
 }
 
+// A byte as two lower-case digits. They are gathered as bytes, where the library's {:02x} writes a text and does not promise that it was written: so it is done here.
+pub fn pair(byte: u8) -> [u8; 2]
+    ensures { result ≡ digit_glyph false (byte / 16) ∷ digit_glyph false (byte % 16) ∷ [] }
+{
+    [digit(byte / 16), digit(byte % 16)]
+}
+
 pub fn digit(n: u8) -> u8
     requires { n < 16 }
+    ensures { result ≡ digit_glyph false n }
 {
     if n < 10 {
         return b'0' + n;
     }
     b'a' + (n - 10)
-}
-
-pub fn refused<W: Write>(out: &mut W, number: u8, place: usize) -> Result<()> {
-    line::refused(number, place).print(out)
 }

@@ -38,11 +38,12 @@ use Rattle.turns.specs.Counting.{code_of}
 use Rattle.turns.specs.Blocks.{to, lead_on, after_all}
 use Rattle.turns.proofs.CountLaws.{and_given}
 use Rattle.turns.proofs.Blocks.{out_to, to_same, run_append, placed_leads}
-use Rattle.reader.specs.declared.Placed.{Placed}
 use Rattle.reader.proofs.place_page.Reads as place-page
 use Rattle.promises.specs.Calls.{Arguments, area, own, Grounds, grounds_setting}
 use Rattle.promises.specs.Bars.{record_added, AtCommand, past_bar, BarMoves, bites, Covers, ClearBar}
 use Rattle.promises.proofs.Placing.{placed_by_lem, accepted_writes_only_records}
+use Rattle.std.specs.declared.result.Result.TheVariants.{Ok}
+use Rattle.placements.specs.declared.Counts.{Counts}
 
 -- an outcome that goes on does so to one state, with one addition
 goes_on : {s t : State} {x y : Added} → continues s x ≡ continues t y → (s ≡ t) × (x ≡ y)
@@ -290,12 +291,12 @@ module _ (setting : Setting) where
 abbrev commands : List Located → List Command
 commands = map (λ c. c.command)
 
-module _ (κs : Lfts 3) (a x : Arguments) (records missing specials : ℕ) (post : place-page.Post κs a (Placed.Records records missing specials) x) where
+module _ (κs : Lfts 3) (a x : Arguments) (counts : Counts) (post : place-page.Post κs a (Ok counts) x) where
   -- after every command the pixels are within D of the rounded positions, those of the saved levels too (rule 7.4)
   pub pixels_stay_near : (before rest : List Located) → own a ≡ before ++ rest
       → (g : Grounds a) × (here : State) × (after_all (grounds_setting a g) fresh_state (map (λ c. c.command) before) ≡ to here) × StateNear (grounds_setting a g).ruler here
   pixels_stay_near before rest own_is =
-      let (p, is, many, bytes, others, long) = accepted_writes_only_records κs a x records missing specials post in
+      let (p, is, many, bytes, others, long) = accepted_writes_only_records κs a x counts post in
       let (g, placing-is, fits) = placed_by_lem a p is in
       let setting = grounds_setting a g in
       let (last, led) = placed_leads setting fresh_state (own a) p placing-is in
@@ -305,16 +306,16 @@ module _ (κs : Lfts 3) (a x : Arguments) (records missing specials : ℕ) (post
 
   -- the command behind some of the page's, as it is placed
   on_page : (before rest : List Located) (c : Located) → own a ≡ before ++ c ∷ rest
-      → (g : Grounds a) × (written : List Record) × (take (placement_record_size * records) (area x) ≡ all_bytes written) × AtCommand (grounds_setting a g) fresh_state written before c
+      → (g : Grounds a) × (written : List Record) × (take (placement_record_size * counts.records) (area x) ≡ all_bytes written) × AtCommand (grounds_setting a g) fresh_state written before c
   on_page before rest c own_is =
-      let (p, is, many, bytes, others, long) = accepted_writes_only_records κs a x records missing specials post in
+      let (p, is, many, bytes, others, long) = accepted_writes_only_records κs a x counts post in
       let (g, placing-is, fits) = placed_by_lem a p is in
       let setting = grounds_setting a g in
       (g, p.placements, bytes, at_command setting before c rest fresh_state p (ap (placing setting fresh_state) (sym own_is) ∙ placing-is))
 
   -- every rule that is set, with a record or without, moves h by its width and hh by its width rounded up, and D moves hh from there by at most one pixel (rules 7.3, 7.4, 7.8)
   pub every_bar_moves : (before rest : List Located) (c : Located) → own a ≡ before ++ c ∷ rest → is_a Kind.SetRule c.command ≡ true
-      → (g : Grounds a) × (written : List Record) × (take (placement_record_size * records) (area x) ≡ all_bytes written) × BarMoves (grounds_setting a g) written before c
+      → (g : Grounds a) × (written : List Record) × (take (placement_record_size * counts.records) (area x) ≡ all_bytes written) × BarMoves (grounds_setting a g) written before c
   every_bar_moves before rest c own_is sets =
       let (g, written, bytes, at) = on_page before rest c own_is in
       let setting = grounds_setting a g in
@@ -333,7 +334,7 @@ module _ (κs : Lfts 3) (a x : Arguments) (records missing specials : ℕ) (post
   -- behind a bar hh has gone by the bar's own pixels, wherever D does not bite (rules 7.3, 7.4, 7.8)
   pub bars_are_clear : (before rest : List Located) (c : Located) → own a ≡ before ++ c ∷ rest → is_a Kind.SetRule c.command ≡ true
       → is_visible (rule_height c.command.params) (rule_width c.command.params) ≡ true
-      → (g : Grounds a) × (written : List Record) × (take (placement_record_size * records) (area x) ≡ all_bytes written) × ClearBar (grounds_setting a g) written before c
+      → (g : Grounds a) × (written : List Record) × (take (placement_record_size * counts.records) (area x) ≡ all_bytes written) × ClearBar (grounds_setting a g) written before c
   bars_are_clear before rest c own_is sets visible =
       let (g, written, bytes, at) = on_page before rest c own_is in
       let setting = grounds_setting a g in

@@ -1,7 +1,7 @@
 -- What the file of chosen pages is to the other entries, over their contracts: it is accepted, its pages place as before, and its fonts have their names. Assumes nothing.
 use Rattle.std.proofs.Common.{Bor, MutBor}
-use Prim.Native.Nat.{ℕ, zero, suc, ◌+◌}
-use mathlib.Core.Path.{◌≡◌, refl, sym, ap, ◌∙◌}
+use Prim.Native.Nat.{ℕ, ◌+◌}
+use mathlib.Core.Path.{◌≡◌, refl, sym, ap, ◌∙◌, subst}
 use mathlib.Core.Bool.{Bool, true, false}
 use mathlib.Core.List.{List, ◌∷◌, ◌++◌}
 use mathlib.Core.Logic.{◌↔◌}
@@ -12,7 +12,7 @@ use lib.ListN.{length, take, drop}
 use lib.IntN.{ℤ}
 use lib.Seq.{take_at, drop_at}
 use borrow.Author.Tests.{ltb-false}
-use Rattle.refusals.specs.Answer.{Answer, refused, given, refuse_if, and_then}
+use Rattle.refusals.specs.Answer.{Answer, refused, given, refuse_if, and_then, answered}
 use Rattle.refusals.proofs.Answer.{given_same, given_not_refused}
 use Rattle.widths.specs.AsBytes.{Bytes}
 use Rattle.volume.specs.declared.Summary.{Summary}
@@ -30,17 +30,21 @@ use Rattle.rewritten.specs.Renumbered.{renumbered}
 use Rattle.rewritten.specs.Unplaced.{unplaced}
 use Rattle.rewritten.proofs.CutAccepted.{cut_accepted_lem, cut_definitions}
 use Rattle.rewritten.proofs.CutPlaces.{cut_places}
-use Rattle.reader.specs.declared.FileChecked.{FileChecked}
-use Rattle.reader.specs.declared.PagesCut.{PagesCut}
-use Rattle.reader.specs.declared.Placed.{Placed}
-use Rattle.reader.specs.Answers.{file_answer, name_answer, placed_answer}
+use Rattle.reader.specs.Answers.{name_answer}
 use Rattle.reader.proofs.check_file.Reads as check-file
 use Rattle.reader.proofs.font_name.Reads as font-name
 use Rattle.reader.proofs.cut_pages.Reads as cut-pages
 use Rattle.reader.proofs.place_page.Reads as place-page
 use Rattle.promises.specs.Cuts.{Gives}
 use Rattle.promises.proofs.NameBytes.{name_in, named_bytes}
-use Rattle.promises.proofs.OneToOne.{name_one_to_one}
+use Rattle.std.specs.declared.result.Result.{Result}
+use Rattle.std.specs.declared.result.Result.TheVariants.{Ok, Err}
+use Rattle.refusals.specs.declared.Refusal.{Refusal}
+use Rattle.placements.specs.declared.Counts.{Counts}
+use Rattle.reader.specs.declared.FontName.{FontName}
+use Rattle.std.specs.Prelude.{IfOk}
+use Rattle.promises.proofs.OneToOne.{refused_same}
+use Rattle.promises.specs.Named.{bytes_named}
 
 -- ---- what a call gives
 
@@ -74,7 +78,7 @@ gives file list area bytes after said is = by (judged file) refl said is
             }
 
 -- a call that gives so many bytes has written the new file in front, and left what stands behind it
-pub cut_pages_gives : (κs : Lfts 3) → (file pages area : _) → (bytes : ℕ) → (x : _) → cut-pages.Post κs (file, (pages, (area, tt))) (PagesCut.Bytes bytes) x
+pub cut_pages_gives : (κs : Lfts 3) → (file pages area : _) → (bytes : ℕ) → (x : _) → cut-pages.Post κs (file, (pages, (area, tt))) (Ok bytes) x
     → Gives file.now pages.now area.now bytes x.1.1.0.now
 cut_pages_gives κs file pages area bytes x post = gives file.now pages.now area.now bytes x.1.1.0.now post.0 post.1.0
 
@@ -89,8 +93,8 @@ module _ (file list : List ℕ) (s : Summary) (accepted : judged file ≡ given 
   new = cut_file file list
 
   -- its check: as many pages as were chosen, the old file's fonts, the greatest depth of the chosen pages
-  pub new_file_checked : (κs : Lfts 1) → (again : Bor (List ℕ)) → (r : FileChecked) → (x : _) → again.now ≡ new → check-file.Post κs (again, tt) r x
-      → file_answer r
+  pub new_file_checked : (κs : Lfts 1) → (again : Bor (List ℕ)) → (r : Result Summary Refusal) → (x : _) → again.now ≡ new → check-file.Post κs (again, tt) r x
+      → answered r
       ≡ given (record {
         pages = length list;
         fonts = s.fonts;
@@ -100,9 +104,9 @@ module _ (file list : List ℕ) (s : Summary) (accepted : judged file ≡ given 
   new_file_checked κs again r x is post = post.0 ∙ ap judged is ∙ cut_accepted_lem file s accepted bytes list right
 
   -- placing its n-th page: what placing the n-th page of the list answers in the old file, with the new page number in each record, and 16 at the same command's new place
-  pub new_page_placed : (front : List ℕ) (page : ℕ) (rest : List ℕ) → list ≡ front ++ (page ∷ rest) → (κs : Lfts 3) → (again table : Bor (List ℕ)) → (area : MutBor (List ℕ)) → (resolution : ℕ) → (r : Placed) → (x : _)
+  pub new_page_placed : (front : List ℕ) (page : ℕ) (rest : List ℕ) → list ≡ front ++ (page ∷ rest) → (κs : Lfts 3) → (again table : Bor (List ℕ)) → (area : MutBor (List ℕ)) → (resolution : ℕ) → (r : Result Counts Refusal) → (x : _)
       → again.now ≡ new → place-page.Post κs (again, (table, (resolution, (length front + 1, (area, tt))))) r x
-      → (placed_answer r
+      → (answered r
       ≡ placed_counts (renumbered (length front + 1) (new_place (is_in list) (history file)) (placed_page file table.now resolution page (length area.now))))
       × (x.1.1.1.1.0.now
       ≡ area_after area.now (renumbered (length front + 1) (new_place (is_in list) (history file)) (placed_page file table.now resolution page (length area.now))))
@@ -143,23 +147,20 @@ module _ (file list : List ℕ) (s : Summary) (accepted : judged file ≡ given 
       refused_too none (stands at c) same q = absurd (let z : ◌≡◌ {A = ℕ} 0 1 = cc in omega arith)
       refused_too (stands at c) e same q = absurd (given_not_refused (name_part at c) number place q)
 
-  -- font_name, of the old file and of the new one: the same bytes and the same number, and where it is refused the same place
-  pub new_font_named : (κs κs' : Lfts 3) → (lent again : Bor (List ℕ)) → (font : ℤ) → (n p n' p' r r' x y : _) → lent.now ≡ file → again.now ≡ new
-      → font-name.Post κs (lent, (font, (n, (p, tt)))) r x → font-name.Post κs' (again, (font, (n', (p', tt)))) r' y
-      → (r'.now ≡ r.now) × (y.1.1.0.now ≡ x.1.1.0.now) × ((x.1.1.0.now ≡ 0 → ⊥) → y.1.1.1.0.now ≡ x.1.1.1.0.now)
-  new_font_named κs κs' lent again font n p n' p' r r' x y is-old is-new post post' =
-      let refusal =
-      told x.1.1.0.now x.1.1.1.0.now (length r.now) y.1.1.0.now y.1.1.1.0.now (length r'.now)
-      (post.1.1.0 ∙ ap (λ (f : List ℕ). name_place f font) is-old) (post'.1.1.0 ∙ ap (λ (f : List ℕ). name_place f font) is-new) in (
-        post'.0 ∙ ap (λ (f : List ℕ). name_of f font) is-new ∙ same_name font ∙ sym (post.0 ∙ ap (λ (f : List ℕ). name_of f font) is-old),
-        refusal.0,
-        refusal.1,
-      )
+  -- font_name, of the old file and of the new one: the same bytes, or the same refusal
+  pub new_font_named : (κs κs' : Lfts 1) → (lent again : Bor (List ℕ)) → (font : ℤ) → (r r' : Result FontName Refusal) → (x y : _) → lent.now ≡ file → again.now ≡ new
+      → font-name.Post κs (lent, (font, tt)) r x → font-name.Post κs' (again, (font, tt)) r' y
+      → bytes_named r' ≡ bytes_named r
+  new_font_named κs κs' lent again font r r' x y is-old is-new post post' =
+      told r r' (post.0 ∙ ap (λ (f : List ℕ). name_place f font) is-old) (post'.0 ∙ ap (λ (f : List ℕ). name_place f font) is-new)
+      (of_file r file is-old post.1.0) (of_file r' new is-new post'.1.0)
     where
-      told : (number place long number' place' long' : ℕ) → name_answer number place long ≡ name_place file font → name_answer number' place' long' ≡ name_place new font
-          → (number' ≡ number) × ((number ≡ 0 → ⊥) → place' ≡ place)
-      told zero place long zero place' long' e q = (refl, λ some. absurd (some refl))
-      told zero place long (suc less) place' long' e q = absurd (given_not_refused _ (suc less) place' (e ∙ (name_refused_same font (suc less) place').1 (sym q)))
-      told (suc less) place long number' place' long' e q =
-          let same = name_one_to_one number' place' long' (suc less) place long (q ∙ (name_refused_same font (suc less) place).0 (sym e)) in
-          (same.0, λ _. same.1)
+      of_file : (r : Result FontName Refusal) (f : List ℕ) {g : List ℕ} → g ≡ f → IfOk r (λ name. name.bytes.now ≡ name_of g font) → IfOk r (λ name. name.bytes.now ≡ name_of f font)
+      of_file r f is held = subst (λ (l : List ℕ). IfOk r (λ name. name.bytes.now ≡ name_of l font)) is held
+
+      told : (r r' : Result FontName Refusal) → name_answer r ≡ name_place file font → name_answer r' ≡ name_place new font
+          → IfOk r (λ name. name.bytes.now ≡ name_of file font) → IfOk r' (λ name. name.bytes.now ≡ name_of new font)
+          → bytes_named r' ≡ bytes_named r
+      told (Ok name) (Ok name') e q held held' = ap (λ (spelled : List ℕ). Ok spelled) (held' ∙ same_name font ∙ sym held)
+      told (Ok name) (Err why) e q held held' = absurd (given_not_refused _ _ _ (e ∙ (name_refused_same font _ _).1 (sym q)))
+      told (Err why) r' e q held held' = ap bytes_named (refused_same r' why (q ∙ (name_refused_same font _ _).0 (sym e)))

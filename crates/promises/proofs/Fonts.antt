@@ -1,7 +1,7 @@
 -- What an accepted call of width_table makes, when a call is accepted, and that it goes by the list of commands. What is said of a call is stated of the contract itself. Assumes nothing.
 use Prim.Native.Nat.{ℕ, ◌+◌, ◌*◌, ◌^◌, ◌≤◌, ◌<◌}
 use mathlib.Core.Path.{◌≡◌, refl, sym, ap, subst, ◌∙◌}
-use mathlib.Core.Bool.{true, not}
+use mathlib.Core.Bool.{true, not, true≢false}
 use mathlib.Core.List.{List, [], ◌∷◌, ◌++◌, map}
 use mathlib.Core.Logic.{◌↔◌}
 use native.Mathlib.Omega.{arith}
@@ -10,7 +10,7 @@ use lib.Dec.{ltb}
 use lib.ListN.{length, take, drop}
 use lib.Seq.{take_at}
 use borrow.Author.Tests.{ltb-false}
-use Rattle.refusals.specs.Answer.{Answer, refused, given, refuse_if, and_then}
+use Rattle.refusals.specs.Answer.{Answer, refused, given, refuse_if, and_then, answered}
 use Rattle.refusals.proofs.Answer.{given_same, given_next, given_not_refused}
 use Rattle.numbers.specs.Bytes.{unsigned_at}
 use Rattle.numbers.specs.Sizes.{lawful_size}
@@ -31,13 +31,16 @@ use Rattle.packed.proofs.Standing as standing
 use Rattle.packed.proofs.Written.{table_length}
 use Rattle.packed.proofs.MadeLaws.{made_given}
 use Rattle.packed.proofs.Writing.{judged_preambled}
-use Rattle.reader.specs.declared.TableMade.{TableMade}
-use Rattle.reader.specs.Answers.{made_answer}
 use Rattle.reader.proofs.width_table.Reads as width-table
-use Rattle.promises.specs.Fonts.{IsMade, Taken, made_by, upon, Among, first, later, OneForOne, Fits, Reads, Makes}
+use Rattle.promises.specs.Fonts.{Taken, made_by, upon, Among, first, later, OneForOne, Fits, Reads, Makes}
 use Rattle.promises.proofs.FontLists.{judged_lawful, lawful_judged}
 use Rattle.promises.proofs.FontPackets.{from_all, one_for_one}
 use Rattle.promises.proofs.FontTables.{Alike, no_entry, an_entry, alike_checks, record_reads}
+use Rattle.std.specs.declared.result.Result.{Result}
+use Rattle.std.specs.declared.result.Result.TheVariants.{Ok, Err}
+use Rattle.refusals.specs.declared.Refusal.{Refusal}
+use Rattle.refusals.specs.Numbers.{number_of}
+use Rattle.std.specs.Prelude.{IsOk}
 
 -- ---- the entries of a font's packets fit
 
@@ -150,7 +153,7 @@ module _ (pk : List ℕ) (scale room records : ℕ) (before after : List ℕ) wh
   makes_of (refused number place) e said area = absurd (let z : ◌≡◌ {A = ℕ} 0 1 = cc in omega arith)
   makes_of (given entries) e said area = makes_by entries (grounds pk scale room entries e) (given_same records (length entries) said) area
 
-pub width_table_makes : (κs : Lfts 2) → (pk : _) → (scale : ℕ) → (area : _) → (records : ℕ) → (x : _) → width-table.Post κs (pk, (scale, (area, tt))) (TableMade.Records records) x
+pub width_table_makes : (κs : Lfts 2) → (pk : _) → (scale : ℕ) → (area : _) → (records : ℕ) → (x : _) → width-table.Post κs (pk, (scale, (area, tt))) (Ok records) x
     → Makes pk.now scale records area.now x.1.1.0.now
 width_table_makes κs pk scale area records x post =
     makes_of pk.now scale (length area.now) records area.now x.1.1.0.now (table_made pk.now scale (length area.now)) refl post.0 post.1.0
@@ -176,8 +179,8 @@ font_table_iff pk scale room = (forth, back)
         (font_table scale past, made_given pk scale room right past judged (omega (arith, enough, count)))
 
 -- the same of the contract
-pub width_table_accepts : (κs : Lfts 2) → (pk : _) → (scale : ℕ) → (area : _) → (r : TableMade) → (x : _) → width-table.Post κs (pk, (scale, (area, tt))) r x
-    → IsMade r ↔ Taken pk.now scale (length area.now)
+pub width_table_accepts : (κs : Lfts 2) → (pk : _) → (scale : ℕ) → (area : _) → (r : Result ℕ Refusal) → (x : _) → width-table.Post κs (pk, (scale, (area, tt))) r x
+    → IsOk r ↔ Taken pk.now scale (length area.now)
 width_table_accepts κs pk scale area r x post = (forth r post.0, back r post.0)
   where
     answer : Answer (List Entry)
@@ -187,20 +190,20 @@ width_table_accepts κs pk scale area r x post = (forth r post.0, back r post.0)
     given_by records (refused number place) e said = absurd (let z : ◌≡◌ {A = ℕ} 0 1 = cc in omega arith)
     given_by records (given entries) e said = (font_table_iff pk.now scale (length area.now)).0 (entries, e)
 
-    forth : (r : TableMade) → made_answer r ≡ records_made (table_made pk.now scale (length area.now)) → IsMade r → Taken pk.now scale (length area.now)
-    forth (TableMade.Records records) said made = given_by records answer refl said
-    forth (TableMade.Refused number place) said made = absurd made
+    forth : (r : Result ℕ Refusal) → answered r ≡ records_made (table_made pk.now scale (length area.now)) → IsOk r → Taken pk.now scale (length area.now)
+    forth (Ok records) said made = given_by records answer refl said
+    forth (Err why) said made = absurd (true≢false (sym made))
 
-    back : (r : TableMade) → made_answer r ≡ records_made (table_made pk.now scale (length area.now)) → Taken pk.now scale (length area.now) → IsMade r
-    back (TableMade.Records records) said taken = tt
-    back (TableMade.Refused number place) said taken =
+    back : (r : Result ℕ Refusal) → answered r ≡ records_made (table_made pk.now scale (length area.now)) → Taken pk.now scale (length area.now) → IsOk r
+    back (Ok records) said taken = refl
+    back (Err why) said taken =
         let (entries, e) = (font_table_iff pk.now scale (length area.now)).1 taken in
-        given_not_refused (length entries) number place (sym (said ∙ ap records_made e))
+        absurd (given_not_refused (length entries) (number_of why.reason) why.place (sym (said ∙ ap records_made e)))
 
 -- for every list that keeps the rules and is written as the file, answer and area are those of this list
-pub width_table_by_the_list : (κs : Lfts 2) → (pk : _) → (scale : ℕ) → (area : _) → (r : TableMade) → (x : _) → width-table.Post κs (pk, (scale, (area, tt))) r x
+pub width_table_by_the_list : (κs : Lfts 2) → (pk : _) → (scale : ℕ) → (area : _) → (r : Result ℕ Refusal) → (x : _) → width-table.Post κs (pk, (scale, (area, tt))) r x
     → (list : List Command) → FollowsInFont [] list → written list ≡ pk.now
-    → (made_answer r ≡ records_made (made_by list scale (length area.now))) × (x.1.1.0.now ≡ table_area area.now (made_by list scale (length area.now)))
+    → (answered r ≡ records_made (made_by list scale (length area.now))) × (x.1.1.0.now ≡ table_area area.now (made_by list scale (length area.now)))
 width_table_by_the_list κs pk scale area r x post list keeps forms =
     let judged = lawful_judged pk.now (list, keeps, forms) in
     let same : table_made pk.now scale (length area.now) ≡ made_by list scale (length area.now) =

@@ -12,7 +12,7 @@ use Rattle.numbers.proofs.Bytes.{unsigned_front}
 use Rattle.commands.specs.declared.Kind.TheVariants.{Pre, Post}
 use Rattle.commands.specs.Fields.{unsigned_in, post_depth}
 use Rattle.commands.specs.Commands.{Command, kind_of_command, Whole, whole, front, place}
-use Rattle.commands.proofs.Lengths.{whole_plain}
+use Rattle.commands.proofs.ParameterLengths.{whole_plain}
 use Rattle.commands.proofs.Fronts.{front_sound}
 use Rattle.list.specs.Past.{is_a, stage, is_after_post, depth, greatest, post_place, defines}
 use Rattle.list.specs.Rules.{Allowed}

@@ -7,7 +7,7 @@ use mathlib.Core.List.{List}
 use lib.IntN.{ℤ}
 use lib.ListN.{length}
 use contract.Lifetimes.{Lfts}
-use Rattle.refusals.specs.Answer.{Answer, given, and_then}
+use Rattle.refusals.specs.Answer.{Answer, given, and_then, answered}
 use Rattle.commands.specs.Commands.{Command, written}
 use Rattle.commands.specs.Reading.{longest_file}
 use Rattle.volume.specs.declared.Summary.{Summary}
@@ -20,14 +20,16 @@ use Rattle.volume.specs.Names.{named_by, name_place}
 use Rattle.volume.proofs.Accepts.{lawful_counts}
 use Rattle.volume.proofs.History.{lawful_history}
 use Rattle.page.specs.Answers.{placed_in, placed_accepted, placed_page, placed_counts, area_after}
-use Rattle.reader.specs.declared.FileChecked.{FileChecked}
-use Rattle.reader.specs.declared.Placed.{Placed}
-use Rattle.reader.specs.Answers.{file_answer, name_answer, placed_answer}
+use Rattle.reader.specs.Answers.{name_answer}
 use Rattle.reader.proofs.check_file.Reads as check-file
 use Rattle.reader.proofs.font_name.Reads as font-name
 use Rattle.reader.proofs.place_page.Reads as place-page
 use Rattle.promises.specs.Calls.{Arguments, file, table, resolution, page, area}
 use Rattle.promises.specs.OfTheList.{name_in_list, placed_by}
+use Rattle.std.specs.declared.result.Result.{Result}
+use Rattle.refusals.specs.declared.Refusal.{Refusal}
+use Rattle.placements.specs.declared.Counts.{Counts}
+use Rattle.reader.specs.declared.FontName.{FontName}
 
 -- ---- the definitions
 
@@ -56,22 +58,21 @@ module _ (bytes : List ℕ) (cs : List Command) (keeps : Keeps cs) (forms : writ
 -- ---- the contracts
 
 -- check_file
-pub check_file_by_the_list : (κs : Lfts 1) → (lent : _) → (r : FileChecked) → (x : _) → check-file.Post κs (lent, tt) r x
+pub check_file_by_the_list : (κs : Lfts 1) → (lent : _) → (r : Result Summary Refusal) → (x : _) → check-file.Post κs (lent, tt) r x
     → (cs : List Command) → Keeps cs → written cs ≡ lent.now → length lent.now ≤ longest_file
-    → file_answer r ≡ given (counts cs)
+    → answered r ≡ given (counts cs)
 check_file_by_the_list κs lent r x post cs keeps forms short = post.0 ∙ checked_by_the_list lent.now cs keeps forms short
 
 -- a font's name
-pub font_name_by_the_list : (κs : Lfts 3) → (lent : _) → (font : ℤ) → (number place : _) → (r : _) → (x : _)
-    → font-name.Post κs (lent, (font, (number, (place, tt)))) r x
+pub font_name_by_the_list : (κs : Lfts 1) → (lent : _) → (font : ℤ) → (r : Result FontName Refusal) → (x : _) → font-name.Post κs (lent, (font, tt)) r x
     → (cs : List Command) → Keeps cs → written cs ≡ lent.now → length lent.now ≤ longest_file
-    → name_answer x.1.1.0.now x.1.1.1.0.now (length r.now) ≡ name_in_list cs font
-font_name_by_the_list κs lent font number place r x post cs keeps forms short = post.1.1.0 ∙ named_by_the_list lent.now cs keeps forms short font
+    → name_answer r ≡ name_in_list cs font
+font_name_by_the_list κs lent font r x post cs keeps forms short = post.0 ∙ named_by_the_list lent.now cs keeps forms short font
 
 -- place_page: the answer, and every byte of the area
-pub place_page_by_the_list : (κs : Lfts 3) (a x : Arguments) (r : Placed) → place-page.Post κs a r x
+pub place_page_by_the_list : (κs : Lfts 3) (a x : Arguments) (r : Result Counts Refusal) → place-page.Post κs a r x
     → (cs : List Command) → Keeps cs → written cs ≡ file a → length (file a) ≤ longest_file
-    → (placed_answer r ≡ placed_counts (placed_by cs (table a) (resolution a) (page a) (length (area a))))
+    → (answered r ≡ placed_counts (placed_by cs (table a) (resolution a) (page a) (length (area a))))
     × (area x ≡ area_after (area a) (placed_by cs (table a) (resolution a) (page a) (length (area a))))
 place_page_by_the_list κs a x r post cs keeps forms short =
     let by-list = placed_by_the_list (file a) cs keeps forms short (table a) (resolution a) (page a) (length (area a)) in

@@ -1,115 +1,140 @@
--- The definitions that say what an answer is are one-to-one: what an answer says settles the answer. Assumes nothing.
+-- What an answer says settles the answer: the definitions that say it are one-to-one. Assumes nothing.
 use mathlib.Core.Path.{◌≡◌, refl, sym, ap, ◌∙◌}
-use Prim.Native.Nat.{ℕ, zero, suc}
-use Rattle.refusals.specs.Answer.{Answer, refused, given}
+use mathlib.Core.List.{List, [], ◌∷◌}
+use Prim.Native.Nat.{ℕ}
+use lib.ListN.{get_or}
+use Rattle.refusals.specs.Numbers.{number_of}
+use Rattle.refusals.specs.Answer.{Answer, refused, given, answered}
+use Rattle.refusals.proofs.Answer.{given_same, given_not_refused}
 use Rattle.widths.specs.LookUp.{LookUp, found, absent}
-use Rattle.reader.specs.declared.CommandRead.{CommandRead}
-use Rattle.reader.specs.declared.FileChecked.{FileChecked}
-use Rattle.reader.specs.declared.Rounded.{Rounded}
-use Rattle.reader.specs.declared.Scaled.{Scaled}
-use Rattle.reader.specs.declared.TableChecked.{TableChecked}
-use Rattle.reader.specs.declared.LookedUp.{LookedUp}
-use Rattle.reader.specs.declared.TableMade.{TableMade}
-use Rattle.reader.specs.declared.PagesCut.{PagesCut}
-use Rattle.reader.specs.declared.Placed.{Placed}
-use Rattle.reader.specs.Answers.{command_answer, file_answer, name_answer, rounded_answer, scaled_answer, table_answer, looked_answer, made_answer, cut_answer, placed_answer}
+use Rattle.reader.specs.Answers.{name_answer, looked_answer}
+use Rattle.std.specs.declared.result.Result.{Result}
+use Rattle.std.specs.declared.result.Result.TheVariants.{Ok, Err}
+use Rattle.std.specs.declared.option.Option.{Option}
+use Rattle.std.specs.declared.option.Option.TheVariants.{None, Some}
+use Rattle.refusals.specs.declared.Reason.{Reason}
+use Rattle.refusals.specs.declared.Refusal.{Refusal}
+use Rattle.widths.specs.declared.Metric.{Metric}
+use Rattle.list.specs.declared.Part.{Part}
+use Rattle.reader.specs.declared.FontName.{FontName}
+use Rattle.std.specs.Prelude.{IfOk}
+use Rattle.promises.specs.Named.{part_named}
 
--- the outcome of an answer: of a refusal, and of a result
-abbrev outcome : {A R : Type 0} → (ℕ → ℕ → R) → (A → R) → Answer A → R
-outcome refusal result (refused number place) = refusal number place
-outcome refusal result (given a) = result a
+-- the reasons in the order of their numbers; 0 is no reason's
+abbrev reasons : List Reason
+reasons =
+    Reason.FileTooLong
+    ∷ Reason.FileTooLong
+    ∷ Reason.FileEnds
+    ∷ Reason.UndefinedOpcode
+    ∷ Reason.WrongPreamble
+    ∷ Reason.MisplacedCommand
+    ∷ Reason.WrongDepth
+    ∷ Reason.WrongFontDefinition
+    ∷ Reason.NoFont
+    ∷ Reason.WrongPointer
+    ∷ Reason.WrongPostamble
+    ∷ Reason.WrongTail
+    ∷ Reason.WrongResolution
+    ∷ Reason.UnitOutOfRange
+    ∷ Reason.WrongWidthTable
+    ∷ Reason.NoSuchPage
+    ∷ Reason.PositionOutOfRange
+    ∷ Reason.AreaTooShort
+    ∷ Reason.FontEnds
+    ∷ Reason.MisplacedInFont
+    ∷ Reason.PacketTooShort
+    ∷ Reason.WrongPacket
+    ∷ Reason.WrongScale
+    ∷ Reason.WrongPages
+    ∷ Reason.NamedRecord
+    ∷ []
 
--- what has its outcome back is one-to-one
-module _ {A R : Type 0} (answer : R → Answer A) (back : Answer A → R) (back_is : (r : R) → back (answer r) ≡ r) where
-  one : (r s : R) → answer r ≡ answer s → r ≡ s
-  one r s p = sym (back_is r) ∙ ap back p ∙ back_is s
+abbrev reason_of : ℕ → Reason
+reason_of number = get_or reasons number Reason.FileTooLong
 
--- read_command
-command_back : (r : CommandRead) → outcome CommandRead.Refused (λ reading. CommandRead.Command reading.opcode reading.start reading.next) (command_answer r) ≡ r
-command_back (CommandRead.Command opcode start next) = refl
-command_back (CommandRead.Refused number place) = refl
+reason_back : (r : Reason) → reason_of (number_of r) ≡ r
+reason_back Reason.FileTooLong = refl
+reason_back Reason.FileEnds = refl
+reason_back Reason.UndefinedOpcode = refl
+reason_back Reason.WrongPreamble = refl
+reason_back Reason.MisplacedCommand = refl
+reason_back Reason.WrongDepth = refl
+reason_back Reason.WrongFontDefinition = refl
+reason_back Reason.NoFont = refl
+reason_back Reason.WrongPointer = refl
+reason_back Reason.WrongPostamble = refl
+reason_back Reason.WrongTail = refl
+reason_back Reason.WrongResolution = refl
+reason_back Reason.UnitOutOfRange = refl
+reason_back Reason.WrongWidthTable = refl
+reason_back Reason.NoSuchPage = refl
+reason_back Reason.PositionOutOfRange = refl
+reason_back Reason.AreaTooShort = refl
+reason_back Reason.FontEnds = refl
+reason_back Reason.MisplacedInFont = refl
+reason_back Reason.PacketTooShort = refl
+reason_back Reason.WrongPacket = refl
+reason_back Reason.WrongScale = refl
+reason_back Reason.WrongPages = refl
+reason_back Reason.NamedRecord = refl
 
-pub command_one_to_one : (r s : CommandRead) → command_answer r ≡ command_answer s → r ≡ s
-command_one_to_one = one command_answer (outcome CommandRead.Refused (λ reading. CommandRead.Command reading.opcode reading.start reading.next)) command_back
+-- the code's answer, from what it says
+abbrev outcome : {A : Type 0} → Answer A → Result A Refusal
+outcome (refused number place) = Err (record { reason = reason_of number; place = place })
+outcome (given a) = Ok a
 
--- check_file
-file_back : (r : FileChecked) → outcome FileChecked.Refused (λ s. FileChecked.Accepted s.pages s.fonts s.depth s.post) (file_answer r) ≡ r
-file_back (FileChecked.Accepted pages fonts depth post) = refl
-file_back (FileChecked.Refused number place) = refl
+refusal_back : {A : Type 0} (r : Refusal) → outcome (answered {A = A} (Err r)) ≡ Err r
+refusal_back r = ap (λ (reason : Reason). Err (record { reason = reason; place = r.place })) (reason_back r.reason)
 
-pub file_one_to_one : (r s : FileChecked) → file_answer r ≡ file_answer s → r ≡ s
-file_one_to_one = one file_answer (outcome FileChecked.Refused (λ s. FileChecked.Accepted s.pages s.fonts s.depth s.post)) file_back
+outcome_back : {A : Type 0} (r : Result A Refusal) → outcome (answered r) ≡ r
+outcome_back (Ok a) = refl
+outcome_back (Err r) = refusal_back r
 
--- font_name: its number and its place, whatever the length of the part
-number_back : (number place long : ℕ) → outcome (λ n p. n) (λ part. 0) (name_answer number place long) ≡ number
-number_back zero place long = refl
-number_back (suc less) place long = refl
-
-place_back : (number place long : ℕ) → outcome (λ n p. p) (λ part. part.start) (name_answer number place long) ≡ place
-place_back zero place long = refl
-place_back (suc less) place long = refl
-
-pub name_one_to_one : (n p l m q k : ℕ) → name_answer n p l ≡ name_answer m q k → (n ≡ m) × (p ≡ q)
-name_one_to_one n p l m q k e =
-    (sym (number_back n p l) ∙ ap (outcome (λ n p. n) (λ part. 0)) e ∙ number_back m q k, sym (place_back n p l) ∙ ap (outcome (λ n p. p) (λ part. part.start)) e ∙ place_back m q k)
-
--- round_distance
-rounded_back : (r : Rounded) → outcome Rounded.Refused Rounded.To (rounded_answer r) ≡ r
-rounded_back (Rounded.To n) = refl
-rounded_back (Rounded.Refused number place) = refl
-
-pub rounded_one_to_one : (r s : Rounded) → rounded_answer r ≡ rounded_answer s → r ≡ s
-rounded_one_to_one = one rounded_answer (outcome Rounded.Refused Rounded.To) rounded_back
-
--- scale_width
-scaled_back : (r : Scaled) → outcome Scaled.Refused Scaled.To (scaled_answer r) ≡ r
-scaled_back (Scaled.To n) = refl
-scaled_back (Scaled.Refused number place) = refl
-
-pub scaled_one_to_one : (r s : Scaled) → scaled_answer r ≡ scaled_answer s → r ≡ s
-scaled_one_to_one = one scaled_answer (outcome Scaled.Refused Scaled.To) scaled_back
-
--- check_table
-table_back : (r : TableChecked) → outcome TableChecked.Refused TableChecked.Right (table_answer r) ≡ r
-table_back (TableChecked.Right records) = refl
-table_back (TableChecked.Refused number place) = refl
-
-pub table_one_to_one : (r s : TableChecked) → table_answer r ≡ table_answer s → r ≡ s
-table_one_to_one = one table_answer (outcome TableChecked.Refused TableChecked.Right) table_back
+-- every entry but two
+pub one_to_one : {A : Type 0} (r s : Result A Refusal) → answered r ≡ answered s → r ≡ s
+one_to_one r s e = sym (outcome_back r) ∙ ap outcome e ∙ outcome_back s
 
 -- look_up: what a look-up that was not refused says
-abbrev looked : LookUp → LookedUp
-looked (found m) = let w = m.width in LookedUp.Found m.escapement w.b0 w.b1 w.b2 w.b3
-looked absent = LookedUp.Absent
+abbrev looked : Result LookUp Refusal → Result (Option Metric) Refusal
+looked (Ok (found metric)) = Ok (Some metric)
+looked (Ok absent) = Ok None
+looked (Err r) = Err r
 
-looked_back : (r : LookedUp) → outcome LookedUp.Refused looked (looked_answer r) ≡ r
-looked_back (LookedUp.Found escapement b0 b1 b2 b3) = refl
-looked_back LookedUp.Absent = refl
-looked_back (LookedUp.Refused number place) = refl
+looked_back : (r : Result (Option Metric) Refusal) → looked (outcome (looked_answer r)) ≡ r
+looked_back (Ok (Some metric)) = refl
+looked_back (Ok None) = refl
+looked_back (Err r) = ap looked (refusal_back r)
 
-pub looked_one_to_one : (r s : LookedUp) → looked_answer r ≡ looked_answer s → r ≡ s
-looked_one_to_one = one looked_answer (outcome LookedUp.Refused looked) looked_back
+pub looked_one_to_one : (r s : Result (Option Metric) Refusal) → looked_answer r ≡ looked_answer s → r ≡ s
+looked_one_to_one r s e = sym (looked_back r) ∙ ap (λ (answer : Answer LookUp). looked (outcome answer)) e ∙ looked_back s
 
--- width_table
-made_back : (r : TableMade) → outcome TableMade.Refused TableMade.Records (made_answer r) ≡ r
-made_back (TableMade.Records records) = refl
-made_back (TableMade.Refused number place) = refl
+-- font_name: a refusal that is said is the one that is given
+abbrev as_name : Refusal → Result Part Refusal → Result FontName Refusal
+as_name other (Ok part) = Err other
+as_name other (Err r) = Err r
 
-pub made_one_to_one : (r s : TableMade) → made_answer r ≡ made_answer s → r ≡ s
-made_one_to_one = one made_answer (outcome TableMade.Refused TableMade.Records) made_back
+pub refused_same : (r : Result FontName Refusal) (why : Refusal) → name_answer r ≡ refused (number_of why.reason) why.place → r ≡ Err why
+refused_same (Ok name) why e = absurd (given_not_refused _ _ _ e)
+refused_same (Err r) why e = ap (as_name r) (one_to_one (Err r) (Err why) e)
 
--- cut_pages
-cut_back : (r : PagesCut) → outcome PagesCut.Refused PagesCut.Bytes (cut_answer r) ≡ r
-cut_back (PagesCut.Bytes bytes) = refl
-cut_back (PagesCut.Refused number place) = refl
+-- a name: the part that is said, with its bytes and their place in memory
+module _ (bytes : List ℕ) (from : ℕ × ℕ) where
+  abbrev pub Lent : Result FontName Refusal → Type 0
+  Lent r = IfOk r (λ name. name.bytes.now ≡ bytes) × IfOk r (λ name. name.bytes.ref_ptr ≡ from)
 
-pub cut_one_to_one : (r s : PagesCut) → cut_answer r ≡ cut_answer s → r ≡ s
-cut_one_to_one = one cut_answer (outcome PagesCut.Refused PagesCut.Bytes) cut_back
+  pub name_one_to_one : (r s : Result FontName Refusal) → name_answer r ≡ name_answer s → Lent r → Lent s → r ≡ s
+  name_one_to_one (Ok name) (Ok other) e (held, lent) (held', lent') =
+      let starts = ap (λ (part : Part). part.start) (given_same _ _ e) in
+      λ i. Ok (record { bytes = record { ref_ptr = (lent ∙ sym lent') i; now = (held ∙ sym held') i }; start = starts i })
+  name_one_to_one (Ok name) (Err r) e p q = absurd (given_not_refused _ _ _ e)
+  name_one_to_one (Err r) s e p q = sym (refused_same s r (sym e))
 
--- place_page
-placed_back : (r : Placed) → outcome Placed.Refused (λ c. Placed.Records c.records c.missing c.specials) (placed_answer r) ≡ r
-placed_back (Placed.Records records missing specials) = refl
-placed_back (Placed.Refused number place) = refl
-
-pub placed_one_to_one : (r s : Placed) → placed_answer r ≡ placed_answer s → r ≡ s
-placed_one_to_one = one placed_answer (outcome Placed.Refused (λ c. Placed.Records c.records c.missing c.specials)) placed_back
+-- without the place in memory
+pub part_one_to_one : (bytes : List ℕ) (r s : Result FontName Refusal) → name_answer r ≡ name_answer s
+    → IfOk r (λ name. name.bytes.now ≡ bytes) → IfOk s (λ name. name.bytes.now ≡ bytes) → part_named r ≡ part_named s
+part_one_to_one bytes (Ok name) (Ok other) e held held' =
+    let starts = ap (λ (part : Part). part.start) (given_same _ _ e) in
+    λ i. Ok (starts i, (held ∙ sym held') i)
+part_one_to_one bytes (Ok name) (Err r) e held held' = absurd (given_not_refused _ _ _ e)
+part_one_to_one bytes (Err r) s e held held' = ap part_named (sym (refused_same s r (sym e)))

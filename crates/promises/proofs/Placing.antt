@@ -29,11 +29,15 @@ use Rattle.page.specs.Answers.{page_outside, with_room, counts_of, placed_counts
 use Rattle.placements.proofs.Areas.{record_length}
 use Rattle.turns.proofs.CountLaws.{records_counted, missing_counted, specials_counted, refused_place}
 use Rattle.turns.proofs.CountLaws as counting
-use Rattle.reader.specs.declared.Placed.{Placed}
-use Rattle.reader.specs.Answers.{Refuses}
 use Rattle.reader.proofs.place_page.Reads as place-page
 use Rattle.promises.specs.Calls.{Arguments, file, table, resolution, page, area, meant, unit_here, own, Grounds, grounds_setting, seen_by}
-use Rattle.promises.proofs.OneToOne.{placed_one_to_one}
+use Rattle.std.specs.declared.result.Result.{Result}
+use Rattle.std.specs.declared.result.Result.TheVariants.{Ok, Err}
+use Rattle.refusals.specs.declared.Reason.{Reason}
+use Rattle.refusals.specs.declared.Refusal.{Refusal}
+use Rattle.std.specs.Prelude.{IsErr}
+use mathlib.Core.Bool.{true≢false}
+use Rattle.promises.proofs.OneToOne.{one_to_one}
 
 -- records have 20 bytes each
 all_length : (records : List Record) → length (all_bytes records) ≡ placement_record_size * length records
@@ -78,12 +82,13 @@ module _ (a : Arguments) where
 
 module _ (κs : Lfts 3) (a x : Arguments) where
   -- where placing is refused, the area is as it was (rule 9.1)
-  pub refused_leaves_area : (r : Placed) → place-page.Post κs a r x → Refuses r → area x ≡ area a
-  refused_leaves_area r post refuses = post.1.1 refuses
+  pub refused_leaves_area : (r : Result Counts Refusal) → place-page.Post κs a r x → IsErr r → area x ≡ area a
+  refused_leaves_area (Ok counts) post refuses = absurd (true≢false (sym refuses))
+  refused_leaves_area (Err why) post refuses = post.1.1
 
   -- 16 is given only where all that is judged before it passed, and its place is that of the first of the page's own
   -- commands at which h or v would leave its range
-  pub sixteen_is_the_pages : (place : ℕ) → place-page.Post κs a (Placed.Refused position_out_of_range place) x
+  pub sixteen_is_the_pages : (place : ℕ) → place-page.Post κs a (Err (record { reason = Reason.PositionOutOfRange; place = place })) x
       → (g : Grounds a) × LeavesAt (grounds_setting a g) place fresh_state (own a)
   sixteen_is_the_pages place post =
       let (g, left) = left_by a place (before (meant a) (sym post.0)) in
@@ -93,9 +98,9 @@ module _ (κs : Lfts 3) (a x : Arguments) where
       before (refused n at) e = ap₂ refused (cc) (cc)
       before (given p) e = absurd (given_not_refused (counts_of p) position_out_of_range place e)
 
-  module _ (records missing specials : ℕ) (post : place-page.Post κs a (Placed.Records records missing specials) x) where
+  module _ (counts : Counts) (post : place-page.Post κs a (Ok counts) x) where
     -- the page that was placed
-    placed_page_lem : (p : meaning.Contents) × (meant a ≡ given p) × (counts_of p ≡ record { records = records; missing = missing; specials = specials })
+    placed_page_lem : (p : meaning.Contents) × (meant a ≡ given p) × (counts_of p ≡ counts)
     placed_page_lem =
         let (p, is, e) = then_given (meant a) (λ p. given (counts_of p)) _ (sym post.0) in
         (p, is, given_same (counts_of p) _ e)
@@ -104,46 +109,46 @@ module _ (κs : Lfts 3) (a x : Arguments) where
     pub accepted_writes_only_records :
         (p : meaning.Contents)
         × (meant a ≡ given p)
-        × (length p.placements ≡ records)
-        × (take (placement_record_size * records) (area x) ≡ all_bytes p.placements)
-        × (drop (placement_record_size * records) (area x) ≡ drop (placement_record_size * records) (area a))
+        × (length p.placements ≡ counts.records)
+        × (take (placement_record_size * counts.records) (area x) ≡ all_bytes p.placements)
+        × (drop (placement_record_size * counts.records) (area x) ≡ drop (placement_record_size * counts.records) (area a))
         × (length (area x) ≡ length (area a))
     accepted_writes_only_records =
-        let (p, is, counts) = placed_page_lem in
-        let many : length p.placements ≡ records = ap (λ (c : Counts). c.records) counts in
+        let (p, is, same) = placed_page_lem in
+        let many : length p.placements ≡ counts.records = ap (λ (c : Counts). c.records) same in
         let written = all_bytes p.placements in
-        let rest = drop (placement_record_size * records) (area a) in
+        let rest = drop (placement_record_size * counts.records) (area a) in
         let area_is : area x ≡ written ++ rest = post.1.0 ∙ ap (area_after (area a)) is ∙ ap (λ (n : ℕ). written ++ drop (placement_record_size * n) (area a)) many in
-        let size : length written ≡ placement_record_size * records = all_length p.placements ∙ ap (λ (n : ℕ). placement_record_size * n) many in (
+        let size : length written ≡ placement_record_size * counts.records = all_length p.placements ∙ ap (λ (n : ℕ). placement_record_size * n) many in (
           p,
           is,
           many,
-          ap (take (placement_record_size * records)) area_is ∙ take_at written rest (placement_record_size * records) size,
-          ap (drop (placement_record_size * records)) area_is ∙ drop_at written rest (placement_record_size * records) size,
-          ap length area_is ∙ omega (arith, length-append written rest, length-drop (placement_record_size * records) (area a), size, (placed_by_lem a p is).2, many),
+          ap (take (placement_record_size * counts.records)) area_is ∙ take_at written rest (placement_record_size * counts.records) size,
+          ap (drop (placement_record_size * counts.records)) area_is ∙ drop_at written rest (placement_record_size * counts.records) size,
+          ap length area_is ∙ omega (arith, length-append written rest, length-drop (placement_record_size * counts.records) (area a), size, (placed_by_lem a p is).2, many),
         )
 
     -- the counts are those of the page's own commands that make a record, are missing characters, are specials: none is invented (rule 8.3)
     pub counts_are_the_pages_own :
         (g : Grounds a)
-        × (records ≡ count_of rule_visible (seen_by a g) + count_of (character_found (grounds_setting a g)) (seen_by a g))
-        × (missing ≡ count_of (character_missing (grounds_setting a g)) (seen_by a g))
-        × (specials ≡ count_of is_special (seen_by a g))
+        × (counts.records ≡ count_of rule_visible (seen_by a g) + count_of (character_found (grounds_setting a g)) (seen_by a g))
+        × (counts.missing ≡ count_of (character_missing (grounds_setting a g)) (seen_by a g))
+        × (counts.specials ≡ count_of is_special (seen_by a g))
     counts_are_the_pages_own =
-        let (p, is, counts) = placed_page_lem in
+        let (p, is, same) = placed_page_lem in
         let (g, placing-is, fits) = placed_by_lem a p is in (
           g,
-          sym (ap (λ (c : Counts). c.records) counts) ∙ records_counted (grounds_setting a g) fresh_state (own a) p placing-is,
-          sym (ap (λ (c : Counts). c.missing) counts) ∙ missing_counted (grounds_setting a g) fresh_state (own a) p placing-is,
-          sym (ap (λ (c : Counts). c.specials) counts) ∙ specials_counted (grounds_setting a g) fresh_state (own a) p placing-is,
+          sym (ap (λ (c : Counts). c.records) same) ∙ records_counted (grounds_setting a g) fresh_state (own a) p placing-is,
+          sym (ap (λ (c : Counts). c.missing) same) ∙ missing_counted (grounds_setting a g) fresh_state (own a) p placing-is,
+          sym (ap (λ (c : Counts). c.specials) same) ∙ specials_counted (grounds_setting a g) fresh_state (own a) p placing-is,
         )
 
     -- no command is passed over: the area's records say, in order, what the page's commands that make one say (rule 8.3)
     pub records_in_order :
         (g : Grounds a)
         × (written : List Record)
-        × (length written ≡ records)
-        × (take (placement_record_size * records) (area x) ≡ all_bytes written)
+        × (length written ≡ counts.records)
+        × (take (placement_record_size * counts.records) (area x) ≡ all_bytes written)
         × (map said_by written ≡ map (said_of (grounds_setting a g)) (those (makes_record (grounds_setting a g)) (seen_by a g)))
     records_in_order =
         let (p, is, many, bytes, rest, long) = accepted_writes_only_records in
@@ -152,7 +157,7 @@ module _ (κs : Lfts 3) (a x : Arguments) where
 
 -- nothing of an earlier call comes into this one: answer and area are settled by the arguments' bytes and numbers, wherever they stand
 -- in memory, and by nothing else
-pub depends_on_arguments : (κs κs' : Lfts 3) (a b x y : Arguments) (r s : Placed) → file a ≡ file b → table a ≡ table b → resolution a ≡ resolution b
+pub depends_on_arguments : (κs κs' : Lfts 3) (a b x y : Arguments) (r s : Result Counts Refusal) → file a ≡ file b → table a ≡ table b → resolution a ≡ resolution b
     → page a ≡ page b
     → area a ≡ area b
     → place-page.Post κs a r x
@@ -160,4 +165,4 @@ pub depends_on_arguments : (κs κs' : Lfts 3) (a b x y : Arguments) (r s : Plac
     → (r ≡ s) × (area x ≡ area y)
 depends_on_arguments κs κs' a b x y r s files tables resolutions pages areas p q =
     let same : meant a ≡ meant b = cc in
-    (placed_one_to_one r s (p.0 ∙ ap placed_counts same ∙ sym q.0), p.1.0 ∙ ap₂ area_after areas same ∙ sym q.1.0)
+    (one_to_one r s (p.0 ∙ ap placed_counts same ∙ sym q.0), p.1.0 ∙ ap₂ area_after areas same ∙ sym q.1.0)

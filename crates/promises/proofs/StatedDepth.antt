@@ -13,7 +13,7 @@ use lib.Seq.{set-get_or}
 use borrow.Author.Tests.{lt-ltb, le-ltb}
 use contract.Lifetimes.{Lfts}
 use Rattle.refusals.specs.Numbers.{wrong_postamble}
-use Rattle.refusals.specs.Answer.{refused, given, refuse_if}
+use Rattle.refusals.specs.Answer.{refused, given, refuse_if, answered}
 use Rattle.numbers.proofs.Bytes.{unsigned_more, unsigned_one, unsigned_drop}
 use Rattle.commands.specs.Commands.{Command, written}
 use Rattle.commands.specs.Reading.{longest_file}
@@ -29,9 +29,6 @@ use Rattle.volume.specs.Refusing.{RefusesAt}
 use Rattle.volume.proofs.Accepts.{accepts_lawful, counts_own, refused_given}
 use Rattle.volume.proofs.Refused.{refuses_file}
 use Rattle.page.specs.Answers.{placed_page, placed_counts, area_after}
-use Rattle.reader.specs.declared.FileChecked.{FileChecked}
-use Rattle.reader.specs.declared.Placed.{Placed}
-use Rattle.reader.specs.Answers.{file_answer}
 use Rattle.page.proofs.Traces.{accepted_trace}
 use Rattle.reader.proofs.check_file.Reads as check-file
 use Rattle.reader.proofs.font_name.Reads as font-name
@@ -39,10 +36,16 @@ use Rattle.reader.proofs.place_page.Reads as place-page
 use Rattle.promises.specs.Calls.{Arguments, file, table, resolution, page, area, meant}
 use Rattle.promises.specs.StatedDepth.{stated_depth, stating}
 use Rattle.promises.proofs.Agreeing.{Agree, same_summary, same_placed}
-use Rattle.promises.proofs.OneToOne.{file_one_to_one, name_one_to_one, placed_one_to_one}
 use Rattle.promises.proofs.OfTheList.{history_of_the_list, checked_by_the_list}
 use Rattle.promises.proofs.NameBytes.{name_in, named_bytes}
 use Rattle.promises.proofs.Restating.{stated, storing, Restated, restate}
+use Rattle.std.specs.declared.result.Result.{Result}
+use Rattle.refusals.specs.declared.Refusal.{Refusal}
+use Rattle.placements.specs.declared.Counts.{Counts}
+use Rattle.reader.specs.declared.FontName.{FontName}
+use Rattle.std.specs.Prelude.{IfOk}
+use Rattle.promises.proofs.OneToOne.{one_to_one, part_one_to_one}
+use Rattle.promises.specs.Named.{part_named}
 
 -- ---- the definitions
 
@@ -168,34 +171,33 @@ stated_not_below file found accepted =
 -- ---- the contracts
 
 -- check_file: what it accepts states enough
-pub accepted_states_enough : (κs : Lfts 1) (lent : _) (r : FileChecked) (x : _) → check-file.Post κs (lent, tt) r x
-    → (found : Summary) → file_answer r ≡ given found → found.depth ≤ stated_depth lent.now found.post
+pub accepted_states_enough : (κs : Lfts 1) (lent : _) (r : Result Summary Refusal) (x : _) → check-file.Post κs (lent, tt) r x
+    → (found : Summary) → answered r ≡ given found → found.depth ≤ stated_depth lent.now found.post
 accepted_states_enough κs lent r x post found says = stated_not_below lent.now found (sym post.0 ∙ says)
 
 -- check_file, of a file that it accepts and of one with another s: the same answer, or 10 at post where that s is below the depth
-module _ (κs κs' : Lfts 1) (lent changed : _) (r r' : FileChecked) (x y : _) (post : check-file.Post κs (lent, tt) r x) (post' : check-file.Post κs' (changed, tt) r' y) where
-  module _ (found : Summary) (says : file_answer r ≡ given found) (s : ℕ) (only-s : changed.now ≡ stating s found.post lent.now) where
-    pub other_s_checked : file_answer r' ≡ refuse_if (ltb s found.depth) wrong_postamble found.post (given found)
+module _ (κs κs' : Lfts 1) (lent changed : _) (r r' : Result Summary Refusal) (x y : _) (post : check-file.Post κs (lent, tt) r x) (post' : check-file.Post κs' (changed, tt) r' y) where
+  module _ (found : Summary) (says : answered r ≡ given found) (s : ℕ) (only-s : changed.now ≡ stating s found.post lent.now) where
+    pub other_s_checked : answered r' ≡ refuse_if (ltb s found.depth) wrong_postamble found.post (given found)
     other_s_checked = post'.0 ∙ ap judged only-s ∙ other_s_judged s lent.now found (sym post.0 ∙ says)
 
     -- too large is no fault: the answer is that of the right s
     pub larger_s_same_answer : found.depth ≤ s → r' ≡ r
-    larger_s_same_answer h = file_one_to_one r' r (post'.0 ∙ ap judged only-s ∙ other_s_same s lent.now found (sym post.0 ∙ says) h ∙ sym says)
+    larger_s_same_answer h = one_to_one r' r (post'.0 ∙ ap judged only-s ∙ other_s_same s lent.now found (sym post.0 ∙ says) h ∙ sym says)
 
--- font_name, of a file that is accepted and of one with another s that is not too small: the same bytes, number and place
-pub larger_s_same_name : (κs κs' : Lfts 3) (lent changed : _) (font : ℤ) (number place number' place' : _) (r r' : _) (x y : _)
-    → font-name.Post κs (lent, (font, (number, (place, tt)))) r x → font-name.Post κs' (changed, (font, (number', (place', tt)))) r' y
+-- font_name, of a file that is accepted and of one with another s that is not too small: the same bytes at the same place of the file, or the same refusal
+pub larger_s_same_name : (κs κs' : Lfts 1) (lent changed : _) (font : ℤ) (r r' : Result FontName Refusal) (x y : _)
+    → font-name.Post κs (lent, (font, tt)) r x → font-name.Post κs' (changed, (font, tt)) r' y
     → (found : Summary) → judged lent.now ≡ given found
     → (s : ℕ) → found.depth ≤ s → changed.now ≡ stating s found.post lent.now
-    → (r'.now ≡ r.now) × (y.1.1.0.now ≡ x.1.1.0.now) × (y.1.1.1.0.now ≡ x.1.1.1.0.now)
-larger_s_same_name κs κs' lent again font number place number' place' r r' x y p q found accepted s enough only-s =
-    let told =
-    name_one_to_one _ _ _ _ _ _
-    (q.1.1.0 ∙ ap (λ (file : List ℕ). name_place file font) only-s ∙ other_s_named s lent.now found accepted enough font ∙ sym p.1.1.0) in
-    (q.0 ∙ ap (λ (file : List ℕ). name_of file font) only-s ∙ other_s_spelled s lent.now found accepted enough font ∙ sym p.0, told.0, told.1)
+    → part_named r' ≡ part_named r
+larger_s_same_name κs κs' lent again font r r' x y p q found accepted s enough only-s =
+    part_one_to_one _ r' r (q.0 ∙ ap (λ (file : List ℕ). name_place file font) only-s ∙ other_s_named s lent.now found accepted enough font ∙ sym p.0)
+    (subst (λ (l : List ℕ). IfOk r' (λ name. name.bytes.now ≡ l)) (ap (λ (file : List ℕ). name_of file font) only-s ∙ other_s_spelled s lent.now found accepted enough font) q.1.0)
+    p.1.0
 
 -- place_page, of a file that is accepted and of one with another s that is not too small: the same answer and the same bytes
-pub larger_s_same_page : (κs κs' : Lfts 3) (a b x y : Arguments) (r r' : Placed) → place-page.Post κs a r x → place-page.Post κs' b r' y
+pub larger_s_same_page : (κs κs' : Lfts 3) (a b x y : Arguments) (r r' : Result Counts Refusal) → place-page.Post κs a r x → place-page.Post κs' b r' y
     → (found : Summary) → judged (file a) ≡ given found
     → (s : ℕ) → found.depth ≤ s → file b ≡ stating s found.post (file a)
     → table b ≡ table a → resolution b ≡ resolution a → page b ≡ page a → area b ≡ area a
@@ -203,4 +205,4 @@ pub larger_s_same_page : (κs κs' : Lfts 3) (a b x y : Arguments) (r r' : Place
 larger_s_same_page κs κs' a b x y r r' p q found accepted s enough only-s tables resolutions pages areas =
     let placed = other_s_placed s (file a) found accepted enough (table a) (resolution a) (page a) (length (area a)) in
     let same : meant b ≡ meant a = rw (only-s, tables, resolutions, pages, areas) placed in
-    (placed_one_to_one r' r (q.0 ∙ ap placed_counts same ∙ sym p.0), q.1.0 ∙ ap₂ area_after areas same ∙ sym p.1.0)
+    (one_to_one r' r (q.0 ∙ ap placed_counts same ∙ sym p.0), q.1.0 ∙ ap₂ area_after areas same ∙ sym p.1.0)

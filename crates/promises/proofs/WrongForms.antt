@@ -12,12 +12,16 @@ use Rattle.refusals.proofs.Answer.{given_same}
 use Rattle.numbers.specs.Bytes.{unsigned_at}
 use Rattle.widths.specs.Table.{record_in, checked_from}
 use Rattle.converting.specs.Converting.{unnamed_from, widen_table, narrow_table, widened_area, narrowed_area}
-use Rattle.reader.specs.declared.TableMade.{TableMade}
-use Rattle.reader.specs.Answers.{NotMade}
 use Rattle.reader.proofs.widen_table.Reads as widen-table
 use Rattle.reader.proofs.narrow_table.Reads as narrow-table
 use Rattle.promises.specs.TwoFonts.{named_table, spliced_table, any_table, IsOldOne, IsNewOne, IsNamed}
-use Rattle.promises.proofs.OneToOne.{made_one_to_one}
+use Rattle.std.specs.declared.result.Result.{Result}
+use Rattle.std.specs.declared.result.Result.TheVariants.{Ok, Err}
+use Rattle.refusals.specs.declared.Reason.{Reason}
+use Rattle.refusals.specs.declared.Refusal.{Refusal}
+use Rattle.std.specs.Prelude.{IsErr}
+use mathlib.Core.Bool.{true≢false}
+use Rattle.promises.proofs.OneToOne.{one_to_one}
 
 -- ---- the examples, worked by hand
 
@@ -39,17 +43,17 @@ named_refused = refl
 
 -- ---- widen_table
 
-module _ (κs : Lfts 2) (old : Bor (List ℕ)) (area : MutBor (List ℕ)) (is : IsOldOne old.now area.now) (r : TableMade) (x : _) (post : widen-table.Post κs (old, (area, tt)) r x) where
+module _ (κs : Lfts 2) (old : Bor (List ℕ)) (area : MutBor (List ℕ)) (is : IsOldOne old.now area.now) (r : Result ℕ Refusal) (x : _) (post : widen-table.Post κs (old, (area, tt)) r x) where
   widened_same : widen_table old.now (length area.now) ≡ widen_table spliced_table 32
   widened_same = ap₂ widen_table is.old_is (ap length is.area_is)
 
   -- invented counts: one record, and no other number
-  pub not_invented_widened : r ≡ TableMade.Records 1
-  not_invented_widened = made_one_to_one r (TableMade.Records 1) (post.0 ∙ widened_same ∙ old_widened)
+  pub not_invented_widened : r ≡ Ok 1
+  not_invented_widened = one_to_one r (Ok 1) (post.0 ∙ widened_same ∙ old_widened)
 
   -- refusing every table: this one must be taken
-  pub not_refusing_every_old_table : NotMade r → ⊥
-  not_refusing_every_old_table refuses = subst NotMade not_invented_widened refuses
+  pub not_refusing_every_old_table : IsErr r → ⊥
+  not_refusing_every_old_table refuses = true≢false (sym (subst IsErr not_invented_widened refuses))
 
   -- the bytes of the record in the new form, each as worked by hand
   pub widened_as_worked : x.1.0.now ≡ any_table
@@ -62,7 +66,7 @@ module _ (κs : Lfts 2) (old : Bor (List ℕ)) (area : MutBor (List ℕ)) (is : 
       let first : ◌≡◌ {A = ℕ} 0 7 = ap (λ (l : List ℕ). get_or l 0 0) (sym widened_as_worked ∙ stays ∙ is.area_is) in omega (arith, first)
 
 -- one constant answer: this table and the empty one have not the same
-pub not_one_constant_form : (κs κs' : Lfts 2) (old none : Bor (List ℕ)) (area : MutBor (List ℕ)) (r : TableMade) (x y : _) → IsOldOne old.now area.now → none.now ≡ []
+pub not_one_constant_form : (κs κs' : Lfts 2) (old none : Bor (List ℕ)) (area : MutBor (List ℕ)) (r : Result ℕ Refusal) (x y : _) → IsOldOne old.now area.now → none.now ≡ []
     → widen-table.Post κs (old, (area, tt)) r x → widen-table.Post κs' (none, (area, tt)) r y → ⊥
 not_one_constant_form κs κs' old none area r x y is empty p q =
     let told : ◌≡◌ {A = Answer ℕ} (given 1) (given 0) =
@@ -71,17 +75,17 @@ not_one_constant_form κs κs' old none area r x y is empty p q =
 
 -- ---- narrow_table
 
-module _ (κs : Lfts 2) (table : Bor (List ℕ)) (area : MutBor (List ℕ)) (is : IsNewOne table.now area.now) (r : TableMade) (x : _) (post : narrow-table.Post κs (table, (area, tt)) r x) where
+module _ (κs : Lfts 2) (table : Bor (List ℕ)) (area : MutBor (List ℕ)) (is : IsNewOne table.now area.now) (r : Result ℕ Refusal) (x : _) (post : narrow-table.Post κs (table, (area, tt)) r x) where
   narrowed_same : narrow_table table.now (length area.now) ≡ narrow_table any_table 16
   narrowed_same = ap₂ narrow_table is.table_is (ap length is.area_is)
 
   -- one record, and no other number
-  pub not_invented_narrowed : r ≡ TableMade.Records 1
-  not_invented_narrowed = made_one_to_one r (TableMade.Records 1) (post.0 ∙ narrowed_same ∙ new_narrowed)
+  pub not_invented_narrowed : r ≡ Ok 1
+  not_invented_narrowed = one_to_one r (Ok 1) (post.0 ∙ narrowed_same ∙ new_narrowed)
 
   -- this table must be taken
-  pub not_refusing_every_new_table : NotMade r → ⊥
-  not_refusing_every_new_table refuses = subst NotMade not_invented_narrowed refuses
+  pub not_refusing_every_new_table : IsErr r → ⊥
+  not_refusing_every_new_table refuses = true≢false (sym (subst IsErr not_invented_narrowed refuses))
 
   -- the bytes of the record in the old form, each as worked by hand
   pub narrowed_as_worked : x.1.0.now ≡ spliced_table
@@ -94,6 +98,6 @@ module _ (κs : Lfts 2) (table : Bor (List ℕ)) (area : MutBor (List ℕ)) (is 
       let first : ◌≡◌ {A = ℕ} 0 7 = ap (λ (l : List ℕ). get_or l 0 0) (sym narrowed_as_worked ∙ stays ∙ is.area_is) in omega (arith, first)
 
 -- losing names: a table of names is refused with 24, and before the area is judged; so one constant answer is shut out too
-pub not_losing_names : (κs : Lfts 2) (table : Bor (List ℕ)) (area : MutBor (List ℕ)) (r : TableMade) (x : _) → IsNamed table.now area.now → narrow-table.Post κs (table, (area, tt)) r x → r ≡ TableMade.Refused named_record 0
+pub not_losing_names : (κs : Lfts 2) (table : Bor (List ℕ)) (area : MutBor (List ℕ)) (r : Result ℕ Refusal) (x : _) → IsNamed table.now area.now → narrow-table.Post κs (table, (area, tt)) r x → r ≡ Err (record { reason = Reason.NamedRecord; place = 0 })
 not_losing_names κs table area r x is post =
-    made_one_to_one r (TableMade.Refused named_record 0) (post.0 ∙ ap₂ narrow_table is.table_is (ap length is.area_is) ∙ named_refused)
+    one_to_one r (Err (record { reason = Reason.NamedRecord; place = 0 })) (post.0 ∙ ap₂ narrow_table is.table_is (ap length is.area_is) ∙ named_refused)

@@ -17,15 +17,18 @@ use Rattle.volume.proofs.Accepts.{accepts_lawful}
 use Rattle.placements.specs.Records.{all_bytes}
 use Rattle.page.specs.Answers.{placed_page, placed_accepted, counts_of, placed_counts, area_after}
 use Rattle.page.specs.Printed.{example, printed, printed_placed, printed_bytes, printed_bytes_lem}
-use Rattle.reader.specs.declared.FileChecked.{FileChecked}
-use Rattle.reader.specs.declared.Placed.{Placed}
-use Rattle.reader.specs.Answers.{Accepts, Refuses}
 use Rattle.reader.proofs.check_file.Reads as check-file
 use Rattle.reader.proofs.place_page.Reads as place-page
-use Rattle.promises.proofs.OneToOne.{file_one_to_one, placed_one_to_one}
 use Rattle.promises.proofs.StatedDepth.{other_s_judged}
 use Rattle.promises.specs.StatedDepth.{stating}
 use Rattle.promises.specs.Calls.{Arguments, file, table, resolution, page, area, meant, IsPrinted}
+use Rattle.std.specs.declared.result.Result.{Result}
+use Rattle.std.specs.declared.result.Result.TheVariants.{Ok, Err}
+use Rattle.refusals.specs.declared.Refusal.{Refusal}
+use Rattle.placements.specs.declared.Counts.{Counts}
+use Rattle.std.specs.Prelude.{IsOk, IsErr}
+use mathlib.Core.Bool.{true≢false}
+use Rattle.promises.proofs.OneToOne.{one_to_one}
 
 -- ---- the check of a file
 
@@ -37,24 +40,24 @@ empty_refused : judged [] ≡ refused file_ends 0
 empty_refused = ap (λ (l : List (Answer Summary)). get_or l 4 (refused 0 0)) files_hold
 
 -- refusing all: M must be accepted
-pub not_refusing_all : (κs : Lfts 1) → (file : Bor (List ℕ)) → (r : FileChecked) → (x : _) → file.now ≡ M → check-file.Post κs (file, tt) r x → Accepts r
+pub not_refusing_all : (κs : Lfts 1) → (file : Bor (List ℕ)) → (r : Result Summary Refusal) → (x : _) → file.now ≡ M → check-file.Post κs (file, tt) r x → IsOk r
 not_refusing_all κs lent r x m p = p.1.1 (subst Lawful (sym m) (accepts_lawful M one_page M_accepted))
 
 -- accepting all: the empty file must be refused
-pub not_accepting_all : (κs : Lfts 1) → (file : Bor (List ℕ)) → (r : FileChecked) → (x : _) → file.now ≡ [] → check-file.Post κs (file, tt) r x → Accepts r → ⊥
-not_accepting_all κs lent (FileChecked.Accepted pages fonts depth post) x m p a =
+pub not_accepting_all : (κs : Lfts 1) → (file : Bor (List ℕ)) → (r : Result Summary Refusal) → (x : _) → file.now ≡ [] → check-file.Post κs (file, tt) r x → IsOk r → ⊥
+not_accepting_all κs lent (Ok found) x m p a =
     given_not_refused _ file_ends 0 (p.0 ∙ ap judged m ∙ empty_refused)
-not_accepting_all κs lent (FileChecked.Refused number place) x m p a = a
+not_accepting_all κs lent (Err why) x m p a = true≢false (sym a)
 
 -- one constant answer: M and the empty file have not the same
-pub not_constant : (κs κs' : Lfts 1) → (file empty : Bor (List ℕ)) → (r : FileChecked) → (x y : _) → file.now ≡ M → empty.now ≡ []
+pub not_constant : (κs κs' : Lfts 1) → (file empty : Bor (List ℕ)) → (r : Result Summary Refusal) → (x y : _) → file.now ≡ M → empty.now ≡ []
     → check-file.Post κs (file, tt) r x → check-file.Post κs' (empty, tt) r y → ⊥
 not_constant κs κs' lent empty r x y m e p q = given_not_refused one_page file_ends 0 (sym M_accepted ∙ ap judged (sym m) ∙ sym p.0 ∙ q.0 ∙ ap judged e ∙ empty_refused)
 
 -- asking that s is the depth, or reporting s: M with s 1 is accepted, and its depth is 0 all the same
-pub not_by_the_stated_depth : (κs : Lfts 1) → (file : Bor (List ℕ)) → (r : FileChecked) → (x : _) → file.now ≡ stating 1 61 M → check-file.Post κs (file, tt) r x
-    → r ≡ FileChecked.Accepted 1 0 0 61
-not_by_the_stated_depth κs lent r x m p = file_one_to_one r (FileChecked.Accepted 1 0 0 61) (p.0 ∙ ap judged m ∙ other_s_judged 1 M one_page M_accepted)
+pub not_by_the_stated_depth : (κs : Lfts 1) → (file : Bor (List ℕ)) → (r : Result Summary Refusal) → (x : _) → file.now ≡ stating 1 61 M → check-file.Post κs (file, tt) r x
+    → r ≡ Ok (record { pages = 1; fonts = 0; depth = 0; post = 61 })
+not_by_the_stated_depth κs lent r x m p = one_to_one r (Ok (record { pages = 1; fonts = 0; depth = 0; post = 61 })) (p.0 ∙ ap judged m ∙ other_s_judged 1 M one_page M_accepted)
 
 -- ---- the placing of a page
 
@@ -70,14 +73,14 @@ empty_not_placed a empty =
     (ap judged empty ∙ empty_refused)
 
 module _ (κs : Lfts 3) (a x : Arguments) (is : IsPrinted a) where
-  module _ (r : Placed) (post : place-page.Post κs a r x) where
+  module _ (r : Result Counts Refusal) (post : place-page.Post κs a r x) where
     -- invented counts: two records, no missing character and no special, and no other
-    pub not_invented_counts : r ≡ Placed.Records 2 0 0
-    not_invented_counts = placed_one_to_one r (Placed.Records 2 0 0) (post.0 ∙ ap placed_counts (example_placed a is))
+    pub not_invented_counts : r ≡ Ok (record { records = 2; missing = 0; specials = 0 })
+    not_invented_counts = one_to_one r (Ok (record { records = 2; missing = 0; specials = 0 })) (post.0 ∙ ap placed_counts (example_placed a is))
 
     -- refusing every page: this one must be placed
-    pub not_refusing_every_page : Refuses r → ⊥
-    not_refusing_every_page refuses = subst Refuses not_invented_counts refuses
+    pub not_refusing_every_page : IsErr r → ⊥
+    not_refusing_every_page refuses = true≢false (sym (subst IsErr not_invented_counts refuses))
 
     -- the area's forty bytes, each as printed
     pub area_as_printed : area x ≡ printed_bytes
@@ -101,12 +104,12 @@ module _ (κs : Lfts 3) (a x : Arguments) (is : IsPrinted a) where
         omega (arith, first)
 
   -- stopping after a first command: the example's first command makes no record, its first rule one, and both are too few
-  pub not_only_the_first_command : (records missing specials : ℕ) → records ≤ 1 → place-page.Post κs a (Placed.Records records missing specials) x → ⊥
-  not_only_the_first_command records missing specials few post =
-      let many : records ≡ 2 = cc (not_invented_counts (Placed.Records records missing specials) post) in omega (arith, many, few)
+  pub not_only_the_first_command : (counts : Counts) → counts.records ≤ 1 → place-page.Post κs a (Ok counts) x → ⊥
+  not_only_the_first_command counts few post =
+      let many : counts.records ≡ 2 = cc (not_invented_counts (Ok counts) post) in omega (arith, many, few)
 
 -- one constant answer: the printed example and the empty file have not the same
-pub not_one_constant : (κs κs' : Lfts 3) (a b x y : Arguments) (r : Placed) → IsPrinted a → file b ≡ []
+pub not_one_constant : (κs κs' : Lfts 3) (a b x y : Arguments) (r : Result Counts Refusal) → IsPrinted a → file b ≡ []
     → place-page.Post κs a r x → place-page.Post κs' b r y → ⊥
 not_one_constant κs κs' a b x y r is empty p q =
     given_not_refused (counts_of printed) file_ends 0

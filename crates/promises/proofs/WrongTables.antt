@@ -18,11 +18,14 @@ use Rattle.widths.specs.Table.{width_record_size}
 use Rattle.widths.specs.Entries.{entry_bytes}
 use Rattle.packed.specs.Table.{table_made, records_made, table_area}
 use Rattle.packed.specs.Starred.{opening, xi, record_for}
-use Rattle.reader.specs.declared.TableMade.{TableMade}
-use Rattle.reader.specs.Answers.{NotMade}
 use Rattle.reader.proofs.width_table.Reads as width-table
 use Rattle.promises.specs.Fonts.{IsXi}
-use Rattle.promises.proofs.OneToOne.{made_one_to_one}
+use Rattle.std.specs.declared.result.Result.{Result}
+use Rattle.std.specs.declared.result.Result.TheVariants.{Ok}
+use Rattle.refusals.specs.declared.Refusal.{Refusal}
+use Rattle.std.specs.Prelude.{IsErr}
+use mathlib.Core.Bool.{true≢false}
+use Rattle.promises.proofs.OneToOne.{one_to_one}
 
 -- the font with the one packet of appendix C, and its table
 abbrev xi_font : List ℕ
@@ -43,17 +46,17 @@ empty_refused : records_made (table_made [] 655360 width_record_size) ≡ refuse
 unfolding font_judged_from font_judged
 empty_refused = refl
 
-module _ (κs : Lfts 2) (pk : Bor (List ℕ)) (scale : ℕ) (area : MutBor (List ℕ)) (is : IsXi pk.now scale area.now) (r : TableMade) (x : _) (post : width-table.Post κs (pk, (scale, (area, tt))) r x) where
+module _ (κs : Lfts 2) (pk : Bor (List ℕ)) (scale : ℕ) (area : MutBor (List ℕ)) (is : IsXi pk.now scale area.now) (r : Result ℕ Refusal) (x : _) (post : width-table.Post κs (pk, (scale, (area, tt))) r x) where
   same : table_made pk.now scale (length area.now) ≡ table_made xi_font 655360 width_record_size
   same = cc (is.pk_is, is.scale_is, ap length is.area_is)
 
   -- invented counts: one record, and no other number
-  pub not_invented_records : r ≡ TableMade.Records 1
-  not_invented_records = made_one_to_one r (TableMade.Records 1) (post.0 ∙ ap records_made same ∙ xi_made)
+  pub not_invented_records : r ≡ Ok 1
+  not_invented_records = one_to_one r (Ok 1) (post.0 ∙ ap records_made same ∙ xi_made)
 
   -- refusing every font: this one must be taken
-  pub not_refusing_every_font : NotMade r → ⊥
-  not_refusing_every_font refuses = subst NotMade not_invented_records refuses
+  pub not_refusing_every_font : IsErr r → ⊥
+  not_refusing_every_font refuses = true≢false (sym (subst IsErr not_invented_records refuses))
 
   -- the bytes of the record, each as worked by hand
   pub record_as_worked : x.1.1.0.now ≡ record_for (4 ∷ 0 ∷ 0 ∷ 25 ∷ 0 ∷ 9 ∷ 199 ∷ 28 ∷ [])
@@ -65,7 +68,7 @@ module _ (κs : Lfts 2) (pk : Bor (List ℕ)) (scale : ℕ) (area : MutBor (List
       let first : ◌≡◌ {A = ℕ} 1 0 = ap (λ (l : List ℕ). get_or l 0 0) (sym record_as_worked ∙ stays ∙ is.area_is) in omega (arith, first)
 
 -- one constant answer: this font and the empty file have not the same
-pub not_one_constant_table : (κs κs' : Lfts 2) (pk none : Bor (List ℕ)) (scale : ℕ) (area : MutBor (List ℕ)) (r : TableMade) (x y : _) → IsXi pk.now scale area.now → none.now ≡ []
+pub not_one_constant_table : (κs κs' : Lfts 2) (pk none : Bor (List ℕ)) (scale : ℕ) (area : MutBor (List ℕ)) (r : Result ℕ Refusal) (x y : _) → IsXi pk.now scale area.now → none.now ≡ []
     → width-table.Post κs (pk, (scale, (area, tt))) r x → width-table.Post κs' (none, (scale, (area, tt))) r y → ⊥
 not_one_constant_table κs κs' pk none scale area r x y is empty p q =
     let other : table_made none.now scale (length area.now) ≡ table_made [] 655360 width_record_size = cc (empty, is.scale_is, ap length is.area_is) in

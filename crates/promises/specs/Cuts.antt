@@ -7,7 +7,6 @@ use Rattle.volume.specs.Starred.{M}
 use Rattle.cutting.specs.Chosen.{wrong_list}
 use Rattle.cutting.specs.CutFile.{cut_file}
 use Rattle.cutting.specs.Starred.{three_pages}
-use Rattle.reader.specs.declared.PagesCut.{PagesCut}
 
 -- of a file and a list a call with an area gave so many bytes and left the area so (rules 9.1, 9.10)
 pub record Gives (file list area : List ℕ) (bytes : ℕ) (after : List ℕ) : Type 0 where
@@ -18,11 +17,6 @@ pub record Gives (file list area : List ℕ) (bytes : ℕ) (after : List ℕ) : 
   pub room : bytes ≤ length area
   pub front : take bytes after ≡ cut_file file list
   pub rest : drop bytes after ≡ drop bytes area
-
--- a call that is not refused (rule 9.10)
-abbrev pub IsCut : PagesCut → Type 0
-IsCut (PagesCut.Bytes bytes) = Unit {0}
-IsCut (PagesCut.Refused number place) = ⊥
 
 -- when a call is not refused: the file is accepted, the list is right for its pages, and the area has room for the new file (rules 9.10, 12.1)
 pub record MayCut (file list : List ℕ) (room : ℕ) : Type 0 where

@@ -17,7 +17,6 @@ use Rattle.packed.specs.Lawful.{WholeInFont, FollowsInFont, LawfulFont}
 use Rattle.packed.specs.Judged.{taken}
 use Rattle.packed.specs.Table.{font_checksum, entry_of, font_table, with_room}
 use Rattle.packed.specs.Starred.{opening, xi}
-use Rattle.reader.specs.declared.TableMade.{TableMade}
 
 -- the commands of a list upon those before, the newest first (rule 11.9)
 abbrev pub upon : List Command → List Command → List Command
@@ -73,11 +72,6 @@ pub record Makes (pk : List ℕ) (scale records : ℕ) (before after : List ℕ)
   pub record_reads : (front : List Entry) (e : Entry) (back : List Entry) → entries ≡ front ++ (e ∷ back) → Reads (record_of (take (width_record_size * records) after) (length front)) e
   pub check_sums : Bytes pk → (front : List Entry) (e : Entry) (back : List Entry) → entries ≡ front ++ (e ∷ back)
       → (record_of (take (width_record_size * records) after) (length front)).checksum ≡ e.checksum
-
--- a call that is not refused (rule 9.9)
-abbrev pub IsMade : TableMade → Type 0
-IsMade (TableMade.Records records) = Unit {0}
-IsMade (TableMade.Refused number place) = ⊥
 
 -- when a call is not refused: the scale is lawful, the file is a lawful PK file, and the area has room for a record a packet (rules 9.9, 11.8)
 abbrev pub Taken : List ℕ → ℕ → ℕ → Type 0

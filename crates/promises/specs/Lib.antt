@@ -8,3 +8,4 @@ pub mod Fonts
 pub mod Cuts
 pub mod OldTables
 pub mod TwoFonts
+pub mod Named

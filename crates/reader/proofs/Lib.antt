@@ -1,3 +1,2 @@
+pub mod Accepted
 pub mod Listed
-pub mod Names
-pub mod Words

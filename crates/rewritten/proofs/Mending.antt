@@ -17,7 +17,7 @@ use Rattle.commands.specs.declared.fields.SignedField.{SignedField}
 use Rattle.commands.specs.Fields.{unsigned_in, signed_in, bop_pointer, post_pointer, post_depth, post_pages, end_pointer, end_identification}
 use Rattle.commands.specs.Lengths.{size_of, fixed_length}
 use Rattle.commands.specs.Commands.{Command, kind_of_command, Whole, place}
-use Rattle.commands.proofs.Lengths.{has_inner, inner_none, whole_plain}
+use Rattle.commands.proofs.ParameterLengths.{has_inner, inner_none, whole_plain}
 use Rattle.list.specs.Past.{is_a, greatest, pages, last_bop, post_place}
 use Rattle.list.proofs.Arms.{is_kind}
 use Rattle.volume.proofs.Bounds.{post_small}

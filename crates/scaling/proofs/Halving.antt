@@ -2,10 +2,9 @@
 use mathlib.Core.Path.{◌≡◌, refl, sym, ap, subst, ◌∙◌}
 use mathlib.Core.Bool.{Bool, true, false, cond}
 use Prim.Native.Nat.{ℕ, zero, suc, ◌*◌, ◌/◌, ◌^◌, ◌≤◌, ◌<◌}
-use native.Mathlib.Nat.{pow-suc, mul_assoc, mul_comm, zero-mul, le-mul_of_pos_right, mul-le-mul_left}
+use native.Mathlib.Nat.{pow-suc, mul_assoc, mul_comm, zero-mul, mul-le-mul_left}
 use native.Mathlib.Omega.{arith}
 use lib.Dec.{leb}
-use lib.Pow.{pow_pos}
 use borrow.Author.Tests.{le-leb, lt-leb}
 use Rattle.scaling.specs.Scaling.{Halved, halving, halved}
 
@@ -80,6 +79,3 @@ module _ (times alpha : ℕ) (full : alpha * 2 ^ times ≡ 256) where
       by : (n : ℕ) → n * 2 ^ times ≡ 256 → 1 ≤ n
       by zero e = absurd (omega (arith, zero-mul (2 ^ times)))
       by (suc n) e = omega arith
-
-  pub alpha_small : alpha ≤ 256
-  alpha_small = omega (arith, le-mul_of_pos_right alpha (pow_pos times))

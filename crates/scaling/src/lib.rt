@@ -22,9 +22,10 @@ pub fn sixteenfold_of(scale: u64) -> u64
 {
     let mut z = scale;
     let mut alpha: u64 = 16;
+    // no range: how often z is halved is what the loop finds
     while 8388608 <= z {
-        z = z / 2;
-        alpha = alpha * 2;
+        z /= 2;
+        alpha *= 2;
     }
     alpha * z
 }
@@ -35,12 +36,10 @@ pub fn scaled(sixteenfold: u64, w: FixWord) -> i64
     requires { sixteenfold < 2 ^ 31 }
     ensures { result ≡ width_from sixteenfold w }
 {
-    let fraction = numbers::wide(w.b1) * 65536 + numbers::wide(w.b2) * 256 + numbers::wide(w.b3);
-    let product = fraction * sixteenfold;
-    let positive = product / 16777216;
-    let first = w.b0;
-    if first == 255 {
-        numbers::difference(positive, sixteenfold)
+    let fraction = u64::from(w.b1) * 65536 + u64::from(w.b2) * 256 + u64::from(w.b3);
+    let positive = fraction * sixteenfold / 16777216;
+    if w.b0 == 255 {
+        positive as i64 - sixteenfold as i64
     } else {
         positive as i64
     }
@@ -50,10 +49,7 @@ pub fn scaled(sixteenfold: u64, w: FixWord) -> i64
 pub fn lawful_first(b0: u8) -> bool
     ensures { result ≡ lawful_first b0 }
 {
-    if b0 == 0 {
-        return true;
-    }
-    b0 == 255
+    matches!(b0, 0 | 255)
 }
 
 // The width of a fix word at a scale.

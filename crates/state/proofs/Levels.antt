@@ -1,9 +1,9 @@
 -- Levels stay in their ranges, and where the saved ones stand. Assumes nothing.
-use Prim.Native.Nat.{ℕ, zero, suc, ◌+◌, ◌-◌, ◌≤◌, ◌<◌, ◌^◌}
+use Prim.Native.Nat.{ℕ, zero, suc, ◌-◌, ◌≤◌, ◌<◌, ◌^◌}
 use mathlib.Core.Path.{◌≡◌, refl, sym, ap, ap₂, subst}
 use mathlib.Core.Bool.{false}
 use mathlib.Core.List.{List, ◌∷◌}
-use native.Mathlib.Numerals.{add-one, sub-one}
+use native.Mathlib.Numerals.{sub-one}
 use native.Mathlib.Omega.{arith}
 use borrow.Author.Tests.{ltb-false}
 use lib.ListN.{length, get_or, set}
@@ -125,10 +125,6 @@ bounded_by_register register stride ruler scale n l ruled b small stays =
     bounded_moved (direction_of register) stride ruler scale n (with_register register n l) ruled (bounded_register register n l b small) (register_stays register n l stays)
 
 -- ---- the levels that are saved
-
--- one more is saved where it was stored above the others
-pub saved_one_more : (depth : ℕ) (stack : List KeptLevel) (l : KeptLevel) → get_or stack depth zero_kept ≡ l → saved_of (depth + 1) stack ≡ level_in l ∷ saved_of depth stack
-saved_one_more depth stack l e = rw add-one (ap (λ (top : KeptLevel). level_in top ∷ saved_of depth stack) e)
 
 -- the one that was saved last stands above the others
 pub saved_last : (depth : ℕ) (stack : List KeptLevel) → 0 < depth → saved_of depth stack ≡ level_in (get_or stack (depth - 1) zero_kept) ∷ saved_of (depth - 1) stack

@@ -14,7 +14,8 @@ use names::Name;
 pub mod moving;
 pub mod registers;
 
-// The eight numbers of a level, by which a command is asked what it does: the position, the registers, the pixel
+// The eight numbers of a level, by which a command is asked what it does: the position, the registers, the pixel. No fact stands in it (that they are `Bounded`), nor
+// in a kept level: definitions of specs/ build both.
 #[derive(Clone, Copy)]
 pub struct Level {
     pub h: i64,
@@ -47,7 +48,7 @@ pub struct Font {
     pub name: Name,
 }
 
-// The state of a page. The array stands last, so that a change of what stands before it copies no array.
+// The state of a page. The saved levels are an array with their number beside it, as document 01 has them; it stands last, so that a change of what stands before it copies no array.
 #[derive(Drop)]
 pub struct Page {
     pub now: KeptLevel,
@@ -79,7 +80,6 @@ impl Page {
             y: 0,
             z: 0,
         };
-        let stack = [zero; 100];
         Page {
             now: zero,
             depth: 0,
@@ -87,9 +87,9 @@ impl Page {
                 number: 0,
                 checksum: 0,
                 scale: 0,
-                name: Name { high: 0, low: 0 },
+                name: Name::ANY,
             },
-            stack: stack,
+            stack: [zero; Page::DEPTH],
         }
     }
 
@@ -101,11 +101,15 @@ impl Page {
         ensures down_value { result.now.down ≡ self.now.down }
     {
         let scale = self.font.scale;
-        let mut level = self.now;
-        let from = level.across;
-        let spot = moving::move_by(Direction::Sideways, stride, ruler, scale, n, from);
-        level.across = spot;
-        self.now = level;
+        let across = moving::move_by(
+            Direction::Sideways,
+            stride,
+            ruler,
+            scale,
+            n,
+            self.now.across,
+        );
+        self.now.across = across;
         self
     }
 
@@ -117,11 +121,15 @@ impl Page {
         ensures across_value { result.now.across ≡ self.now.across }
     {
         let scale = self.font.scale;
-        let mut level = self.now;
-        let from = level.down;
-        let spot = moving::move_by(Direction::Down, Stride::Rounded, ruler, scale, n, from);
-        level.down = spot;
-        self.now = level;
+        let down = moving::move_by(
+            Direction::Down,
+            Stride::Rounded,
+            ruler,
+            scale,
+            n,
+            self.now.down,
+        );
+        self.now.down = down;
         self
     }
 
@@ -132,11 +140,7 @@ impl Page {
         ensures value { result ≡ with_level self (kept_past ruler width escapement self.now) }
         ensures down_value { result.now.down ≡ self.now.down }
     {
-        let mut level = self.now;
-        let from = level.across;
-        let spot = moving::move_past(ruler, width, escapement, from);
-        level.across = spot;
-        self.now = level;
+        self.now.across = moving::move_past(ruler, width, escapement, self.now.across);
         self
     }
 
@@ -161,7 +165,7 @@ impl Page {
         requires { (self.depth < 100) × (get_or self.stack self.depth zero_kept ≡ self.now) }
         ensures { (page_state result ≡ pushed (page_state self)) × (result.depth ≡ self.depth + 1) × (result.stack ≡ self.stack) × (result.now ≡ self.now) }
     {
-        self.depth = self.depth + 1;
+        self.depth += 1;
         self
     }
 
@@ -171,7 +175,7 @@ impl Page {
         ensures { (page_state result ≡ popped (page_state self)) × (result.depth ≡ self.depth - 1) × (result.stack ≡ self.stack) × (result.now ≡ last) }
     {
         self.now = last;
-        self.depth = self.depth - 1;
+        self.depth -= 1;
         self
     }
 }

@@ -13,7 +13,7 @@ pub enum Direction {
     Down,
 }
 
-// How the pixel follows a position that moves
+// How the pixel follows a position that moves. No closure in its place: the definition `moved` is over the stride.
 #[derive(Clone, Copy)]
 pub enum Stride {
     // by the rounded distance where the move is near, else to the rounded position
@@ -22,14 +22,16 @@ pub enum Stride {
     RoundedUp,
 }
 
-// K and D
+// K and D. That K is workable and D at most 2 is asked where they are used, and no fact that the type keeps: definitions of specs/ build rulers
+// (`ruler` of Starred, page's `setting_in`), and a bound of the font's scale stands in the same fact (`Ruled`).
 #[derive(Clone, Copy)]
 pub struct Ruler {
     pub k: Ratio,
     pub drift: u64,
 }
 
-// h with rounded h and hh, or v with rounded v and vv. The order of the fields was measured (docs/DECISIONS.md).
+// h with rounded h and hh, or v with rounded v and vv. The order of the fields was measured (docs/DECISIONS.md). That `rounded` is right (`Rounds`) is a fact
+// of it and of a K, and definitions of specs/ build it (`kept_spot`, `zero_kept`), so the type keeps it not.
 #[derive(Clone, Copy)]
 pub struct KeptSpot {
     pub position: i64,
@@ -42,7 +44,7 @@ pub fn leaves_range(position: i64, n: i64) -> bool
     requires { (nat_abs position ≤ 2 ^ 31) × (nat_abs n ≤ 2 ^ 31) }
     ensures { result ≡ leaves (position +ℤ n) }
 {
-    2147483647 < numbers::magnitude(position + n)
+    2147483647 < (position + n).unsigned_abs()
 }
 
 // How many tenths of the font's scale a near move is shorter than.
@@ -60,7 +62,7 @@ fn is_near(direction: Direction, n: i64, scale: u64) -> bool
     requires { (nat_abs n ≤ 2 ^ 31) × (scale ≤ 134217727) }
     ensures { result ≡ near direction n scale }
 {
-    10 * numbers::magnitude(n) < tenths_of(direction, n) * scale
+    10 * n.unsigned_abs() < tenths_of(direction, n) * scale
 }
 
 // The pixel, brought back to within D of the centre, the rounded position, if it is further.
@@ -68,14 +70,8 @@ fn held_near(drift: u64, centre: i64, pixel: i64) -> i64
     requires { (drift ≤ 2) × (nat_abs centre ≤ 2 ^ 31) × (nat_abs pixel ≤ 2 ^ 32) }
     ensures { result ≡ drifted drift centre pixel }
 {
-    if numbers::magnitude(pixel - centre) <= drift {
-        return pixel;
-    }
-    if centre < pixel {
-        centre + drift as i64
-    } else {
-        centre - drift as i64
-    }
+    let reach = drift as i64;
+    pixel.clamp(centre - reach, centre + reach)
 }
 
 // The rounded new position: the one that is kept where nothing moves, or where K is 0.
@@ -83,10 +79,7 @@ fn rounded_after(k: Ratio, from: KeptSpot, n: i64) -> i64
     requires { Workable k × Rounds k from × (nat_abs from.position ≤ 2 ^ 31) × (nat_abs n ≤ 2 ^ 31) × (leaves (from.position +ℤ n) ≡ false) }
     ensures { result ≡ rounded k (from.position +ℤ n) }
 {
-    if n == 0 {
-        return from.rounded;
-    }
-    if k.p == 0 {
+    if n == 0 || k.p == 0 {
         return from.rounded;
     }
     units::round(k, from.position + n)
@@ -98,7 +91,7 @@ fn settle(drift: u64, position: i64, centre: i64, pixel: i64) -> KeptSpot
     ensures { result ≡ record { position = position; rounded = centre; pixel = drifted drift centre pixel } }
 {
     KeptSpot {
-        position: position,
+        position,
         rounded: centre,
         pixel: held_near(drift, centre, pixel),
     }

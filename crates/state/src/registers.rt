@@ -7,6 +7,7 @@ ghost use Rattle.state.specs.Steps.{Ruled, Bounded, Rounds, level_in, other, kep
 use crate::moving::{Direction, KeptSpot, Ruler, Stride};
 use crate::{KeptLevel, Level, moving};
 
+// No closures in place of it: the definitions `register_of` and `direction_of` are over the register.
 #[derive(Clone, Copy)]
 pub enum Register {
     W,
@@ -15,19 +16,25 @@ pub enum Register {
     Z,
 }
 
-// The eight numbers of a kept level.
+// The eight numbers of a kept level. A view that leaves the roundings out, and so by its own name and not by `From`.
 pub fn level_of(kept: KeptLevel) -> Level
     ensures { result ≡ level_in kept }
 {
-    let across = kept.across;
-    let down = kept.down;
+    let KeptLevel {
+        across,
+        down,
+        w,
+        x,
+        y,
+        z,
+    } = kept;
     Level {
         h: across.position,
         v: down.position,
-        w: kept.w,
-        x: kept.x,
-        y: kept.y,
-        z: kept.z,
+        w,
+        x,
+        y,
+        z,
         hh: across.pixel,
         vv: down.pixel,
     }
@@ -57,16 +64,15 @@ fn spot_of(direction: Direction, level: KeptLevel) -> KeptSpot
 fn at_spot(direction: Direction, spot: KeptSpot, level: KeptLevel) -> KeptLevel
     ensures { result ≡ at_kept_spot direction spot level }
 {
-    let mut next = level;
     match direction {
-        Direction::Sideways => {
-            next.across = spot;
-            next
-        }
-        Direction::Down => {
-            next.down = spot;
-            next
-        }
+        Direction::Sideways => KeptLevel {
+            across: spot,
+            ..level
+        },
+        Direction::Down => KeptLevel {
+            down: spot,
+            ..level
+        },
     }
 }
 
@@ -75,10 +81,8 @@ pub fn direction_of(register: Register) -> Direction
     ensures { result ≡ direction_of register }
 {
     match register {
-        Register::W => Direction::Sideways,
-        Register::X => Direction::Sideways,
-        Register::Y => Direction::Down,
-        Register::Z => Direction::Down,
+        Register::W | Register::X => Direction::Sideways,
+        Register::Y | Register::Z => Direction::Down,
     }
 }
 
@@ -98,24 +102,11 @@ pub fn register_of(register: Register, level: Level) -> i64
 fn with_register(register: Register, n: i64, level: KeptLevel) -> KeptLevel
     ensures { result ≡ kept_with_register register n level }
 {
-    let mut next = level;
     match register {
-        Register::W => {
-            next.w = n;
-            next
-        }
-        Register::X => {
-            next.x = n;
-            next
-        }
-        Register::Y => {
-            next.y = n;
-            next
-        }
-        Register::Z => {
-            next.z = n;
-            next
-        }
+        Register::W => KeptLevel { w: n, ..level },
+        Register::X => KeptLevel { x: n, ..level },
+        Register::Y => KeptLevel { y: n, ..level },
+        Register::Z => KeptLevel { z: n, ..level },
     }
 }
 

@@ -1,4 +1,4 @@
-// Questions whose answer is a line: about a DVI file, about numbers, about a width table. What is written fails where a write of it fails, and nowhere else.
+// Questions whose answer is a line: about a DVI file, about numbers, about a width table. What answers words that are no such question is `no input`.
 #![tactic(auto)]
 
 pub mod files_asked;

@@ -1,102 +1,47 @@
 // Questions about a width table, which is read into the buffer that is lent.
-ghost use Rattle.std.specs.Prelude.{◌≤◌};
-
 use asking::lines::word;
-use asking::words::{Signed32, Unsigned32};
 use asking::{files, spelled, words};
-use printing::line;
 use printing::line::Line;
-use reader::{LookedUp, TableChecked};
 use std::fs::Files;
 
 // table TABLE
-pub fn table<R: Files>(rt: &R, line: &[u8], widths: &mut [u8]) -> Line
-    ensures { result.length ≤ 160 }
-{
-    let found = files::read_whole(rt, word(line, 1), widths);
-    if !found.whole {
-        return asking::no_input_line();
-    }
-    let length = found.length;
-    checked(&widths[..length])
+pub fn table<R: Files>(rt: &R, line: &[u8], widths: &mut [u8]) -> Line {
+    asking::or_no_input(try_table(rt, line, widths))
 }
 
-fn checked(widths: &[u8]) -> Line
-    ensures { result.length ≤ 160 }
-{
-    match reader::check_table(widths) {
-        TableChecked::Right(records) => Line::empty()
-            .text(b"right")
-            .count(records as u64)
-            .text(b"\n"),
-        TableChecked::Refused { number, place } => line::refused(number, place),
-    }
+fn try_table<R: Files>(rt: &R, line: &[u8], widths: &mut [u8]) -> Option<Line> {
+    let length = files::read_whole(rt, word(line, 1), widths)?;
+    Some(match reader::check_table(&widths[..length]) {
+        Ok(records) => Line::of(format_args!("right {records}\n")),
+        Err(refusal) => asking::refused(refusal),
+    })
 }
 
 // look TABLE CHECKSUM SCALE NAME CODE, of a name of 255 bytes at most
-pub fn look<R: Files>(rt: &R, line: &[u8], widths: &mut [u8]) -> Line
-    ensures { result.length ≤ 160 }
-{
+pub fn look<R: Files>(rt: &R, line: &[u8], widths: &mut [u8]) -> Line {
+    asking::or_no_input(try_look(rt, line, widths))
+}
+
+fn try_look<R: Files>(rt: &R, line: &[u8], widths: &mut [u8]) -> Option<Line> {
     let mut name = [0u8; 255];
-    let said = spelled::read_bytes(word(line, 4), &mut name);
-    if !said.right {
-        return asking::no_input_line();
-    }
-    let count = said.length;
-    look_named(rt, line, &name[..count], widths)
+    let count = spelled::read_bytes(word(line, 4), &mut name)?;
+    let checksum = words::read_unsigned32(word(line, 2))?;
+    let scale = words::read_unsigned32(word(line, 3))?;
+    let code = words::read_signed32(word(line, 5))?;
+    let length = files::read_whole(rt, word(line, 1), widths)?;
+    Some(looked(&widths[..length], checksum, scale, &name[..count], code))
 }
 
-fn look_named<R: Files>(rt: &R, line: &[u8], name: &[u8], widths: &mut [u8]) -> Line
-    ensures { result.length ≤ 160 }
-{
-    let Unsigned32::Is(checksum) = words::read_unsigned32(word(line, 2)) else {
-        return asking::no_input_line();
-    };
-    let Unsigned32::Is(scale) = words::read_unsigned32(word(line, 3)) else {
-        return asking::no_input_line();
-    };
-    let Signed32::Is(code) = words::read_signed32(word(line, 5)) else {
-        return asking::no_input_line();
-    };
-    let found = files::read_whole(rt, word(line, 1), widths);
-    if !found.whole {
-        return asking::no_input_line();
-    }
-    let length = found.length;
-    looked(&widths[..length], checksum, scale, name, code)
-}
-
-fn looked(widths: &[u8], checksum: u32, scale: u32, name: &[u8], code: i32) -> Line
-    ensures { result.length ≤ 160 }
-{
+fn looked(widths: &[u8], checksum: u32, scale: u32, name: &[u8], code: i32) -> Line {
     match reader::look_up(widths, checksum, scale, name, code) {
-        LookedUp::Found {
-            escapement,
-            b0,
-            b1,
-            b2,
-            b3,
-        } => with_bytes(
-            Line::empty().text(b"found").number(escapement),
-            b0,
-            b1,
-            b2,
-            b3,
-        ),
-        LookedUp::Absent => Line::empty().text(b"absent\n"),
-        LookedUp::Refused { number, place } => line::refused(number, place),
+        Ok(Some(metric)) => {
+            let width = metric.width;
+            Line::of(format_args!(
+                "found {} {} {} {} {}\n",
+                metric.escapement, width.b0, width.b1, width.b2, width.b3
+            ))
+        }
+        Ok(None) => Line::of("absent\n"),
+        Err(refusal) => asking::refused(refusal),
     }
-}
-
-// The line's end, with the bytes of a width
-fn with_bytes(start: Line, b0: u8, b1: u8, b2: u8, b3: u8) -> Line
-    requires { start.length ≤ 27 }
-    ensures { result.length ≤ 160 }
-{
-    start
-        .count(b0 as u64)
-        .count(b1 as u64)
-        .count(b2 as u64)
-        .count(b3 as u64)
-        .text(b"\n")
 }

@@ -1,7 +1,7 @@
 pub mod Blocks
 pub mod CharacterLaws
 pub mod CountLaws
-pub mod Found
 pub mod Frames
+pub mod KeptLaws
 pub mod TurnLaws
 pub mod Words

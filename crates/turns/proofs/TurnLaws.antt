@@ -16,7 +16,7 @@ use Rattle.commands.specs.declared.Kind.{Kind}
 use Rattle.commands.specs.Commands.{Command, Whole, kind_of_command}
 use Rattle.commands.specs.Parameters.{distance, rule_height, rule_width}
 use Rattle.commands.specs.ByKind.{last, fixed_by}
-use Rattle.commands.proofs.Lengths.{has_inner, whole_at_most}
+use Rattle.commands.proofs.ParameterLengths.{has_inner, whole_at_most}
 use Rattle.list.proofs.Arms.{on_kinds}
 use Rattle.state.specs.declared.Level.{Level}
 use Rattle.state.specs.declared.Font.{Font}
@@ -258,27 +258,27 @@ module _ (setting : Setting) (level : Level) (font : Font) (c : Command) (r : As
     subst (λ (kind : Kind). Suits kind r.turn) (sym is-k) suits,
   )
 
-module _ (terms : Terms) (table : List ℕ) (volume : List Command) (level : Level) (font : Font) (params : List ℕ) (bounded : Bounded level) (bytes : (i : ℕ) → get_or params i 0 < 256) where
+module _ (terms : Terms) (volume : List Command) (level : Level) (font : Font) (params : List ℕ) (bounded : Bounded level) (bytes : (i : ℕ) → get_or params i 0 < 256) where
   abbrev past : Turn
   past = Turn.Sideways Stride.RoundedUp (rule_width params)
 
   -- what a rule comes to that is set
   rule_does : (saved : List Level) (adds : Adds) → added_of adds ≡ rule_by terms level (rule_height params) (rule_width params)
-      → did (terms_setting terms table volume) (state_with level saved font) (unless_left Direction.Sideways level (rule_width params) past) adds
-      ≡ set_rule (terms_setting terms table volume) (state_with level saved font) (rule_height params) (rule_width params)
+      → did (terms_setting terms volume) (state_with level saved font) (unless_left Direction.Sideways level (rule_width params) past) adds
+      ≡ set_rule (terms_setting terms volume) (state_with level saved font) (rule_height params) (rule_width params)
   rule_does saved adds e =
       let s = state_with level saved font in
       let leads : Added → Outcome = moves_to Direction.Sideways s (rule_width params) (moved_by Direction.Sideways Stride.RoundedUp terms.ruler font.scale (rule_width params) level) in
-      did_unless (terms_setting terms table volume) s past adds (leaves (level.h +ℤ rule_width params)) ∙ ap leads e
+      did_unless (terms_setting terms volume) s past adds (leaves (level.h +ℤ rule_width params)) ∙ ap leads e
 
   width_small : nat_abs (rule_width params) ≤ 2 ^ 31
   width_small = omega (arith, from_small (256 ^ 4) (unsigned_at params 4 4) (unsigned_below params 4 4 (λ i h. bytes (4 + i))))
 
   pub rule_sets : (r : Asked) → RuleAsks terms level true params r
-      → Comes (terms_setting terms table volume) level font (λ s. set_rule (terms_setting terms table volume) s (rule_height params) (rule_width params)) r.turn r.adds × (turn_frame r.turn ≡ inside)
+      → Comes (terms_setting terms volume) level font (λ s. set_rule (terms_setting terms volume) s (rule_height params) (rule_width params)) r.turn r.adds × (turn_frame r.turn ≡ inside)
   rule_sets r asks = (
     record {
-      does = λ saved. ap (λ (turn : Turn). did (terms_setting terms table volume) (state_with level saved font) turn r.adds) asks.turn_is ∙ rule_does saved r.adds asks.adds_are;
+      does = λ saved. ap (λ (turn : Turn). did (terms_setting terms volume) (state_with level saved font) turn r.adds) asks.turn_is ∙ rule_does saved r.adds asks.adds_are;
       safe = subst (Safe level) (sym asks.turn_is) (safe_unless Direction.Sideways level (rule_width params) past (λ stays. (width_small, stays)));
       words = asks.words;
     },
@@ -286,11 +286,11 @@ module _ (terms : Terms) (table : List ℕ) (volume : List Command) (level : Lev
   )
 
   pub rule_puts : (r : Asked) → RuleAsks terms level false params r
-      → Comes (terms_setting terms table volume) level font (λ s. continues s (rule_added (terms_setting terms table volume) s (rule_height params) (rule_width params))) r.turn r.adds
+      → Comes (terms_setting terms volume) level font (λ s. continues s (rule_added (terms_setting terms volume) s (rule_height params) (rule_width params))) r.turn r.adds
       × (turn_frame r.turn ≡ inside)
   rule_puts r asks = (
     record {
-      does = λ saved. ap (λ (turn : Turn). did (terms_setting terms table volume) (state_with level saved font) turn r.adds) asks.turn_is ∙ ap (continues (state_with level saved font)) asks.adds_are;
+      does = λ saved. ap (λ (turn : Turn). did (terms_setting terms volume) (state_with level saved font) turn r.adds) asks.turn_is ∙ ap (continues (state_with level saved font)) asks.adds_are;
       safe = subst (Safe level) (sym asks.turn_is) tt;
       words = asks.words;
     },

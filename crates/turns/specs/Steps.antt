@@ -4,6 +4,7 @@ use Rattle.units.specs.Rounding.{rounded_up}
 use Rattle.names.specs.Names.{name_number, any_name}
 use Rattle.names.specs.Steps.{InEights}
 use Rattle.scaling.specs.Steps.{sixteenfold_of}
+use Rattle.widths.specs.declared.table.Widths.{Widths}
 use Rattle.widths.specs.Steps.{BlockIs}
 use Rattle.commands.specs.declared.Kind.{Kind}
 use Rattle.commands.specs.Kinds.{is}
@@ -34,10 +35,10 @@ pub record Known (font : Font) : Type 0 where
   pub name_in : InEights font.name
 
 -- what is kept for a font: the sixteenfold of its scale, and where the table's records of its own name and for any name stand
-pub record KeptFor (table : List ℕ) (rows : ℕ) (font : Font) (kept : Kept) : Type 0 where
+pub record KeptFor (widths : Widths) (font : Font) (kept : Kept) : Type 0 where
   pub sixteenfold_is : kept.sixteenfold ≡ sixteenfold_of font.scale
-  pub own_is : BlockIs table rows font.checksum font.scale (name_number font.name) kept.own
-  pub any_is : BlockIs table rows font.checksum font.scale (name_number any_name) kept.any
+  pub own_is : BlockIs widths.bytes.now widths.records font.checksum font.scale (name_number font.name) kept.own
+  pub any_is : BlockIs widths.bytes.now widths.records font.checksum font.scale (name_number any_name) kept.any
 
 -- a state of these
 abbrev pub state_with : Level → List Level → Font → State
@@ -91,8 +92,8 @@ abbrev pub Suits : Kind → Turn → Type 0
 Suits kind turn = turn_frame turn ≡ frame_of kind
 
 -- what the code holds, as the setting of the meaning
-abbrev pub terms_setting : Terms → List ℕ → List Command → Setting
-terms_setting terms table volume = record { ruler = terms.ruler; look = look_in table terms.rows; volume = volume; page = terms.page }
+abbrev pub terms_setting : Terms → List Command → Setting
+terms_setting terms volume = record { ruler = terms.ruler; look = look_in terms.widths.bytes.now terms.widths.records; volume = volume; page = terms.page }
 
 -- what is asked comes to an outcome, whatever the levels that are saved
 pub record Comes (setting : Setting) (level : Level) (font : Font) (outcome : State → Outcome) (turn : Turn) (adds : Adds) : Type 0 where
@@ -101,10 +102,10 @@ pub record Comes (setting : Setting) (level : Level) (font : Font) (outcome : St
   pub words : AddsInWords adds
 
 -- what a character asks, set or put, whatever the volume
-abbrev pub CharacterAsks : Terms → List ℕ → Level → Font → Bool → ℤ → Asked → Type 0
-CharacterAsks terms table level font sets code r =
+abbrev pub CharacterAsks : Terms → Level → Font → Bool → ℤ → Asked → Type 0
+CharacterAsks terms level font sets code r =
     (volume : List Command)
-    → let setting = terms_setting terms table volume in
+    → let setting = terms_setting terms volume in
     Comes setting level font
     (λ s. cond sets (set_character setting s code (setting.look font code)) (put_character setting s code (setting.look font code))) r.turn r.adds
     × (turn_frame r.turn ≡ inside)

@@ -1,19 +1,23 @@
 // One command of a page: the turn of the state that it asks, and what it adds to the page.
 #![tactic(auto)]
 
+ghost use Rattle.units.specs.Steps.{Workable};
+
 use placements::Adds;
 use state::moving::{Ruler, Stride};
 use state::registers::Register;
 use widths::blocks::Block;
+use widths::table::Widths;
 
 pub mod steps;
 
-// What a page is placed by, beside the file and the width table: K and D, how many rows the table has, and the page's number
+// What a page is placed by, beside the file: K and D, the width table, and the page's number
 #[derive(Clone, Copy)]
-pub struct Terms {
+pub struct Terms<'a> {
     pub ruler: Ruler,
-    pub rows: usize,
+    pub widths: Widths<'a>,
     pub page: u64,
+    pub ghost workable: { Workable ruler.k },
 }
 
 // What a walk keeps for a font, so that no character pays for it: sixteen times its scale, less the bits that halving loses, and where the table's records of its own
@@ -25,7 +29,7 @@ pub struct Kept {
     pub any: Block,
 }
 
-// What a command does to the page's state
+// What a command does to the page's state. No closure in its place: the definition `did` says what each turn means, and the walk carries it out where that copies no array.
 #[derive(Clone, Copy)]
 pub enum Turn {
     Stay,

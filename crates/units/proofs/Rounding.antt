@@ -1,8 +1,8 @@
 -- Laws of rounding, and the bounds that its products keep. Assumes nothing.
 use mathlib.Core.Path.{◌≡◌, refl, sym, ap, ◌∙◌, subst}
 use mathlib.Core.Bool.{true, false}
-use Prim.Native.Nat.{ℕ, zero, suc, ◌+◌, ◌-◌, ◌*◌, ◌/◌, ◌≤◌, ◌<◌, ◌^◌}
-use native.Mathlib.Nat.{mul-le-mul, mul-le-mul_left, mul-le-mul_right, div-mul-le_self, div-lt_iff_lt-mul, le-div_iff_mul-le, le-mul_of_pos_right, le_of_mul-le-mul_right, one-mul, two-mul, mul_comm, add-mul, mul-add, div-zero, div-eq_of_lt}
+use Prim.Native.Nat.{ℕ, zero, suc, ◌+◌, ◌-◌, ◌*◌, ◌/◌, ◌≤◌, ◌<◌}
+use native.Mathlib.Nat.{mul-le-mul_right, div-mul-le_self, div-lt_iff_lt-mul, le-div_iff_mul-le, le-mul_of_pos_right, le_of_mul-le-mul_right, one-mul, two-mul, mul_comm, add-mul, mul-add, div-zero, div-eq_of_lt}
 use native.Mathlib.Omega.{arith}
 use borrow.Author.Tests.{ltb-true, lt-ltb}
 use lib.Dec.{T}
@@ -15,13 +15,6 @@ use Rattle.units.specs.Steps.{Workable}
 use Rattle.units.specs.Rounding.{nearest_whole, rounded, rounded_up}
 
 module _ {k : Ratio} (a : Workable k) (m : ℕ) where
-  -- a product of the numerator and a 32-bit magnitude
-  pub product_small : m ≤ 2 ^ 31 → k.p * m ≤ 1073741823 * 2 ^ 31
-  product_small h = mul-le-mul a.small h
-
-  pub twice_small : m ≤ 2 ^ 31 → 2 * k.p * m ≤ 2 * 1073741823 * 2 ^ 31
-  twice_small h = mul-le-mul (mul-le-mul_left 2 a.small) h
-
   -- K is at most 1/2
   pub nearest_half : nearest_whole k m + nearest_whole k m ≤ m + 1
   unfolding nearest_whole

@@ -1,9 +1,6 @@
 -- What the code's own steps give and keep: cancelling before multiplying, since the products of the raw numbers pass 64 bits. No promise cites this. Assumes nothing.
 use Rattle.std.specs.Prelude.{ℕ, ◌*◌, ◌≤◌, ◌<◌, ◌^◌, ◌≡◌}
-use Rattle.refusals.specs.Answer.{Answer, given, refusal}
 use Rattle.units.specs.declared.Ratio.{Ratio}
-use Rattle.units.specs.declared.UnitFound.{UnitFound}
-use Rattle.units.specs.declared.UnitFound.TheVariants as Found
 use Rattle.units.specs.declared.Factors.{Factors}
 use Rattle.units.specs.Unit.{ratio_of}
 
@@ -36,8 +33,3 @@ pub record Workable (k : Ratio) : Type 0 where
   pub small : k.p ≤ 1073741823
   pub half : 2 * k.p ≤ k.q
   pub room : k.q < 2 ^ 60
-
--- what the code's answer says
-abbrev pub unit_answer : UnitFound → Answer Ratio
-unit_answer (Found.Is k) = given k
-unit_answer (Found.Refused r) = refusal r

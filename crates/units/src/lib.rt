@@ -2,25 +2,19 @@
 #![tactic(auto)]
 
 ghost use Rattle.std.specs.Prelude.{◌≡◌, ◌<◌, ◌≤◌, ◌^◌, nat_abs};
+ghost use Rattle.refusals.specs.Answer.{answered};
 ghost use Rattle.units.specs.Divisor.{common_divisor, lowest};
 ghost use Rattle.units.specs.Unit.{in_range, unit_of, drift};
 ghost use Rattle.units.specs.Rounding.{nearest_whole, rounded, rounded_up};
-ghost use Rattle.units.specs.Steps.{product, Cancelled, Units, Workable, unit_answer};
+ghost use Rattle.units.specs.Steps.{product, Cancelled, Units, Workable};
 
-use refusals::Refusal;
+use refusals::{Reason, Refusal};
 
-// P/Q
+// P/Q. What `Workable` says of it is no ghost field: specs/Divisor and specs/LowestTerms build values of this type.
 #[derive(Clone, Copy)]
 pub struct Ratio {
     pub p: u64,
     pub q: u64,
-}
-
-// K, or refusal 12 or 13
-#[derive(Clone, Copy)]
-pub enum UnitFound {
-    Is(Ratio),
-    Refused(Refusal),
 }
 
 // what is left of num, mag and R above the line, and of den and 1000 × 254000 below it
@@ -52,7 +46,7 @@ pub fn lowest_terms(a: u64, b: u64) -> Ratio
     }
 }
 
-// Each factor above the line is cancelled against each below it.
+// Each factor above the line is cancelled against each below it. num, den and mag stay parameters: a file's preamble and a caller's three numbers both come to them.
 fn cancelled(num: u64, den: u64, mag: u64, resolution: u64) -> Factors
     requires units { Units num den mag }
     requires resolution_nonzero { 0 < resolution }
@@ -74,70 +68,59 @@ fn cancelled(num: u64, den: u64, mag: u64, resolution: u64) -> Factors
 }
 
 // P/Q from its factors, or 13. A product that is out of range already is not carried on.
-fn multiplied(num: u64, mag: u64, resolution: u64, den: u64, inch: u64) -> UnitFound
-    requires num_bound { (num < 2 ^ 31) × (mag < 2 ^ 31) × (0 < resolution) × (resolution ≤ 10000) × (den < 2 ^ 31) }
-    requires inch_bound { inch ≤ 254000000 }
-    ensures { unit_answer result ≡ in_range (product num mag resolution den inch) }
+fn multiplied(f: Factors) -> Result<Ratio, Refusal>
+    requires num_bound { (f.num < 2 ^ 31) × (f.mag < 2 ^ 31) × (0 < f.resolution) × (f.resolution ≤ 10000) × (f.den < 2 ^ 31) }
+    requires inch_bound { f.inch ≤ 254000000 }
+    ensures { answered result ≡ in_range (product f.num f.mag f.resolution f.den f.inch) }
 {
     let out = Refusal {
-        number: refusals::UNIT_OUT_OF_RANGE,
+        reason: Reason::UnitOutOfRange,
         place: 0,
     };
-    let most = num * mag;
+    let most = f.num * f.mag;
     if 1073741823 < most {
-        return UnitFound::Refused(out);
+        return Err(out);
     }
-    let p = most * resolution;
-    if 1073741823 < p {
-        return UnitFound::Refused(out);
+    let p = most * f.resolution;
+    let q = f.den * f.inch;
+    if 1073741823 < p || q < 2 * p {
+        return Err(out);
     }
-    let q = den * inch;
-    if q < 2 * p {
-        return UnitFound::Refused(out);
-    }
-    UnitFound::Is(Ratio { p, q })
+    Ok(Ratio { p, q })
 }
 
 // K = num × mag × R / (den × 1000 × 254000) in lowest terms, or 12 or 13.
-pub fn unit_of(num: u64, den: u64, mag: u64, resolution: u64) -> UnitFound
+pub fn unit_of(num: u64, den: u64, mag: u64, resolution: u64) -> Result<Ratio, Refusal>
     requires { Units num den mag }
-    ensures { unit_answer result ≡ unit_of num den mag resolution }
+    ensures { answered result ≡ unit_of num den mag resolution }
 {
-    let outside = Refusal {
-        number: refusals::WRONG_RESOLUTION,
-        place: 0,
-    };
-    if resolution < 1 {
-        return UnitFound::Refused(outside);
+    if !(1..=10000).contains(&resolution) {
+        return Err(Refusal {
+            reason: Reason::WrongResolution,
+            place: 0,
+        });
     }
-    if 10000 < resolution {
-        return UnitFound::Refused(outside);
-    }
-    let f = cancelled(num, den, mag, resolution);
-    multiplied(f.num, f.mag, f.resolution, f.den, f.inch)
+    multiplied(cancelled(num, den, mag, resolution))
 }
 
 // D: how far a pixel may be from the rounded position.
 pub fn drift_of(resolution: u64) -> u64
     ensures { result ≡ drift resolution }
 {
-    if 200 <= resolution {
-        return 2;
+    match resolution {
+        200.. => 2,
+        100.. => 1,
+        _ => 0,
     }
-    if 100 <= resolution {
-        return 1;
-    }
-    0
 }
 
 // The whole part of K × m + 1/2.
+#[tactic(auto, unfolding(crate::specs::Rounding::nearest_whole))]
 fn nearest_whole(k: Ratio, m: u64) -> u64
     requires { Workable k × (m ≤ 2 ^ 31) }
     ensures { result ≡ nearest_whole k m }
 {
-    let p = k.p;
-    let q = k.q;
-    (2 * p * m + q) / (2 * q)
+    (2 * k.p * m + k.q) / (2 * k.q)
 }
 
 // n in pixels, to the nearest; a half goes away from 0.
@@ -145,7 +128,7 @@ pub fn round(k: Ratio, n: i64) -> i64
     requires { Workable k × (nat_abs n ≤ 2 ^ 31) }
     ensures { result ≡ rounded k n }
 {
-    numbers::with_sign(n, nearest_whole(k, numbers::magnitude(n)))
+    numbers::with_sign(n, nearest_whole(k, n.unsigned_abs()))
 }
 
 // K × n rounded up, towards plus infinity.
@@ -155,7 +138,7 @@ pub fn round_up(k: Ratio, n: i64) -> i64
 {
     let p = k.p;
     let q = k.q;
-    let m = numbers::magnitude(n);
+    let m = n.unsigned_abs();
     if n < 0 {
         numbers::with_sign(n, p * m / q)
     } else {

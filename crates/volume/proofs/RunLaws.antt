@@ -1,12 +1,16 @@
 -- Plain commands in a file, one after the other. Assumes nothing.
 use mathlib.Core.Path.{◌≡◌, refl, sym, ◌∙◌, subst}
-use mathlib.Core.Bool.{true, false, true≢false}
+use mathlib.Core.Bool.{Bool, true, false, true≢false}
 use mathlib.Core.List.{List}
 use mathlib.Core.Logic.{⊎_elim}
-use Prim.Native.Nat.{ℕ, ◌+◌, ◌-◌, ◌<◌, ◌≤◌}
+use Prim.Native.Nat.{ℕ, zero, suc, ◌+◌, ◌-◌, ◌<◌, ◌≤◌}
 use native.Mathlib.Omega.{arith}
 use lib.ListN.{length, get_or, take, drop, length-drop}
 use lib.Seq.{length-take-le}
+use Rattle.std.specs.List.{position, position_or_len}
+use Rattle.std.specs.declared.option.Option.TheVariants.{None}
+use Rattle.std.proofs.lemmas.Grind.{common_steps}
+use Rattle.std.proofs.lemmas.List.Sums.{fails_before_first}
 use borrow.Author.Tests.{lt-ltb}
 use Rattle.commands.specs.Kinds.{kind_of}
 use Rattle.commands.specs.Lengths.{fixed_length, size_of}
@@ -14,7 +18,7 @@ use Rattle.commands.specs.Commands.{front, whole}
 use Rattle.numbers.proofs.Radix.{less_or_not}
 use Rattle.commands.proofs.Ranges.{constant_on}
 use Rattle.commands.proofs.Opcodes.{from_250}
-use Rattle.commands.proofs.Lengths.{inner_below}
+use Rattle.commands.proofs.ParameterLengths.{inner_below}
 use Rattle.commands.proofs.Fronts.{after_whole, front_at}
 use Rattle.list.specs.Steps.{command}
 use Rattle.volume.specs.Steps.{is_plain, Passes, none_more, one_more}
@@ -52,6 +56,19 @@ pass_character {file} {from} {at} passed starts low =
     let opcode : ℕ = get_or file at 0 in
     let plain : is_plain (kind_of opcode) ≡ true = constant_on (λ x. is_plain (kind_of x)) true 0 128 (unfold kind_of in refl) (omega arith) (omega arith) in
     pass_one passed starts plain 0 (rw (lt-ltb opcode 128 low)) (omega arith)
+
+-- where no place passes, each byte fails
+pub none_passes : (p : ℕ → Bool) (xs : List ℕ) → position p xs ≡ None → (k : ℕ) → k < length xs → p (get_or xs k 0) ≡ false
+none_passes p xs e k h =
+    let all : length xs ≤ position_or_len p xs = grind (arith, common_steps) in
+    fails_before_first p xs k 0 (omega arith)
+
+-- characters of one byte, so many of them
+pub characters_run : (file : List ℕ) (at n : ℕ) → at + n ≤ length file → ((k : ℕ) → k < n → get_or file (at + k) 0 < 128) → Passes file at (at + n)
+characters_run file at zero fits low = subst (λ (m : ℕ). Passes file at m) (omega arith) none_more
+characters_run file at (suc n) fits low =
+    subst (λ (m : ℕ). Passes file at m) (omega arith)
+    (pass_character (characters_run file at n (omega arith) (λ k h. low k (omega arith))) (omega arith) (low n (omega arith)))
 
 -- two runs, one after the other
 pub passes_on : {file : List ℕ} {from middle at : ℕ} → Passes file from middle → Passes file middle at → Passes file from at

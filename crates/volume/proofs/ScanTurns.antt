@@ -1,5 +1,5 @@
 -- What the scan's loop cites: one turn, by what the code read, judged and noted. Assumes nothing.
-use mathlib.Core.Path.{◌≡◌, sym, ap, ◌∙◌, subst}
+use mathlib.Core.Path.{◌≡◌, refl, sym, ap, ◌∙◌, subst}
 use mathlib.Core.Bool.{true, false}
 use mathlib.Core.List.{List, ◌∷◌}
 use Prim.Native.Nat.{ℕ, ◌+◌, ◌<◌, ◌≤◌, ◌^◌}
@@ -12,10 +12,14 @@ use Rattle.commands.specs.declared.Reading.{Reading}
 use Rattle.commands.specs.Kinds.{kind_of, is}
 use Rattle.commands.specs.Lengths.{fixed_length}
 use Rattle.commands.specs.Commands.{Command, kind_of_command, place}
-use Rattle.commands.proofs.Lengths.{fixed_of, whole_fixed}
+use Rattle.commands.proofs.ParameterLengths.{fixed_of, whole_fixed}
 use Rattle.commands.proofs.Readings.{command_at, Reads}
 use Rattle.list.specs.declared.Volume.{Volume}
-use Rattle.volume.specs.declared.Scanned.{Scanned}
+use Rattle.std.specs.Result.{MatchResult, IsErrAnd}
+use Rattle.std.specs.declared.result.Result.{Result}
+use Rattle.std.specs.declared.result.Result.TheVariants.{Ok, Err}
+use Rattle.refusals.specs.declared.Reason.{Reason}
+use Rattle.refusals.specs.declared.Refusal.{Refusal}
 use Rattle.list.specs.Past.{is_a}
 use Rattle.list.specs.Rules.{fault}
 use Rattle.volume.specs.Judged.{tail, judged}
@@ -30,7 +34,14 @@ pub record Turned (file : List ℕ) (page : ℕ) (kind : Kind) (next : ℕ) (w :
   pub place_held : w.at ≡ next
   pub onward : is kind PostPost ≡ false → Going file page w fonts again
   pub judgement : is kind PostPost ≡ true → tail (summary_of w) next 0 (drop next file) ≡ judged file
-  pub keeping : is kind PostPost ≡ true → (s : Scanned) → Same w s → ScanKeeps file page fonts s
+  pub keeping : is kind PostPost ≡ true → (s : Result Volume Refusal) → Same w s → ScanKeeps file page fonts s
+
+-- ---- what the fault that `map_err` gave a place tells
+
+pub placed_fault : (r : Result (Unit {0}) Reason) (m : Result (Unit {0}) Refusal) (Post : Reason → Refusal → Type 0) → MatchResult r (λ x. m ≡ Ok x) (λ e. IsErrAnd m (Post e))
+    → (q : Refusal) → m ≡ Err q → (e : Reason) × (r ≡ Err e) × Post e q
+placed_fault (Ok x) m Post told q is = let z : Ok x ≡ Err q = sym told ∙ is in let y : ◌≡◌ {A = ℕ} 0 1 = cc in absurd (omega arith)
+placed_fault (Err e) m Post told q is = (e, refl, subst (λ (n : Result (Unit {0}) Refusal). IsErrAnd n (Post e)) is told)
 
 -- the counts are at most the place
 pub record Small (v : Volume) : Type 0 where
@@ -124,15 +135,15 @@ module _ {file : List ℕ} {page : ℕ} {v : Volume} {fonts again : List ℕ} (g
             history_is : history file ≡ c ∷ g.past
             history_is = told_last g c (drop r.next file) read.ahead clean last
 
-            scan_keeps : (s : Scanned) → Same w s → ScanKeeps file page fonts' s
-            scan_keeps (Scanned.Accepted x) same =
+            scan_keeps : (s : Result Volume Refusal) → Same w s → ScanKeeps file page fonts' s
+            scan_keeps (Ok x) same =
                 let back = sym history_is in (
                   sym same ∙ agrees.state ∙ ap (volume_of page) back,
                   subst (Tells false fonts') back agrees.early,
                   subst (AllStanding file) back agrees.standing,
                   subst Lawfully back agrees.lawfully,
                 )
-            scan_keeps (Scanned.Refused x) same = tt
+            scan_keeps (Err x) same = tt
 
           pub turned : Turned file page kind r.next w fonts' again'
           turned = record { place_held = held_at; onward = scan_goes; judgement = scan_ends; keeping = scan_keeps }

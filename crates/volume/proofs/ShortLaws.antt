@@ -9,7 +9,7 @@ use native.Mathlib.Omega.{arith}
 use lib.Dec.{ltb, leb, eqb}
 use lib.ListN.{length, get_or, drop}
 use lib.IntN.{pos}
-use borrow.Author.Tests.{eqb-true, ltb-true, leb-true, lt-ltb, le-ltb, lt-leb, le-leb, eq-eqb, ne_eqb}
+use borrow.Author.Tests.{eqb-true, ltb-true, leb-true, lt-ltb, lt-leb, le-leb, ne_eqb}
 use Rattle.commands.specs.declared.Kind.{Kind}
 use Rattle.commands.specs.declared.Kind.TheVariants.{Push, Pop, Select}
 use Rattle.commands.specs.Kinds.{kind_of}
@@ -17,7 +17,7 @@ use Rattle.commands.specs.Lengths.{fixed_length, size_of}
 use Rattle.commands.specs.Commands.{Command, kind_of_command, front, whole}
 use Rattle.commands.specs.Parameters.{selected_font}
 use Rattle.commands.proofs.Opcodes.{kind_range, range_kind}
-use Rattle.commands.proofs.Lengths.{fixed_of, inner_below}
+use Rattle.commands.proofs.ParameterLengths.{fixed_of, inner_below}
 use Rattle.commands.proofs.Fronts.{after_whole, front_at}
 use Rattle.list.specs.declared.Stage.TheVariants.{OnPage}
 use Rattle.list.specs.declared.Volume.{Volume}
@@ -31,15 +31,6 @@ use Rattle.volume.proofs.Going.{turn_to, passing}
 -- ---- which opcodes may be passed
 
 module _ (opcode depth : ℕ) where
-  pub may_push : opcode ≡ 141 → may_push_or_pop opcode depth ≡ ltb depth 100
-  may_push e = rw (eq-eqb opcode 141 e)
-
-  pub may_pop : opcode ≡ 142 → may_push_or_pop opcode depth ≡ ltb 0 depth
-  may_pop e = rw (ne_eqb opcode 141 (λ z. absurd (omega arith)), eq-eqb opcode 142 e)
-
-  pub may_neither : (opcode ≡ 141 → ⊥) → (opcode ≡ 142 → ⊥) → may_push_or_pop opcode depth ≡ false
-  may_neither no-push no-pop = rw (ne_eqb opcode 141 no-push, ne_eqb opcode 142 no-pop)
-
   -- what may be one of the two is one of them
   pub push_or_pop : may_push_or_pop opcode depth ≡ true → ((opcode ≡ 141) × (depth < 100)) ⊎ ((opcode ≡ 142) × (0 < depth))
   push_or_pop may = by (eqb opcode 141) refl may
@@ -57,15 +48,6 @@ module _ (opcode depth : ℕ) where
       (push_or_pop may)
 
 module _ (fonts : List ℕ) (opcode depth : ℕ) where
-  pub may_select : 171 ≤ opcode → opcode < 235 → may_pass fonts opcode depth ≡ not (eqb (get_or fonts (opcode - 171) 0) 0)
-  may_select low high = rw (le-leb 171 opcode low, lt-ltb opcode 235 high)
-
-  pub may_below : opcode < 171 → may_pass fonts opcode depth ≡ may_push_or_pop opcode depth
-  may_below below = rw (lt-leb 171 opcode below)
-
-  pub may_above : 235 ≤ opcode → may_pass fonts opcode depth ≡ may_push_or_pop opcode depth
-  may_above above = rw (le-leb 171 opcode (omega arith), le-ltb opcode 235 above)
-
   -- what may be passed is a push or a pop, or selects
   pub passes_by : may_pass fonts opcode depth ≡ true
       → (may_push_or_pop opcode depth ≡ true) ⊎ ((171 ≤ opcode) × (opcode < 235) × (not (eqb (get_or fonts (opcode - 171) 0) 0) ≡ true))

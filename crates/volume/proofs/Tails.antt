@@ -1,6 +1,6 @@
 -- The judgement of the bytes after post_post: one byte at a time at a place of the file, and over the written form of the 223s. Assumes nothing.
 use Prim.Native.Nat.{ℕ, zero, suc, ◌+◌, ◌<◌, ◌≤◌}
-use mathlib.Core.Path.{◌≡◌, refl, ◌∙◌}
+use mathlib.Core.Path.{◌≡◌, refl, ap, ap₂, ◌∙◌}
 use mathlib.Core.Bool.{Bool, true, false}
 use mathlib.Core.List.{List, [], ◌∷◌, ◌++◌, append-nil}
 use native.Mathlib.Numerals.{add-one}
@@ -51,6 +51,15 @@ module _ (found : Summary) (file : List ℕ) (at passed : ℕ) where
 
   pub tail_done : length file ≤ at → 4 ≤ passed → tail found at passed (drop at file) ≡ given found
   tail_done h l = rw (drop_of_length-le file h) (tail_enough found at passed l)
+
+-- so many 223s on
+pub tail_on : (found : Summary) (file : List ℕ) (at n : ℕ) → at + n ≤ length file → ((k : ℕ) → k < n → get_or file (at + k) 0 ≡ 223)
+    → tail found at 0 (drop at file) ≡ tail found (at + n) n (drop (at + n) file)
+tail_on found file at zero fits all = ap (λ (m : ℕ). tail found m 0 (drop m file)) (omega arith)
+tail_on found file at (suc n) fits all =
+    tail_on found file at n (omega arith) (λ k h. all k (omega arith))
+    ∙ tail_step found file (at + n) n (omega arith) (all n (omega arith))
+    ∙ ap₂ (λ (m passed : ℕ). tail found m passed (drop m file)) (omega arith) (omega arith)
 
 -- ---- over the 223s
 

@@ -1,6 +1,9 @@
 -- What the code holds of the commands so far, and what it makes of one more; no promise cites this. Assumes nothing.
 use Rattle.std.specs.Prelude.{ℕ, ◌+◌, ◌-◌, ◌<◌, ◌≤◌, ◌≡◌, Bool, true, false, cond, not, ◌&&◌, ◌||◌, List, ltb, leb, eqb, length, get_or, drop, ℤ}
-use Rattle.refusals.specs.Answer.{Answer, given, refusal}
+use Rattle.std.specs.declared.result.Result.{Result}
+use Rattle.std.specs.declared.result.Result.TheVariants.{Ok, Err}
+use Rattle.refusals.specs.declared.Refusal.{Refusal}
+use Rattle.refusals.specs.Answer.{Answer, given, refusal, answered}
 use Rattle.commands.specs.declared.Kind.{Kind}
 use Rattle.commands.specs.declared.Kind.TheVariants.{SetCharacter, SetRule, PutCharacter, PutRule, Nop, Right, W, X, Down, Y, Z}
 use Rattle.commands.specs.Kinds.{is}
@@ -9,10 +12,7 @@ use Rattle.commands.specs.Reading.{longest_file}
 use Rattle.state.specs.Limits.{deepest}
 use Rattle.volume.specs.declared.Summary.{Summary}
 use Rattle.list.specs.declared.Volume.{Volume}
-use Rattle.volume.specs.declared.Scanned.{Scanned}
 use Rattle.list.specs.declared.Part.{Part}
-use Rattle.volume.specs.declared.Named.{Named}
-use Rattle.volume.specs.declared.Checked.{Checked}
 use Rattle.list.specs.Past.{depth, definition_of}
 use Rattle.list.specs.Steps.{Agrees, AllStanding, Lawfully, Tells, volume_of}
 use Rattle.volume.specs.Judged.{judged, judged_from}
@@ -65,39 +65,29 @@ abbrev pub summary_of : Volume → Summary
 summary_of v = record { pages = v.pages; fonts = v.fonts; depth = v.greatest; post = v.post }
 
 -- what the scan's answer says
-abbrev pub scan_answer : Scanned → Answer Summary
-scan_answer (Scanned.Accepted v) = given (summary_of v)
-scan_answer (Scanned.Refused r) = refusal r
-
--- what the check's answer says
-abbrev pub check_answer : Checked → Answer Summary
-check_answer (Checked.Accepted s) = given s
-check_answer (Checked.Refused r) = refusal r
+abbrev pub scan_answer : Result Volume Refusal → Answer Summary
+scan_answer (Ok v) = given (summary_of v)
+scan_answer (Err r) = refusal r
 
 -- what a scan leaves of an accepted file: the state and the font table of its whole history
-abbrev pub ScanKeeps : List ℕ → ℕ → List ℕ → Scanned → Type 0
-ScanKeeps file page fonts (Scanned.Accepted v) = (v ≡ volume_of page (history file)) × Tells false fonts (history file) × AllStanding file (history file) × Lawfully (history file)
-ScanKeeps file page fonts (Scanned.Refused r) = Unit {0}
+abbrev pub ScanKeeps : List ℕ → ℕ → List ℕ → Result Volume Refusal → Type 0
+ScanKeeps file page fonts (Ok v) = (v ≡ volume_of page (history file)) × Tells false fonts (history file) × AllStanding file (history file) × Lawfully (history file)
+ScanKeeps file page fonts (Err r) = Unit {0}
 
 -- what is accepted is what was held
-abbrev pub Same : Volume → Scanned → Type 0
-Same v (Scanned.Accepted w) = v ≡ w
-Same v (Scanned.Refused r) = Unit {0}
+abbrev pub Same : Volume → Result Volume Refusal → Type 0
+Same v (Ok w) = v ≡ w
+Same v (Err r) = Unit {0}
 
 -- ---- names
 
--- what the answer of a name says
-abbrev pub named_answer : Named → Answer Part
-named_answer (Named.At part) = given part
-named_answer (Named.Refused r) = refusal r
-
 -- a part lies within so many bytes
-abbrev pub Inside : ℕ → Named → Type 0
-Inside bytes (Named.At part) = (part.start ≤ part.end) × (part.end ≤ bytes)
-Inside bytes (Named.Refused r) = Unit {0}
+abbrev pub Inside : ℕ → Result Part Refusal → Type 0
+Inside bytes (Ok part) = (part.start ≤ part.end) × (part.end ≤ bytes)
+Inside bytes (Err r) = Unit {0}
 
 -- r says where the name of a font stands
-abbrev pub NamedIs : List ℕ → List ℕ → ℤ → Named → Type 0
+abbrev pub NamedIs : List ℕ → List ℕ → ℤ → Result Part Refusal → Type 0
 NamedIs file fonts number r =
     (past : List Command) → Tells false fonts past → AllStanding file past → Lawfully past
-    → (named_answer r ≡ named_by (definition_of false number past)) × Inside (length file) r
+    → (answered r ≡ named_by (definition_of false number past)) × Inside (length file) r

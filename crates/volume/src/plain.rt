@@ -1,45 +1,52 @@
 // The short way: most commands of a page are plain, which with a font selected change nothing but the place; most of the others push, pop or select.
-ghost use Rattle.std.specs.Prelude.{◌≡◌, ℕ, ◌≤◌, true, List};
+ghost use Rattle.std.specs.Prelude.{◌≡◌, ℕ, ◌≤◌, true, List, leb};
+ghost use Rattle.std.specs.List.{position};
 ghost use Rattle.commands.specs.Kinds.{kind_of};
-ghost use Rattle.commands.specs.Lengths.{lengths};
 ghost use Rattle.list.specs.declared.Stage.TheVariants.{OnPage};
-ghost use Rattle.list.specs.Steps.{changed};
 ghost use Rattle.volume.specs.Steps.{is_plain, Passes, may_push_or_pop, may_pass, Onward};
 
+use commands::{Kind, Lengths};
 use list::{Stage, Volume, progress};
 use state::Page;
 
-// Whether an opcode is one that on a page, with a font selected, changes nothing but the place.
+const PUSH: u8 = 141;
+
+const POP: u8 = 142;
+
+// Whether an opcode is one that on a page, with a font selected, changes nothing but the place. No twin of the cutting's `is_short`: that one has the pushes,
+// pops and short selections, which here `may_pass` judges by depth and fonts.
 fn is_plain(opcode: u8) -> bool
     ensures { result ≡ is_plain (kind_of opcode) }
 {
-    match opcode {
-        0..=138 => true,
-        143..=170 => true,
-        _ => false,
-    }
+    matches!(opcode, 0..=138 | 143..=170)
 }
 
-// The place after the characters of one byte that stand at a place: most of a page is runs of them.
+// The index of the first byte above 127, which is no character of one byte: most of a page is runs of them.
+fn first_long(bytes: &[u8]) -> Option<usize>
+    ensures { result ≡ position (λ byte. leb 128 byte) bytes.now }
+{
+    bytes.iter().position(|byte| 128 <= *byte)
+}
+
+// The place after the characters of one byte that stand at a place.
 fn pass_characters(file: &[u8], at: usize) -> usize
     ensures { Passes file.now at result }
 {
-    let mut place = at;
-    while place < file.len() {
-        if 128 <= file[place] {
-            return place;
-        }
-        place = place + 1;
+    if file.len() <= at {
+        return at;
     }
-    place
+    match first_long(&file[at..]) {
+        Some(characters) => at + characters,
+        None => file.len(),
+    }
 }
 
 // The place after the plain commands that stand at a place.
-pub fn pass_plain(table: &[u8; 122], file: &[u8], at: usize) -> usize
-    requires { table.now ≡ lengths }
+pub fn pass_plain(lengths: &Lengths, file: &[u8], at: usize) -> usize
     ensures { Passes file.now at result }
 {
     let mut place = at;
+    // No range: the place goes on by a command's length.
     loop {
         place = pass_characters(file, place);
         if file.len() <= place {
@@ -49,11 +56,11 @@ pub fn pass_plain(table: &[u8; 122], file: &[u8], at: usize) -> usize
         if !is_plain(opcode) {
             return place;
         }
-        let length = commands::fixed_length(table, opcode);
+        let length = lengths.fixed(opcode);
         if file.len() - place <= length {
             return place;
         }
-        place = place + (1 + length);
+        place += 1 + length;
     }
 }
 
@@ -62,8 +69,8 @@ fn may_push_or_pop(opcode: u8, depth: usize) -> bool
     ensures { result ≡ may_push_or_pop opcode depth }
 {
     match opcode {
-        141 => depth < Page::DEPTH,
-        142 => 0 < depth,
+        PUSH => depth < Page::DEPTH,
+        POP => 0 < depth,
         _ => false,
     }
 }
@@ -73,81 +80,83 @@ fn may_pass(fonts: &[u32; 256], opcode: u8, depth: usize) -> bool
     ensures { result ≡ may_pass fonts.now opcode depth }
 {
     match opcode {
-        171..=234 => fonts[(opcode - 171) as usize] != 0,
+        171..=234 => fonts[usize::from(opcode - 171)] != 0,
         _ => may_push_or_pop(opcode, depth),
     }
 }
 
-// The same volume at another place and depth.
-fn reached(v: Volume, at: usize, depth: usize, greatest: usize) -> Volume
-    ensures { result ≡ changed v v.stage at depth greatest }
-{
-    let mut next = v;
-    next.at = at;
-    next.depth = depth;
-    next.greatest = greatest;
-    next
-}
-
 // The short way on a page with a font selected, as far as it goes.
-fn pass_on(table: &[u8; 122], fonts: &[u32; 256], file: &[u8], v: Volume) -> Volume
-    requires { (table.now ≡ lengths) × (v.stage ≡ OnPage) × (v.selected ≡ true) }
+fn pass_on(lengths: &Lengths, fonts: &[u32; 256], file: &[u8], v: Volume) -> Volume
+    requires { (v.stage ≡ OnPage) × (v.selected ≡ true) }
     ensures onward { Onward file.now fonts.now v result }
     ensures at_le_at { v.at ≤ result.at }
 {
     let mut place = v.at;
     let mut depth = v.depth;
     let mut greatest = v.greatest;
+    // No range: the place goes on by a whole run of plain commands.
     loop {
-        place = pass_plain(table, file, place);
+        place = pass_plain(lengths, file, place);
         if file.len() <= place {
-            return reached(v, place, depth, greatest);
+            break;
         }
         let opcode = file[place];
         if !may_pass(fonts, opcode, depth) {
-            return reached(v, place, depth, greatest);
+            break;
         }
-        depth = progress::next_depth(commands::kind_of(opcode), depth);
-        greatest = progress::greater(greatest, depth);
-        place = place + 1;
+        depth = progress::next_depth(Kind::from(opcode), depth);
+        greatest = greatest.max(depth);
+        place += 1;
+    }
+    Volume {
+        at: place,
+        depth,
+        greatest,
+        ..v
     }
 }
 
-// The short way on a page before a font is selected: over pushes and pops alone, as far as it goes.
+// The short way on a page before a font is selected: over pushes and pops alone, as far as it goes. No twin of `pass_on`: without a font a character breaks a
+// rule, and a selection changes what may follow, so that it passes neither, and has no table of lengths or fonts.
 fn pass_depths(file: &[u8], v: Volume) -> Volume
     requires { v.stage ≡ OnPage }
     ensures by_index { (fonts : List ℕ) → Onward file.now fonts v result }
     ensures at_le_at { v.at ≤ result.at }
 {
-    let mut place = v.at;
     let mut depth = v.depth;
     let mut greatest = v.greatest;
-    while place < file.len() {
-        let opcode = file[place];
+    // The place that is reached is part of the answer: an iterator over the bytes would need a count beside it.
+    for at in v.at..file.len() {
+        let opcode = file[at];
         if !may_push_or_pop(opcode, depth) {
-            return reached(v, place, depth, greatest);
+            return Volume {
+                at,
+                depth,
+                greatest,
+                ..v
+            };
         }
-        depth = progress::next_depth(commands::kind_of(opcode), depth);
-        greatest = progress::greater(greatest, depth);
-        place = place + 1;
+        depth = progress::next_depth(Kind::from(opcode), depth);
+        greatest = greatest.max(depth);
     }
-    reached(v, place, depth, greatest)
+    Volume {
+        at: v.at.max(file.len()),
+        depth,
+        greatest,
+        ..v
+    }
 }
 
 // The short way, where it may be taken.
-pub fn passed(table: &[u8; 122], fonts: &[u32; 256], file: &[u8], v: Volume) -> Volume
-    requires { table.now ≡ lengths }
+pub fn passed(lengths: &Lengths, fonts: &[u32; 256], file: &[u8], v: Volume) -> Volume
     ensures onward { Onward file.now fonts.now v result }
     ensures at_le_at { v.at ≤ result.at }
 {
-    let stage = v.stage;
-    match stage {
-        Stage::OnPage => {
-            if v.selected {
-                return pass_on(table, fonts, file, v);
-            }
-            pass_depths(file, v)
-        }
-        _ => v,
+    if v.stage != Stage::OnPage {
+        return v;
     }
+    if v.selected {
+        return pass_on(lengths, fonts, file, v);
+    }
+    pass_depths(file, v)
 }

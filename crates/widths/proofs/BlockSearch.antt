@@ -19,7 +19,7 @@ use Rattle.widths.specs.declared.blocks.Block.{Block}
 use Rattle.widths.specs.declared.table.Key.{Key}
 use Rattle.widths.specs.Table.{width_record_size, record_in, record_of, checked_table}
 use Rattle.widths.specs.LookUp.{found, absent, metric_of, walk}
-use Rattle.widths.specs.Steps.{block_number, key_number, KeyIs, KeyAt, with_code, FirstNotBelow, BlockIs, Within, same_records, has_code}
+use Rattle.widths.specs.Steps.{block_number, key_number, KeyIs, KeyAt, with_code, FirstNotBelow, BlockIs, Within, has_code}
 use Rattle.widths.proofs.Keys.{character_key, key_number_lem, key_is, key_for, low_key}
 use Rattle.widths.proofs.TableLaws.{fields_right}
 use Rattle.widths.proofs.Search.{Between, search_ends, own_found, walk_misses}
@@ -44,12 +44,6 @@ module _ (table : List ℕ) (bytes : (i : ℕ) → get_or table i 0 < 256) where
       }
 
 -- ---- within a block
-
--- two blocks of the same records are one
-pub records_same : (a b : Block) → same_records a b ≡ true → a ≡ b
-records_same a b e =
-    let both = (and-eq-true_iff (eqb a.start b.start) (eqb a.end b.end)).0 e in
-    ap₂ (λ (start end : ℕ). record { start = start; end = end }) (eqb-true a.start b.start both.0) (eqb-true a.end b.end both.1)
 
 -- a number between the first and the last of a block is in it
 in_between : (block other code first : ℕ) → first ≡ 0 → code < 256 → block * 256 + first ≤ other * 256 + code → other * 256 + code < block * 256 + 256 → other ≡ block

@@ -10,7 +10,7 @@ use lib.ListN.{get_or}
 use borrow.Author.Tests.{eqb-true, eq-eqb}
 use Rattle.numbers.specs.Bytes.{unsigned_at}
 use Rattle.numbers.proofs.Bytes.{unsigned_more, unsigned_join, power_le}
-use Rattle.numbers.proofs.Radix.{joined_twice, first_decides, second_decides, first_same, second_same}
+use Rattle.numbers.proofs.Radix.{joined_twice, second_decides, first_same, second_same}
 use Rattle.widths.specs.declared.table.Key.{Key}
 use Rattle.widths.specs.Table.{WidthRecord, width_record_size, record_at, record_in, record_of}
 use Rattle.widths.specs.LookUp.{is_for}
@@ -47,9 +47,6 @@ low_key named table at low = by (unsigned_at table at 8) refl
 
 -- ---- keys as the code has them
 
-lt_le : {m n : ℕ} → m < n → m ≤ n
-lt_le h = omega arith
-
 pub block_number_lem : {checksum scale name code : ℕ} {k : Key} → KeyIs checksum scale name code k → block_number k ≡ (checksum * 2 ^ 32 + scale) * 2 ^ 128 + name
 block_number_lem {k = k} h = joined_twice k.head k.high k.low (2 ^ 64) ∙ ap₂ (λ (head n : ℕ). head * 2 ^ 128 + n) h.head_is h.name_is
 
@@ -73,47 +70,9 @@ module _ (a b : Key) (a_in : InKey a) (b-in : InKey b) where
         low_same = second_same (a.head * 2 ^ 64 + a.high) (b.head * 2 ^ 64 + b.high) (2 ^ 64) a.low b.low a_in.1 b-in.1 e;
       }
 
-  -- ---- which of two keys is below the other: the first part in which they differ decides
-
-  abbrev upper : Key → ℕ
-  upper k = k.head * 2 ^ 64 + k.high
-
-  module _ (a-code : a.code < 256) where
-    by_block : (block_number a ≡ block_number b → ⊥) → ltb (block_number a) (block_number b) ≡ ltb (key_number a) (key_number b)
-    by_block differ = first_decides (block_number a) (block_number b) 256 a.code b.code a-code b-in.2 differ
-
-    by_upper : (upper a ≡ upper b → ⊥) → ltb (upper a) (upper b) ≡ ltb (key_number a) (key_number b)
-    by_upper differ =
-        first_decides (upper a) (upper b) (2 ^ 64) a.low b.low a_in.1 (lt_le b-in.1) differ
-        ∙ by_block (λ e. differ (first_same (upper a) (upper b) (2 ^ 64) a.low b.low a_in.1 b-in.1 e))
-
-    pub head_decides : (a.head ≡ b.head → ⊥) → ltb a.head b.head ≡ ltb (key_number a) (key_number b)
-    head_decides differ =
-        first_decides a.head b.head (2 ^ 64) a.high b.high a_in.0 (lt_le b-in.0) differ
-        ∙ by_upper (λ e. differ (first_same a.head b.head (2 ^ 64) a.high b.high a_in.0 b-in.0 e))
-
-    module _ (heads : a.head ≡ b.head) where
-      pub high_decides : (a.high ≡ b.high → ⊥) → ltb a.high b.high ≡ ltb (key_number a) (key_number b)
-      high_decides differ =
-          second_decides a.head b.head (2 ^ 64) a.high b.high a_in.0 heads
-          ∙ by_upper (λ e. differ (second_same a.head b.head (2 ^ 64) a.high b.high a_in.0 b-in.0 e))
-
-      module _ (highs : a.high ≡ b.high) where
-        uppers : upper a ≡ upper b
-        uppers = ap₂ (λ (head high : ℕ). head * 2 ^ 64 + high) heads highs
-
-        pub low_decides : (a.low ≡ b.low → ⊥) → ltb a.low b.low ≡ ltb (key_number a) (key_number b)
-        low_decides differ =
-            second_decides (upper a) (upper b) (2 ^ 64) a.low b.low a_in.1 uppers
-            ∙ by_block (λ e. differ (same_parts e).low_same)
-
-        pub code_decides : a.low ≡ b.low → ltb a.code b.code ≡ ltb (key_number a) (key_number b)
-        code_decides lows =
-            second_decides (block_number a) (block_number b) 256 a.code b.code a-code (ap₂ (λ (top low : ℕ). top * 2 ^ 64 + low) uppers lows)
-
-    -- where check sum, scale and name are the same, the codes decide
-    pub code_reaches : block_number a ≡ block_number b → ltb a.code b.code ≡ ltb (key_number a) (key_number b)
-    code_reaches e = second_decides (block_number a) (block_number b) 256 a.code b.code a-code e
+  -- where check sum, scale and name are the same, the codes decide
+  pub code_reaches : a.code < 256 → block_number a ≡ block_number b → ltb a.code b.code ≡ ltb (key_number a) (key_number b)
+  code_reaches a-code e = second_decides (block_number a) (block_number b) 256 a.code b.code a-code e
 
 -- the parts of a key keep to their bytes
 pub in_key : {checksum scale name code : ℕ} {k : Key} → KeyIs checksum scale name code k → InKey k

@@ -1,4 +1,5 @@
 pub mod Keys
+pub mod KeyOrder
 pub mod TableLaws
 pub mod Search
 pub mod Turns

@@ -1,12 +1,11 @@
--- The search by halves finds the first record whose key is not below a key, and in a right table that is what the plain walk finds. Assumes nothing.
+-- In a right table the first record whose key is not below a character's is what the plain walk finds. Assumes nothing.
 use mathlib.Core.Path.{◌≡◌, refl, sym, subst, ◌∙◌}
 use mathlib.Core.Logic.{⊎_elim}
 use mathlib.Core.Bool.{Bool, true, false}
 use mathlib.Core.List.{List}
 use Prim.Native.Nat.{ℕ, zero, suc, ◌+◌, ◌*◌, ◌≤◌, ◌<◌}
-use native.Mathlib.Nat.{lt_trans, eq-or-lt_of_le}
+use native.Mathlib.Nat.{eq-or-lt_of_le}
 use native.Mathlib.Omega.{arith}
-use borrow.Author.Count.{below_more}
 use Rattle.refusals.specs.Answer.{given}
 use Rattle.widths.specs.declared.table.Key.{Key}
 use Rattle.names.specs.Names.{name_size}
@@ -90,37 +89,15 @@ pub or_same : (l : LookUp) → or_else l l ≡ l
 or_same (found m) = refl
 or_same absent = refl
 
--- ---- the search by halves
+-- ---- what a search has found so far
 
 module _ (table : List ℕ) (records key : ℕ) where
-  -- what holds at the head of the loop
+  -- the first is not before `low` nor behind `high`
   pub record Between (low high : ℕ) : Type 0 where
     pub order : low ≤ high
     pub top : high ≤ records
     pub below : (j : ℕ) → j < low → (record_of table j).key < key
     pub above : (j : ℕ) → high ≤ j → j < records → key ≤ (record_of table j).key
-
-  pub search_starts : Between 0 records
-  search_starts = record { order = omega arith; top = omega arith; below = λ j h. absurd (omega arith); above = λ j h l. absurd (omega arith) }
-
-  module _ (judged : checked_table table ≡ given records) (low high middle : ℕ) (b : Between low high) (from : low ≤ middle) (to : middle < high) where
-    pub search_up : (record_of table middle).key < key → Between (middle + 1) high
-    search_up h =
-        record {
-          order = omega arith;
-          top = b.top;
-          below = below_more (λ (j : ℕ). (record_of table j).key < key) middle (λ j l. lt_trans (keys_rise name_size table records judged j middle l (omega (arith, b.top))) h) h;
-          above = b.above;
-        }
-
-    pub search_down : key ≤ (record_of table middle).key → Between low middle
-    search_down h =
-        record {
-          order = from;
-          top = omega (arith, b.top);
-          below = b.below;
-          above = λ j l inside. ⊎_elim (λ (same : middle ≡ j). subst (λ (n : ℕ). key ≤ (record_of table n).key) same h) (λ (past : middle < j). omega (arith, keys_rise name_size table records judged middle j past inside)) (eq-or-lt_of_le l);
-        }
 
   pub search_ends : (low high : ℕ) → Between low high → high ≤ low → FirstNotBelow table records key low
   search_ends low high b h =

@@ -1,14 +1,8 @@
 -- What the code's own steps give and keep; no promise cites this. Assumes nothing.
-use Rattle.std.specs.Prelude.{ℕ, suc, ◌+◌, ◌*◌, ◌^◌, ◌≤◌, ◌<◌, ◌≡◌, Bool, true, not, ◌&&◌, List, ltb, leb, eqb, length}
-use Rattle.refusals.specs.Numbers.{wrong_width_table}
-use Rattle.refusals.specs.Answer.{Answer, refused, given}
+use Rattle.std.specs.Prelude.{ℕ, suc, ◌+◌, ◌*◌, ◌^◌, ◌≤◌, ◌<◌, ◌≡◌, Bool, true, not, ◌&&◌, List, ltb, leb, eqb, length, Option, Some, None}
 use Rattle.names.specs.Names.{name_size, name_then_zeros, name_number, any_name}
 use Rattle.widths.specs.declared.blocks.Block.{Block}
 use Rattle.widths.specs.declared.table.Key.{Key}
-use Rattle.widths.specs.declared.table.Table.{Table}
-use Rattle.widths.specs.declared.table.Table.TheVariants.{Right, Wrong}
-use Rattle.widths.specs.declared.table.Place.{Place}
-use Rattle.widths.specs.declared.table.Place.TheVariants.{At, Nowhere}
 use Rattle.numbers.specs.Sizes.{lawful_size}
 use Rattle.scaling.specs.Scaling.{lawful_first}
 use Rattle.widths.specs.Table.{size_with, WidthRecord, record_in, rises_in, lawful_fields, checked_from, checked_in, record_at, record_of}
@@ -75,24 +69,19 @@ Judging table whole at least = (at ≤ whole) × LeastKey table least × Checkin
 abbrev pub with_code : Key → ℕ → Key
 with_code k code = record { head = k.head; high = k.high; low = k.low; code = code }
 
--- the check's answer: 14 at the place of the first wrong record, or how many records
-abbrev pub table_says : Table → Answer ℕ
-table_says (Right records) = given records
-table_says (Wrong place) = refused wrong_width_table place
-
 -- what stands at the place that a search found
-abbrev pub found_at : List ℕ → Place → LookUp
-found_at table (At index) = found (metric_of (record_of table index))
-found_at table Nowhere = absent
+abbrev pub found_at : List ℕ → Option ℕ → LookUp
+found_at table (Some index) = found (metric_of (record_of table index))
+found_at table None = absent
 
 -- the search for a key found what the walk finds for the character whose key it is
-abbrev pub KeyFound : List ℕ → ℕ → Key → Place → Type 0
+abbrev pub KeyFound : List ℕ → ℕ → Key → Option ℕ → Type 0
 KeyFound table records key r = (checksum scale name byte : ℕ) → KeyIs checksum scale name byte key → found_at table r ≡ walk records table checksum scale name byte
 
 -- a place that a search found is one of the records
-abbrev pub Among : ℕ → Place → Type 0
-Among records (At index) = index < records
-Among records Nowhere = Unit {0}
+abbrev pub Among : ℕ → Option ℕ → Type 0
+Among records (Some index) = index < records
+Among records None = Unit {0}
 
 -- the first of so many records whose key is not below a key
 pub record FirstNotBelow (table : List ℕ) (records key index : ℕ) : Type 0 where
@@ -113,10 +102,6 @@ pub record BlockIs (table : List ℕ) (records checksum scale name : ℕ) (block
 abbrev pub Within : ℕ → Block → Type 0
 Within records block = (block.start ≤ block.end) × (block.end ≤ records)
 
--- two blocks are of the same records
-abbrev pub same_records : Block → Block → Bool
-same_records a b = eqb a.start b.start && eqb a.end b.end
-
 -- an index is that of a record in a block with a code
 abbrev pub has_code : List ℕ → Block → ℕ → ℕ → Bool
 has_code table block byte index = leb block.start index && (ltb index block.end && eqb (record_of table index).code byte)
@@ -127,12 +112,12 @@ FirstCode table records block byte index =
     (checksum scale name : ℕ) (is : BlockIs table records checksum scale name block) → FirstNotBelow table records (key_number (with_code is.key byte)) index
 
 -- the search in a block found what the walk finds for its check sum, scale and name
-abbrev pub CodeFound : List ℕ → ℕ → Block → ℕ → Place → Type 0
+abbrev pub CodeFound : List ℕ → ℕ → Block → ℕ → Option ℕ → Type 0
 CodeFound table records block byte r =
     (checksum scale name : ℕ) → BlockIs table records checksum scale name block → found_at table r ≡ walk records table checksum scale name byte
 
 -- the search by the records of a name and those for any name found what is found for a character of the font
-abbrev pub FoundIn : List ℕ → ℕ → Block → Block → ℕ → Place → Type 0
+abbrev pub FoundIn : List ℕ → ℕ → Block → Block → ℕ → Option ℕ → Type 0
 FoundIn table records own any byte r =
     (checksum scale name : ℕ) → BlockIs table records checksum scale name own → BlockIs table records checksum scale (name_number any_name) any
     → found_at table r ≡ looked_for records table checksum scale name byte

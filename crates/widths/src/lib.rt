@@ -4,6 +4,7 @@
 use scaling::FixWord;
 
 pub mod blocks;
+pub mod halving;
 pub mod table;
 
 // What the table says of a character: its escapement in pixels and its width

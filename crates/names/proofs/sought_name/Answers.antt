@@ -5,7 +5,6 @@ use native.Mathlib.Omega.{arith}
 use mathlib.Core.List.{List}
 use mathlib.Core.Path.{sym, ap, ◌∙◌}
 use Prim.Native.Nat.{ℕ}
-use borrow.Author.Rules.{rules}
 use Rattle.names.proofs.sought_name.Goals as goal
 
 pub returns-then-name-gt-NAME_SIZE : goal.returns-then-name-gt-NAME_SIZE

@@ -1,10 +1,10 @@
 -- `scaling::sixteenfold_of` meets its contract. Assumes nothing.
 use mathlib.Core.Path.{ap}
-use Prim.Native.Nat.{ℕ, ◌*◌}
+use Prim.Native.Nat.{◌*◌}
 use native.Mathlib.Omega.{arith}
 use Rattle.scaling.specs.Scaling.{Halved}
 use Rattle.scaling.specs.Steps.{sixteenfold_of}
-use Rattle.scaling.proofs.Halving.{Left, start, turn, done, alpha_small}
+use Rattle.scaling.proofs.Halving.{start, turn, done}
 use Rattle.scaling.proofs.sixteenfold_of.Goals as goal
 
 pub loop-z-init : goal.loop-z-init

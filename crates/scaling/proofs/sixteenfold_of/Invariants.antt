@@ -1,10 +1,6 @@
 -- `scaling::sixteenfold_of` meets its contract. Assumes nothing.
-use mathlib.Core.Path.{ap}
-use Prim.Native.Nat.{ℕ, ◌*◌}
-use native.Mathlib.Omega.{arith}
-use Rattle.scaling.specs.Scaling.{Halved}
-use Rattle.scaling.specs.Steps.{sixteenfold_of}
-use Rattle.scaling.proofs.Halving.{Left, start, turn, done, alpha_small}
+use Prim.Native.Nat.{ℕ}
+use Rattle.scaling.proofs.Halving.{Left}
 use Rattle.scaling.proofs.sixteenfold_of.Given as goal
 
 abbrev pub invariant-loop-z : goal.invariant-loop-z

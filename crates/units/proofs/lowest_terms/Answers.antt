@@ -1,7 +1,6 @@
 -- `units::lowest_terms` meets its contract. Assumes nothing.
 use mathlib.Core.Path.{ap}
 use Prim.Native.Nat.{ℕ, ◌<◌, ◌/◌}
-use borrow.Author.Rules.{rules}
 use Rattle.units.specs.Divisor.{lowest}
 use Rattle.units.specs.LowestTerms.{ratio}
 use Rattle.units.proofs.Divisor.{gcd_pos}

@@ -1,35 +1,40 @@
 -- `converting::converting::first_named` meets its contract. Assumes nothing.
-use Prim.Native.Nat.{◌+◌, ◌*◌, ◌≤◌}
-use mathlib.Core.Path.{sym, ◌∙◌}
+use Prim.Native.Nat.{ℕ, ◌*◌}
+use mathlib.Core.Bool.{Bool, not}
+use mathlib.Core.List.{List}
+use mathlib.Core.Path.{◌≡◌, sym, ap, ◌∙◌}
 use native.Mathlib.Omega.{arith}
-use lib.ListN.{length}
-use Rattle.names.specs.Names.{name_size}
-use Rattle.widths.proofs.TableLaws.{record_inside}
-use Rattle.widths.specs.Table.{width_record_size, record_in}
-use Rattle.converting.proofs.Unnamed.{unnamed_stops, unnamed_turns, unnamed_ends}
+use lib.Dec.{eqb}
+use Rattle.refusals.specs.Numbers.{named_record}
+use Rattle.refusals.specs.Answer.{given, refused}
+use Rattle.widths.specs.Table.{width_record_size, record_at, record_in}
+use Rattle.converting.proofs.Unnamed.{named, unnamed_stops, unnamed_turns, unnamed_ends}
 use Rattle.converting.proofs.converting.first_named.Goals as goal
 
--- the record of a turn lies within the table
-inside : (c : goal.In-loop-index) → c.loop-index.index * width_record_size + width_record_size ≤ length c.args.table.now
-inside c = let s = c.before.before.before in record_inside name_size s.args.table.now s.args.records s.requires c.loop-index.index (omega arith)
-
-pub overflow_mul-at : goal.overflow_mul-at
-overflow_mul-at c = omega (arith, inside c)
-
-pub is_named-requires : goal.is_named-requires
-is_named-requires c = inside c
-
-pub returns-then-is_named : goal.returns-then-is_named
+-- the test at a record's place is that of the record
+tested : (table : List ℕ) (index at : ℕ) {test : Bool} → at ≡ index * width_record_size → test ≡ not (eqb (record_at table at).name 0) → named table index ≡ test
 unfolding record_in
-returns-then-is_named c =
+tested table index at place e = sym (e ∙ ap (λ (n : ℕ). not (eqb (record_at table n).name 0)) place)
+
+pub returns-then-is_named-clause-result_value : goal.returns-then-is_named-clause-result_value
+returns-then-is_named-clause-result_value c =
+    let w = c.args.widths in
     let l = c.loop-index in
-    sym (unnamed_stops c.args.table.now c.args.records l.index c.loop-index-test.true (sym c.is_named.ensures ∙ c.if-is_named.true)) ∙ l.invariant.1
+    let place = c.place_of-at.ensures.place in
+    ap (refused named_record) place
+    ∙ sym (unnamed_stops w.bytes.now w.records l.index c.loop-index-test.true (tested w.bytes.now l.index c.place_of-at.result place c.is_named.ensures ∙ c.if-is_named.true))
+    ∙ l.invariant
 
 pub loop-index-preserved : goal.loop-index-preserved
-unfolding record_in
 loop-index-preserved c =
+    let w = c.args.widths in
     let l = c.loop-index in
-    (omega arith, sym (unnamed_turns c.args.table.now c.args.records l.index c.loop-index-test.true (sym c.is_named.ensures ∙ c.if-is_named.false)) ∙ l.invariant.1)
+    sym (unnamed_turns w.bytes.now w.records l.index c.loop-index-test.true (tested w.bytes.now l.index c.place_of-at.result c.place_of-at.ensures.place c.is_named.ensures ∙ c.if-is_named.false))
+    ∙ l.invariant
 
-pub returns : goal.returns
-returns c = sym (unnamed_ends c.args.table.now c.args.records c.loop-index.index (omega arith)) ∙ c.loop-index.invariant.1
+pub returns-clause-result_value : goal.returns-clause-result_value
+returns-clause-result_value c =
+    let w = c.args.widths in
+    let l = c.loop-index in
+    let all : w.records ≡ l.index = omega (arith, l.auto.index-end, c.loop-index-test.false) in
+    ap given all ∙ sym (unnamed_ends w.bytes.now w.records l.index (omega arith)) ∙ l.invariant

@@ -14,6 +14,7 @@ use Rattle.widths.proofs.TableLaws.{check_starts, check_ends, check_cut, here, k
 use Rattle.converting.specs.declared.old.OldKey.{OldKey}
 use Rattle.converting.specs.Steps.{old_key_number, OldKeyAt, old_reaches}
 use Rattle.converting.proofs.old.check_old.Goals as goal
+use Rattle.converting.proofs.old.check_old.Goals.{then-not-lawful_key-via-then-not-lawful_key, then-not-lawful_key-via-else-not-lawful_key+then-not-lawful_rest}
 
 -- the key as the code has it is the number of its nine bytes
 old-key-is : (table : List ℕ) (index : ℕ) (k : OldKey) → OldKeyAt table (index * old_record_size) k → old_key_number k ≡ (record_in 0 table index).key
@@ -37,12 +38,6 @@ module _ (table : List ℕ) (at least : ℕ) (checking : Checking 0 table at lea
 pub loop-at-init : goal.loop-at-init
 loop-at-init c = (omega arith, (omega arith, λ h. absurd (omega arith)), check_starts 0 c.args.table.now)
 
-pub key_at-key-requires : goal.key_at-key-requires
-key_at-key-requires c = omega (arith, c.loop-at.invariant.2.place)
-
-pub lawful_key-requires : goal.lawful_key-requires
-lawful_key-requires c = (c.key_at-key.ensures.code_below, c.loop-at.invariant.1)
-
 pub returns-then-not-lawful_key : goal.returns-then-not-lawful_key
 returns-then-not-lawful_key c =
     let table = c.args.table.now in
@@ -51,20 +46,11 @@ returns-then-not-lawful_key c =
     let least = old_key_number l.least in
     let key = c.key_at-key in
     let tested : c.lawful_key.result ≡ key_right 0 table l.at least inv = c.lawful_key.ensures ∙ key-tested table l.at least inv key.result key.ensures in
-    check_key 0 table l.at least inv (omega (arith, inv.place)) (sym tested ∙ c.if-not-lawful_key.true)
-
-pub lawful_rest-requires : goal.lawful_rest-requires
-lawful_rest-requires c = omega (arith, c.loop-at.invariant.2.place)
-
-pub returns-then-not-lawful_rest : goal.returns-then-not-lawful_rest
-returns-then-not-lawful_rest c =
-    let table = c.args.table.now in
-    let l = c.loop-at in
-    let inv = l.invariant.2 in
-    let least = old_key_number l.least in
-    let key = c.key_at-key in
-    let tested : c.lawful_key.result ≡ key_right 0 table l.at least inv = c.lawful_key.ensures ∙ key-tested table l.at least inv key.result key.ensures in
-    check_rest 0 table l.at least inv (omega (arith, inv.place)) (sym tested ∙ c.if-not-lawful_key.false) (sym c.lawful_rest.ensures ∙ c.if-not-lawful_rest.true)
+    elim c.then-not-lawful_key.branch [
+      | then-not-lawful_key-via-then-not-lawful_key w ↦ check_key 0 table l.at least inv (omega (arith, inv.place)) (sym tested ∙ w.if-not-lawful_key.true)
+      | then-not-lawful_key-via-else-not-lawful_key+then-not-lawful_rest w ↦
+          check_rest 0 table l.at least inv (omega (arith, inv.place)) (sym tested ∙ w.if-not-lawful_key.false) (sym w.lawful_rest.ensures ∙ w.if-not-lawful_rest.true)
+    ]
 
 pub loop-at-preserved : goal.loop-at-preserved
 loop-at-preserved c =

@@ -12,6 +12,6 @@ returns c =
     record {
       head_is = c.unsigned_at.ensures.value ∙ unsigned_join table at 4 4;
       scale_below = unsigned_below table (at + 4) 4 (λ i h. omega (arith, c.type_inv.table (at + 4 + i)));
-      code_is = c.wide-code.ensures.0;
-      code_below = c.wide-code.ensures.1;
+      code_is = c.from.ensures;
+      code_below = omega (arith, c.from.ensures, c.type_inv.table (at + 8));
     }

@@ -4,8 +4,8 @@ use lib.ListN.{length}
 use Prim.Native.Nat.{◌-◌}
 use Rattle.cutting.proofs.choosing.right_list.Given as goal
 
-abbrev pub invariant-loop-index : goal.invariant-loop-index
-invariant-loop-index l = Judging l.last l.list l.before l.index
+abbrev pub invariant-loop-page : goal.invariant-loop-page
+invariant-loop-page l = Judging l.last l.list l.before l.page-index
 
-abbrev pub decreases-loop-index : goal.decreases-loop-index
-decreases-loop-index l = length l.list - l.index
+abbrev pub decreases-loop-page : goal.decreases-loop-page
+decreases-loop-page l = length l.list - l.page-index

@@ -4,8 +4,8 @@ use lib.ListN.{length}
 use Prim.Native.Nat.{◌-◌}
 use Rattle.cutting.proofs.counting.count.Given as goal
 
-abbrev pub invariant-loop-m : goal.invariant-loop-m
-invariant-loop-m l = Counting l.file l.list l.at l.p l.m
+abbrev pub invariant-loop-step : goal.invariant-loop-step
+invariant-loop-step l = Counting l.file l.list l.at l.p l.m
 
-abbrev pub decreases-loop-m : goal.decreases-loop-m
-decreases-loop-m l = length l.file - l.at
+abbrev pub decreases-loop-step : goal.decreases-loop-step
+decreases-loop-step l = length l.file - l.at

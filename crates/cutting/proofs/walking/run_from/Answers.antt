@@ -14,22 +14,22 @@ on_page {file = file} {from = from} {reached = reached} on e runs = subst (λ (b
 pub loop-run-init : goal.loop-run-init
 loop-run-init c = runs_none
 
-pub returns-then-file-place : goal.returns-then-file-place
-returns-then-file-place c =
-    on_page c.args.p.on c.if-not-p.false (runs_plain c.loop-run.invariant (runs_reached c.requires.3 c.loop-run.invariant) c.pass_plain-place.ensures)
+pub returns-then-file-run : goal.returns-then-file-run
+returns-then-file-run c =
+    on_page c.args.p.on c.if-not-p.false (runs_plain c.loop-run.invariant (runs_reached c.requires.2 c.loop-run.invariant) c.pass_plain.ensures)
 
 pub returns-then-not-is_short : goal.returns-then-not-is_short
 returns-then-not-is_short c =
-    on_page c.args.p.on c.if-not-p.false (runs_plain c.loop-run.invariant (runs_reached c.requires.3 c.loop-run.invariant) c.pass_plain-place.ensures)
+    on_page c.args.p.on c.if-not-p.false (runs_plain c.loop-run.invariant (runs_reached c.requires.2 c.loop-run.invariant) c.pass_plain.ensures)
 
-pub next_depth-after-requires : goal.next_depth-after-requires
-next_depth-after-requires c = λ pushes.
-    omega (arith, runs_shallow c.requires.2 (runs_plain c.loop-run.invariant (runs_reached c.requires.3 c.loop-run.invariant) c.pass_plain-place.ensures), c.requires.1)
+pub next_depth-requires : goal.next_depth-requires
+next_depth-requires c = λ pushes.
+    omega (arith, runs_shallow c.requires.1 (runs_plain c.loop-run.invariant (runs_reached c.requires.2 c.loop-run.invariant) c.pass_plain.ensures), c.requires.0)
 
 pub loop-run-smaller : goal.loop-run-smaller
-loop-run-smaller c = omega (arith, forward c.pass_plain-place.ensures)
+loop-run-smaller c = omega (arith, forward c.pass_plain.ensures)
 
 pub loop-run-preserved : goal.loop-run-preserved
 loop-run-preserved c =
     let short = sym c.is_short.ensures ∙ c.if-not-is_short.false in
-    runs_short (runs_plain c.loop-run.invariant (runs_reached c.requires.3 c.loop-run.invariant) c.pass_plain-place.ensures) (omega arith) short c.kind_of.ensures c.next_depth-after.ensures c.greater.ensures
+    runs_short (runs_plain c.loop-run.invariant (runs_reached c.requires.2 c.loop-run.invariant) c.pass_plain.ensures) (omega arith) short c.from.ensures c.next_depth.ensures c.max.ensures

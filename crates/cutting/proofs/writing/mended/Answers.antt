@@ -22,7 +22,7 @@ returns-in-Bop c =
     let long : length command ≡ 45 = rw k at c.requires.0 in
     let fits : m.size + 45 ≤ length c.args.out.now = rw k at c.requires.1 in
     let copied = pasted_sets c.args.out.now m.size command _ (omega (arith, fits, long)) c.paste.ensures in
-    record { value = rw (k, long) refl; out_after = rw k (written_within c.args.out.now m.size command 41 (bytes_of 4 m.bop) _ _ copied c.put_pointer.ensures (omega (arith, long, length_bytes 4 m.bop))) }
+    record { value = rw (k, long) refl; out_after = rw k (written_within c.args.out.now m.size command 41 (bytes_of 4 m.bop) _ _ copied c.put_number.ensures (omega (arith, long, length_bytes 4 m.bop))) }
 
 pub returns-in-Post : goal.returns-in-Post
 returns-in-Post c =
@@ -33,11 +33,11 @@ returns-in-Post c =
     let long : length command ≡ 29 = rw k at c.requires.0 in
     let fits : m.size + 29 ≤ length out = rw k at c.requires.1 in
     let copied = pasted_sets out m.size command _ (omega (arith, fits, long)) c.paste.ensures in
-    let pointed = written_within out m.size command 1 (bytes_of 4 m.bop) _ _ copied c.put_pointer-in-Post.ensures (omega (arith, long, length_bytes 4 m.bop)) in
+    let pointed = written_within out m.size command 1 (bytes_of 4 m.bop) _ _ copied c.put_number-in-Post.ensures (omega (arith, long, length_bytes 4 m.bop)) in
     let long-pointed : length (sets command 1 (bytes_of 4 m.bop)) ≡ 29 = length-sets command 1 (bytes_of 4 m.bop) ∙ long in
-    let deep = written_within out m.size (sets command 1 (bytes_of 4 m.bop)) 25 (bytes_of 2 c.args.greatest) _ _ pointed c.put_count.ensures (omega (arith, long-pointed, length_bytes 2 c.args.greatest)) in
-    let long-deep : length (sets (sets command 1 (bytes_of 4 m.bop)) 25 (bytes_of 2 c.args.greatest)) ≡ 29 = length-sets (sets command 1 (bytes_of 4 m.bop)) 25 (bytes_of 2 c.args.greatest) ∙ long-pointed in
-    record { value = rw (k, long) refl; out_after = rw k (written_within out m.size (sets (sets command 1 (bytes_of 4 m.bop)) 25 (bytes_of 2 c.args.greatest)) 27 (bytes_of 2 c.args.pages) _ _ deep c.put_count-in-Post.ensures (omega (arith, long-deep, length_bytes 2 c.args.pages))) }
+    let deep = written_within out m.size (sets command 1 (bytes_of 4 m.bop)) 25 (bytes_of 2 c.args.totals.greatest) _ _ pointed c.put_number-in-Post-2.ensures (omega (arith, long-pointed, length_bytes 2 c.args.totals.greatest)) in
+    let long-deep : length (sets (sets command 1 (bytes_of 4 m.bop)) 25 (bytes_of 2 c.args.totals.greatest)) ≡ 29 = length-sets (sets command 1 (bytes_of 4 m.bop)) 25 (bytes_of 2 c.args.totals.greatest) ∙ long-pointed in
+    record { value = rw (k, long) refl; out_after = rw k (written_within out m.size (sets (sets command 1 (bytes_of 4 m.bop)) 25 (bytes_of 2 c.args.totals.greatest)) 27 (bytes_of 2 c.args.totals.pages) _ _ deep c.put_number-in-Post-3.ensures (omega (arith, long-deep, length_bytes 2 c.args.totals.pages))) }
 
 pub returns-in_default : goal.returns-in_default
 returns-in_default c =
@@ -51,5 +51,5 @@ returns-in_default c =
     let copied = pasted_sets out m.size command _ (omega (arith, c.requires.0, c.requires.1)) c.paste.ensures in
     record {
       value = rw (bop, post, long) refl;
-      out_after = rw (bop, post) (written_within out m.size command 1 (bytes_of 4 m.post) _ _ copied c.put_pointer-in_default.ensures (omega (arith, long, length_bytes 4 m.post)));
+      out_after = rw (bop, post) (written_within out m.size command 1 (bytes_of 4 m.post) _ _ copied c.put_number-in_default.ensures (omega (arith, long, length_bytes 4 m.post)));
     }

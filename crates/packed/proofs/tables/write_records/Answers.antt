@@ -14,8 +14,8 @@ pub checksum_of-checksum-requires : goal.checksum_of-checksum-requires
 checksum_of-checksum-requires c =
     (judged_preambled c.args.pk.now c.requires.past c.requires.judged).there
 
-pub loop-code-init : goal.loop-code-init
-loop-code-init c =
+pub loop-at-init : goal.loop-at-init
+loop-at-init c =
     let pk = c.args.pk.now in
     writing_start
     pk
@@ -29,25 +29,25 @@ loop-code-init c =
 pub put_record-written-requires : goal.put_record-written-requires
 put_record-written-requires c =
     let a = c.args in
-    let l = c.loop-code in
-    putting a.pk.now a.scale a.places.now a.out.now c.checksum_of-checksum.result l.out l.written l.code l.invariant (omega arith)
+    let l = c.loop-at in
+    putting a.pk.now a.scale a.places.now a.out.now c.checksum_of-checksum.result l.out l.written l.at-index l.invariant (omega arith)
 
-pub loop-code-preserved : goal.loop-code-preserved
-loop-code-preserved c =
+pub loop-at-preserved : goal.loop-at-preserved
+loop-at-preserved c =
     let a = c.args in
-    let l = c.loop-code in
+    let l = c.loop-at in
     let put = c.put_record-written in
-    let on = writing_on a.pk.now a.scale a.places.now a.out.now c.checksum_of-checksum.result l.out l.written l.code l.invariant (omega arith) in
+    let on = writing_on a.pk.now a.scale a.places.now a.out.now c.checksum_of-checksum.result l.out l.written l.at-index l.invariant (omega arith) in
     subst
-    (λ (n : ℕ). Writing a.pk.now a.scale a.places.now a.out.now c.checksum_of-checksum.result put.new.out n (l.code + 1))
+    (λ (n : ℕ). Writing a.pk.now a.scale a.places.now a.out.now c.checksum_of-checksum.result put.new.out n (l.at-index + 1))
     (sym put.ensures.value)
     (subst
-    (λ (area : List ℕ). Writing a.pk.now a.scale a.places.now a.out.now c.checksum_of-checksum.result area (cond (ltb 0 (get_or a.places.now l.code 0)) (l.written + width_record_size) l.written) (l.code + 1))
+    (λ (area : List ℕ). Writing a.pk.now a.scale a.places.now a.out.now c.checksum_of-checksum.result area (cond (ltb 0 (get_or a.places.now l.at-index 0)) (l.written + width_record_size) l.written) (l.at-index + 1))
     (sym put.ensures.out_after)
     on)
 
 pub returns : goal.returns
 returns c =
     let a = c.args in
-    let l = c.loop-code in
-    writing_end a.pk.now a.scale a.places.now a.out.now c.checksum_of-checksum.result l.out l.written l.code l.invariant (omega arith)
+    let l = c.loop-at in
+    writing_end a.pk.now a.scale a.places.now a.out.now c.checksum_of-checksum.result l.out l.written l.at-index l.invariant (omega arith)

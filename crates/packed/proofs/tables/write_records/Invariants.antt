@@ -3,8 +3,8 @@ use Prim.Native.Nat.{◌-◌}
 use Rattle.packed.proofs.Writing.{Writing}
 use Rattle.packed.proofs.tables.write_records.Given as goal
 
-abbrev pub invariant-loop-code : goal.invariant-loop-code
-invariant-loop-code l = Writing l.pk l.scale l.places l.initial.out l.checksum l.out l.written l.code
+abbrev pub invariant-loop-at : goal.invariant-loop-at
+invariant-loop-at l = Writing l.pk l.scale l.places l.initial.out l.checksum l.out l.written l.at-index
 
-abbrev pub decreases-loop-code : goal.decreases-loop-code
-decreases-loop-code l = 256 - l.code
+abbrev pub decreases-loop-at : goal.decreases-loop-at
+decreases-loop-at l = 256 - l.at-index

@@ -4,12 +4,15 @@ use mathlib.Core.List.{List, [], ◌∷◌, ◌++◌}
 use Prim.Native.Nat.{ℕ, ◌*◌, ◌<◌, ◌≤◌}
 use native.Mathlib.Omega.{arith}
 use lib.ListN.{length}
-use Rattle.refusals.specs.Answer.{Answer}
+use Rattle.std.proofs.lemmas.Result.{err_from_is_err_and}
+use Rattle.std.specs.declared.result.Result.{Result}
+use Rattle.std.specs.declared.result.Result.TheVariants.{Ok, Err}
+use Rattle.refusals.specs.declared.Refusal.{Refusal}
+use Rattle.refusals.specs.Answer.{Answer, answered}
 use Rattle.volume.specs.History.{history}
 use Rattle.state.specs.Registers.{fresh_state}
 use Rattle.state.specs.declared.moving.Ruler.{Ruler}
 use Rattle.placements.specs.declared.Counts.{Counts}
-use Rattle.page.specs.declared.Walked.{Walked}
 use Rattle.placements.specs.Records.{placement_record_size}
 use Rattle.page.specs.PageList.{page_of}
 use Rattle.turns.specs.declared.Terms.{Terms}
@@ -42,54 +45,52 @@ nothing_written (byte ∷ area) e = absurd (omega arith)
 unchanged : (area entry : List ℕ) → length area ≡ 0 → area ++ entry ≡ entry
 unchanged area entry e = ap (λ (a : List ℕ). a ++ entry) (nothing_written area e)
 
-module _ (terms : Terms) (table file area : List ℕ) where
+module _ (terms : Terms) (file area : List ℕ) where
   abbrev setting : Setting
-  setting = terms_setting terms table (history file)
+  setting = terms_setting terms (history file)
+
+  abbrev page : List Located
+  page = page_of terms.page (history file)
 
   abbrev answer : Answer Contents
-  answer = by setting (page_of terms.page (history file)) terms.ruler
+  answer = by setting page terms.ruler
 
-  shows : {walked r : Walked} → ending_of area walked ≡ finish [] zero_counts (by setting (page_of terms.page (history file)) counting) → walked ≡ r
-      → ending_of area r ≡ finish [] zero_counts answer
-  shows told is = subst (λ (x : Walked). ending_of area x ≡ finish [] zero_counts answer) is (told ∙ same_counts setting (page_of terms.page (history file)) terms.ruler)
+  shows : {walked r : Result Counts Refusal} → ending_of area walked ≡ finish [] zero_counts (by setting page counting) → walked ≡ r → ending_of area r ≡ finish [] zero_counts answer
+  shows told is = subst (λ (x : Result Counts Refusal). ending_of area x ≡ finish [] zero_counts answer) is (told ∙ same_counts setting page terms.ruler)
 
-  counted : {walked : Walked} {counts : Counts} → ending_of area walked ≡ finish [] zero_counts (by setting (page_of terms.page (history file)) counting) → walked ≡ Walked.Through counts
-      → Through [] answer area counts
+  counted : {walked : Result Counts Refusal} {counts : Counts} → ending_of area walked ≡ finish [] zero_counts (by setting page counting) → walked ≡ Ok counts → Through [] answer area counts
   counted {counts = counts} told is = walk_through [] answer area counts (shows told is)
 
 -- ---- the goals
+
+pub returns-in_err-counts : goal.returns-in_err-counts
+returns-in_err-counts c =
+    let a = c.args in
+    let entry = a.out.now in
+    let (passed, is, same) = err_from_is_err_and c.from_residual.result c.from_residual.ensures.1 in
+    let both = left_to (answer a.terms.now a.file.now c.walk.new.out) entry _ (shows a.terms.now a.file.now c.walk.new.out c.walk.ensures.result_after c.in_err-counts.was) in
+    record { result_value = ap answered (is ∙ ap Err same) ∙ both.0; out_after = unchanged c.walk.new.out entry c.walk.auto.out ∙ both.1 }
 
 pub returns-then-out-counts : goal.returns-then-out-counts
 returns-then-out-counts c =
     let a = c.args in
     let entry = a.out.now in
-    let page = answer a.terms a.widths.now a.file.now c.walk.new.out in
-    let counts = c.in-Through.counts in
+    let counts = c.in_ok-counts.counts in
     let same : c.walk.new.out ++ entry ≡ entry = unchanged c.walk.new.out entry c.walk.auto.out in
     let few : length entry < placement_record_size * counts.records = subst (λ (area : List ℕ). length area < placement_record_size * counts.records) same c.if-out-counts.true in
-    let both = short_to page entry (counted a.terms a.widths.now a.file.now c.walk.new.out c.walk.ensures.result_after c.in-Through.is) few in
-    record { result_value = c.refused-then-out-counts.ensures ∙ both.0; out_after = same ∙ both.1 }
+    let both = short_to (answer a.terms.now a.file.now c.walk.new.out) entry (counted a.terms.now a.file.now c.walk.new.out c.walk.ensures.result_after c.in_ok-counts.was) few in
+    record { result_value = both.0; out_after = same ∙ both.1 }
 
-pub returns-in-Left : goal.returns-in-Left
-returns-in-Left c =
+pub returns : goal.returns
+returns c =
     let a = c.args in
     let entry = a.out.now in
-    let page = answer a.terms a.widths.now a.file.now c.walk.new.out in
-    let place = c.in-Left.place in
-    let both = left_to page entry place (shows a.terms a.widths.now a.file.now c.walk.new.out c.walk.ensures.result_after c.in-Left.is) in
-    record { result_value = c.refused.ensures ∙ both.0; out_after = unchanged c.walk.new.out entry c.walk.auto.out ∙ both.1 }
-
-pub returns-else-out-counts : goal.returns-else-out-counts
-returns-else-out-counts c =
-    let a = c.args in
-    let entry = a.out.now in
-    let page = answer a.terms a.widths.now a.file.now c.walk.new.out in
-    let counts = c.in-Through.counts in
+    let page = answer a.terms.now a.file.now c.walk.new.out in
+    let counts = c.in_ok-counts.counts in
     let same : c.walk.new.out ++ entry ≡ entry = unchanged c.walk.new.out entry c.walk.auto.out in
     let room : placement_record_size * counts.records ≤ length entry = subst (λ (area : List ℕ). placement_record_size * counts.records ≤ length area) same c.if-out-counts.false in
-    let first = counted a.terms a.widths.now a.file.now c.walk.new.out c.walk.ensures.result_after c.in-Through.is in
-    let walk2 = c.walk-in-Through in
-    let ending = subst (λ (area : List ℕ). ending_of walk2.new.out walk2.result ≡ finish area zero_counts page) same walk2.ensures.result_after in
-    let (counts', second) = walk_again entry walk2.result page walk2.new.out first.answer_is ending in
-    let both = all_to page entry first room walk2.new.out counts' second in
-    record { result_value = both.0; out_after = both.1 }
+    let first = counted a.terms.now a.file.now c.walk.new.out c.walk.ensures.result_after c.in_ok-counts.was in
+    let ending = subst (λ (area : List ℕ). ending_of c.walk-2.new.out c.walk-2.result ≡ finish area zero_counts page) same c.walk-2.ensures.result_after in
+    let (counts', is, second) = walk_again entry c.walk-2.result page c.walk-2.new.out first.answer_is ending in
+    let both = all_to page entry first room c.walk-2.new.out counts' second in
+    record { result_value = ap answered is ∙ both.0; out_after = both.1 }

@@ -1,7 +1,6 @@
 -- `state::moving::move_past` meets its contract. Assumes nothing.
-use mathlib.Core.Path.{◌≡◌, ap, ap₂, ◌∙◌}
+use mathlib.Core.Path.{ap, ap₂, ◌∙◌}
 use Prim.Native.Nat.{◌^◌}
-use native.Mathlib.Omega.{arith}
 use lib.IntN.{ℤ, ◌+ℤ◌}
 use Rattle.units.specs.Rounding.{rounded}
 use Rattle.state.specs.declared.moving.KeptSpot.{KeptSpot}

@@ -10,8 +10,8 @@ use Rattle.volume.proofs.plain.is_plain.Goals as goal
 pub returns-in-0-to-138 : goal.returns-in-0-to-138
 returns-in-0-to-138 c = sym (constant_on (λ x. is_plain (kind_of x)) true 0 139 (unfold kind_of in refl) (omega arith) (omega arith))
 
-pub returns-in-143-to-170 : goal.returns-in-143-to-170
-returns-in-143-to-170 c = sym (constant_on (λ x. is_plain (kind_of x)) true 143 28 (unfold kind_of in refl) (omega arith) (omega arith))
+pub returns-in-0-to-138-2 : goal.returns-in-0-to-138-2
+returns-in-0-to-138-2 c = sym (constant_on (λ x. is_plain (kind_of x)) true 143 28 (unfold kind_of in refl) (omega arith) (omega arith))
 
 pub returns-in_default : goal.returns-in_default
 returns-in_default c = sym (constant_on (λ x. is_plain (kind_of x)) false 139 4 (unfold kind_of in refl) (omega arith) (omega arith))

@@ -8,12 +8,12 @@ use Rattle.volume.proofs.plain.pass_depths.Goals as goal
 
 pub next_depth-depth-requires : goal.next_depth-depth-requires
 next_depth-depth-requires c = λ pushes.
-    let l = c.loop-place in
+    let l = c.loop-at in
     let may = sym c.may_push_or_pop.ensures ∙ c.if-not-may_push_or_pop.false in
-    omega (arith, push_shallow (get_or c.args.file.now l.place 0) l.depth may (sym c.kind_of.ensures ∙ pushes))
+    omega (arith, push_shallow (get_or c.args.file.now l.at 0) l.depth may (sym c.from.ensures ∙ pushes))
 
-pub loop-place-preserved : goal.loop-place-preserved
-loop-place-preserved c =
-    let l = c.loop-place in
+pub loop-at-preserved : goal.loop-at-preserved
+loop-at-preserved c =
+    let l = c.loop-at in
     let may = sym c.may_push_or_pop.ensures ∙ c.if-not-may_push_or_pop.false in
-    (λ fonts. onward_depth c.requires (l.invariant.0 fonts) (omega arith) c.kind_of.ensures c.next_depth-depth.ensures c.greater-greatest.ensures may, omega (arith, l.invariant.1))
+    (λ fonts. onward_depth c.requires (l.invariant.0 fonts) (omega arith) c.from.ensures c.next_depth-depth.ensures c.max-greatest.ensures may, omega (arith, l.invariant.1))

@@ -16,8 +16,8 @@ returns-then-file-place c = passes_on c.loop-place.invariant c.pass_characters-p
 pub returns-then-not-is_plain : goal.returns-then-not-is_plain
 returns-then-not-is_plain c = passes_on c.loop-place.invariant c.pass_characters-place.ensures
 
-pub fixed_length-length-requires : goal.fixed_length-length-requires
-fixed_length-length-requires c = (c.requires, omega (arith, plain_below _ (sym c.is_plain.ensures ∙ c.if-not-is_plain.false)))
+pub fixed-length-requires : goal.fixed-length-requires
+fixed-length-requires c = omega (arith, plain_below _ (sym c.is_plain.ensures ∙ c.if-not-is_plain.false))
 
 pub returns-then-file-place-2 : goal.returns-then-file-place-2
 returns-then-file-place-2 c = passes_on c.loop-place.invariant c.pass_characters-place.ensures
@@ -27,4 +27,4 @@ loop-place-smaller c = omega (arith, forward c.pass_characters-place.ensures)
 
 pub loop-place-preserved : goal.loop-place-preserved
 loop-place-preserved c =
-    pass_one (passes_on c.loop-place.invariant c.pass_characters-place.ensures) (omega arith) (sym c.is_plain.ensures ∙ c.if-not-is_plain.false) _ c.fixed_length-length.ensures (omega arith)
+    pass_one (passes_on c.loop-place.invariant c.pass_characters-place.ensures) (omega arith) (sym c.is_plain.ensures ∙ c.if-not-is_plain.false) _ c.fixed-length.ensures (omega arith)

@@ -9,15 +9,21 @@ use lib.ListN.{replicate}
 use Rattle.commands.specs.declared.Kind.{Kind}
 use Rattle.commands.specs.declared.Kind.TheVariants.{PostPost}
 use Rattle.commands.specs.Kinds.{is}
-use Rattle.commands.specs.Steps.{read_answer}
+use Rattle.std.proofs.Common.{rules}
+use Rattle.std.proofs.lemmas.Result.{err_from_is_err_and}
+use Rattle.std.specs.Result.{is_ok}
+use Rattle.std.specs.declared.result.Result.TheVariants.{Err}
+use Rattle.refusals.specs.Numbers.{number_of}
+use Rattle.refusals.specs.Answer.{refused, answered}
 use Rattle.commands.proofs.Readings.{given_reads}
 use Rattle.list.specs.declared.Volume.{Volume}
 use Rattle.volume.specs.Judged.{judged}
-use Rattle.list.specs.Steps.{volume_of}
-use Rattle.volume.specs.Steps.{Going}
+use Rattle.list.specs.Steps.{volume_of, fault_number}
+use Rattle.volume.specs.Steps.{Going, scan_answer}
 use Rattle.list.proofs.Arms.{is_kind}
+use Rattle.list.proofs.Reasons.{some_number, no_fault}
 use Rattle.volume.proofs.Going.{starting, turn_unread}
-use Rattle.volume.proofs.ScanTurns.{small, next_is, next_small, fixed_fits, opcode_defined, with_room_lem, scan_stops, lawfully_numbered, turned}
+use Rattle.volume.proofs.ScanTurns.{placed_fault, small, next_is, next_small, fixed_fits, opcode_defined, with_room_lem, scan_stops, lawfully_numbered, turned}
 use Rattle.volume.proofs.scanning.scan.Goals as goal
 
 -- a command of another kind is not the last
@@ -32,95 +38,107 @@ pub returns-then-file-gt-LONGEST_FILE : goal.returns-then-file-gt-LONGEST_FILE
 unfolding judged
 returns-then-file-gt-LONGEST_FILE c = record { result_value = simp (lt-ltb _ _ c.if-file-gt-LONGEST_FILE.true); scan_keeps = tt }
 
-pub loop-refusal-init : goal.loop-refusal-init
-loop-refusal-init c =
+pub loop-reading-init : goal.loop-reading-init
+loop-reading-init c =
     subst (λ (v : Volume). Going c.args.file.now c.args.page v c.args.fonts.now (replicate 256 0)) (sym (c.fresh-v.ensures c.args.page))
     (subst (λ (table : List ℕ). Going c.args.file.now c.args.page (volume_of c.args.page []) table (replicate 256 0)) (sym c.requires)
     (starting c.args.file.now c.args.page c.if-file-gt-LONGEST_FILE.false))
 
-pub returns-in-Refused : goal.returns-in-Refused
-returns-in-Refused c =
-    let g = c.passed-v.ensures.onward c.args.page c.loop-refusal.again c.loop-refusal.invariant in
-    let r = c.in-Refused.refusal in
-    record { result_value = sym (turn_unread g r.number r.place (sym c.read_by.ensures ∙ ap read_answer c.in-Refused.is)); scan_keeps = tt }
+pub returns-in_err-reading-clause-result_value : goal.returns-in_err-reading-clause-result_value
+returns-in_err-reading-clause-result_value c =
+    let g = c.passed-v.ensures.onward c.args.page c.loop-reading.again c.loop-reading.invariant in
+    let r = c.in_err-reading.field-0.0 in
+    let (passed, is, same) = err_from_is_err_and c.from_residual.result c.from_residual.ensures.1 in
+    ap scan_answer (is ∙ ap Err same) ∙ sym (turn_unread g (number_of r.reason) r.place (sym c.read.ensures ∙ ap answered c.in_err-reading.was))
 
-pub slice_bounds-params-count : goal.slice_bounds-params-count
-slice_bounds-params-count c =
-    let r = c.in-Command.reading in
-    let d = given_reads c.args.file.now c.passed-v.result.at r (sym c.read_by.ensures ∙ ap read_answer c.in-Command.is) in
+pub slice_bounds-next-count : goal.slice_bounds-next-count
+slice_bounds-next-count c =
+    let r = c.in_ok-reading.reading in
+    let d = given_reads c.args.file.now c.passed-v.result.at r (sym c.read.ensures ∙ ap answered c.in_ok-reading.was) in
     omega (arith, d.starts, d.nexts)
 
-pub slice_bounds-params-end : goal.slice_bounds-params-end
-slice_bounds-params-end c =
-    let r = c.in-Command.reading in
-    let d = given_reads c.args.file.now c.passed-v.result.at r (sym c.read_by.ensures ∙ ap read_answer c.in-Command.is) in
+pub slice_bounds-next-end : goal.slice_bounds-next-end
+slice_bounds-next-end c =
+    let r = c.in_ok-reading.reading in
+    let d = given_reads c.args.file.now c.passed-v.result.at r (sym c.read.ensures ∙ ap answered c.in_ok-reading.was) in
     omega (arith, d.inside)
 
-pub fault_of-fault-requires : goal.fault_of-fault-requires
-fault_of-fault-requires c =
-    let g = c.passed-v.ensures.onward c.args.page c.loop-refusal.again c.loop-refusal.invariant in
-    let r = c.in-Command.reading in
-    let d = given_reads c.args.file.now c.passed-v.result.at r (sym c.read_by.ensures ∙ ap read_answer c.in-Command.is) in
-    record { kind_value = (c.kind_of-kind.ensures, opcode_defined g r d, fixed_fits g r d); post_bound = omega (arith, (small g).post_is, next_small g r d) }
+pub invariant_of-next : goal.invariant_of-next
+invariant_of-next c =
+    let g = c.passed-v.ensures.onward c.args.page c.loop-reading.again c.loop-reading.invariant in
+    let r = c.in_ok-reading.reading in
+    let d = given_reads c.args.file.now c.passed-v.result.at r (sym c.read.ensures ∙ ap answered c.in_ok-reading.was) in
+    record { right = (c.from.ensures, fixed_fits g r d) }
 
-pub returns-then-fault-ne0 : goal.returns-then-fault-ne0
-returns-then-fault-ne0 c =
-    let g = c.passed-v.ensures.onward c.args.page c.loop-refusal.again c.loop-refusal.invariant in
-    let r = c.in-Command.reading in
-    let d = given_reads c.args.file.now c.passed-v.result.at r (sym c.read_by.ensures ∙ ap read_answer c.in-Command.is) in
-    record { result_value = scan_stops g r d c.kind_of-kind.result c.kind_of-kind.ensures c.fault_of-fault.result c.fault_of-fault.ensures c.if-fault-ne0.true; scan_keeps = tt }
+pub fault_of-requires : goal.fault_of-requires
+fault_of-requires c =
+    let g = c.passed-v.ensures.onward c.args.page c.loop-reading.again c.loop-reading.invariant in
+    let r = c.in_ok-reading.reading in
+    let d = given_reads c.args.file.now c.passed-v.result.at r (sym c.read.ensures ∙ ap answered c.in_ok-reading.was) in
+    (opcode_defined g r d, omega (arith, (small g).post_is, next_small g r d))
+
+pub returns-in_err-map_err-clause-result_value : goal.returns-in_err-map_err-clause-result_value
+returns-in_err-map_err-clause-result_value c =
+    let g = c.passed-v.ensures.onward c.args.page c.loop-reading.again c.loop-reading.invariant in
+    let r = c.in_ok-reading.reading in
+    let d = given_reads c.args.file.now c.passed-v.result.at r (sym c.read.ensures ∙ ap answered c.in_ok-reading.was) in
+    let told = placed_fault c.fault_of.result c.map_err.result _ c.map_err.ensures.cases c.in_err-map_err.field-0.0 c.in_err-map_err.was in
+    let placed : c.in_err-map_err.field-0.0 ≡ record { reason = told.0; place = c.passed-v.result.at } = search rules in
+    let (passed, is, same) = err_from_is_err_and c.from_residual-in_err-map_err.result c.from_residual-in_err-map_err.ensures.1 in
+    ap scan_answer (is ∙ ap Err (same ∙ placed))
+    ∙ ap (λ (n : ℕ). refused n c.passed-v.result.at) (ap fault_number (sym told.1))
+    ∙ scan_stops g r d c.from.result c.from.ensures (fault_number c.fault_of.result) c.fault_of.ensures (λ e. absurd (omega (arith, some_number told.0, sym (ap fault_number told.1) ∙ e)))
 
 pub note-requires : goal.note-requires
 note-requires c =
-    let g = c.passed-v.ensures.onward c.args.page c.loop-refusal.again c.loop-refusal.invariant in
-    let r = c.in-Command.reading in
-    let d = given_reads c.args.file.now c.passed-v.result.at r (sym c.read_by.ensures ∙ ap read_answer c.in-Command.is) in
-    record {
-      kind_value = (c.kind_of-kind.ensures, fixed_fits g r d);
-      at_bound = (omega (arith, next_small g r d), lawfully_numbered g r d c.kind_of-kind.result c.kind_of-kind.ensures c.fault_of-fault.result c.fault_of-fault.ensures c.if-fault-ne0.false);
-    }
+    let g = c.passed-v.ensures.onward c.args.page c.loop-reading.again c.loop-reading.invariant in
+    let r = c.in_ok-reading.reading in
+    let d = given_reads c.args.file.now c.passed-v.result.at r (sym c.read.ensures ∙ ap answered c.in_ok-reading.was) in
+    (omega (arith, next_small g r d), lawfully_numbered g r d c.from.result c.from.ensures (fault_number c.fault_of.result) c.fault_of.ensures (no_fault c.fault_of.result (sym c.map_err.ensures.variant ∙ ap is_ok c.in_ok-map_err.was)))
 
 pub after-v-requires : goal.after-v-requires
 after-v-requires c =
-    let g = c.passed-v.ensures.onward c.args.page c.loop-refusal.again c.loop-refusal.invariant in
-    let r = c.in-Command.reading in
-    let d = given_reads c.args.file.now c.passed-v.result.at r (sym c.read_by.ensures ∙ ap read_answer c.in-Command.is) in
+    let g = c.passed-v.ensures.onward c.args.page c.loop-reading.again c.loop-reading.invariant in
+    let r = c.in_ok-reading.reading in
+    let d = given_reads c.args.file.now c.passed-v.result.at r (sym c.read.ensures ∙ ap answered c.in_ok-reading.was) in
     let s = small g in
-    record { params_bound = (next_small g r d, with_room_lem g r d c.kind_of-kind.result c.kind_of-kind.ensures); depth_le_at = (s.depth_is, s.pages_are, s.fonts_are, s.again_are) }
+    record { params_bound = (next_small g r d, with_room_lem g r d c.from.result c.from.ensures); depth_le_at = (s.depth_is, s.pages_are, s.fonts_are, s.again_are) }
 
 pub ended-requires : goal.ended-requires
 ended-requires c =
-    let r = c.in-Command.reading in
-    let d = given_reads c.args.file.now c.passed-v.result.at r (sym c.read_by.ensures ∙ ap read_answer c.in-Command.is) in
+    let r = c.in_ok-reading.reading in
+    let d = given_reads c.args.file.now c.passed-v.result.at r (sym c.read.ensures ∙ ap answered c.in_ok-reading.was) in
     d.inside
 
-pub returns-in-PostPost : goal.returns-in-PostPost
-returns-in-PostPost c =
-    let g = c.passed-v.ensures.onward c.args.page c.loop-refusal.again c.loop-refusal.invariant in
-    let r = c.in-Command.reading in
-    let d = given_reads c.args.file.now c.passed-v.result.at r (sym c.read_by.ensures ∙ ap read_answer c.in-Command.is) in
+pub returns-then-eq : goal.returns-then-eq
+returns-then-eq c =
+    let last : c.from.result ≡ PostPost = search rules in
+    let g = c.passed-v.ensures.onward c.args.page c.loop-reading.again c.loop-reading.invariant in
+    let r = c.in_ok-reading.reading in
+    let d = given_reads c.args.file.now c.passed-v.result.at r (sym c.read.ensures ∙ ap answered c.in_ok-reading.was) in
     let t =
-    turned g r d c.kind_of-kind.result c.kind_of-kind.ensures c.fault_of-fault.result c.fault_of-fault.ensures c.if-fault-ne0.false
+    turned g r d c.from.result c.from.ensures (fault_number c.fault_of.result) c.fault_of.ensures (no_fault c.fault_of.result (sym c.map_err.ensures.variant ∙ ap is_ok c.in_ok-map_err.was))
     c.after-v.result c.after-v.ensures c.note.new.fonts c.note.new.again c.note.ensures.fonts_after c.note.ensures.again_after in
-    let l = ap (λ (k : Kind). is k PostPost) c.in-PostPost.is in
+    let l = ap (λ (k : Kind). is k PostPost) last in
     record { result_value = c.ended.ensures.result_value ∙ t.judgement l; scan_keeps = t.keeping l c.ended.result c.ended.ensures.same }
 
-pub loop-refusal-smaller : goal.loop-refusal-smaller
-loop-refusal-smaller c =
-    let g = c.passed-v.ensures.onward c.args.page c.loop-refusal.again c.loop-refusal.invariant in
-    let r = c.in-Command.reading in
-    let d = given_reads c.args.file.now c.passed-v.result.at r (sym c.read_by.ensures ∙ ap read_answer c.in-Command.is) in
+pub loop-reading-smaller : goal.loop-reading-smaller
+loop-reading-smaller c =
+    let g = c.passed-v.ensures.onward c.args.page c.loop-reading.again c.loop-reading.invariant in
+    let r = c.in_ok-reading.reading in
+    let d = given_reads c.args.file.now c.passed-v.result.at r (sym c.read.ensures ∙ ap answered c.in_ok-reading.was) in
     let t =
-    turned g r d c.kind_of-kind.result c.kind_of-kind.ensures c.fault_of-fault.result c.fault_of-fault.ensures c.if-fault-ne0.false
+    turned g r d c.from.result c.from.ensures (fault_number c.fault_of.result) c.fault_of.ensures (no_fault c.fault_of.result (sym c.map_err.ensures.variant ∙ ap is_ok c.in_ok-map_err.was))
     c.after-v.result c.after-v.ensures c.note.new.fonts c.note.new.again c.note.ensures.fonts_after c.note.ensures.again_after in
     omega (arith, t.place_held, next_is g r d, d.inside, c.passed-v.ensures.at_le_at)
 
-pub loop-refusal-preserved : goal.loop-refusal-preserved
-loop-refusal-preserved c =
-    let g = c.passed-v.ensures.onward c.args.page c.loop-refusal.again c.loop-refusal.invariant in
-    let r = c.in-Command.reading in
-    let d = given_reads c.args.file.now c.passed-v.result.at r (sym c.read_by.ensures ∙ ap read_answer c.in-Command.is) in
+pub loop-reading-preserved : goal.loop-reading-preserved
+loop-reading-preserved c =
+    let other : c.from.result ≡ PostPost → ⊥ = search rules in
+    let g = c.passed-v.ensures.onward c.args.page c.loop-reading.again c.loop-reading.invariant in
+    let r = c.in_ok-reading.reading in
+    let d = given_reads c.args.file.now c.passed-v.result.at r (sym c.read.ensures ∙ ap answered c.in_ok-reading.was) in
     let t =
-    turned g r d c.kind_of-kind.result c.kind_of-kind.ensures c.fault_of-fault.result c.fault_of-fault.ensures c.if-fault-ne0.false
+    turned g r d c.from.result c.from.ensures (fault_number c.fault_of.result) c.fault_of.ensures (no_fault c.fault_of.result (sym c.map_err.ensures.variant ∙ ap is_ok c.in_ok-map_err.was))
     c.after-v.result c.after-v.ensures c.note.new.fonts c.note.new.again c.note.ensures.fonts_after c.note.ensures.again_after in
-    t.onward (not_last c.kind_of-kind.result c.in_default.not-PostPost)
+    t.onward (not_last c.from.result other)

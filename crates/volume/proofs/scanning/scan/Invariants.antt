@@ -4,8 +4,8 @@ use lib.ListN.{length}
 use Rattle.volume.specs.Steps.{Going}
 use Rattle.volume.proofs.scanning.scan.Given as goal
 
-abbrev pub invariant-loop-refusal : goal.invariant-loop-refusal
-invariant-loop-refusal l = Going l.file l.page l.v l.fonts l.again
+abbrev pub invariant-loop-reading : goal.invariant-loop-reading
+invariant-loop-reading l = Going l.file l.page l.v l.fonts l.again
 
-abbrev pub decreases-loop-refusal : goal.decreases-loop-refusal
-decreases-loop-refusal l = length l.file - l.v.at
+abbrev pub decreases-loop-reading : goal.decreases-loop-reading
+decreases-loop-reading l = length l.file - l.v.at

@@ -1,55 +1,40 @@
 -- `widths::blocks::first_code` meets its contract: within a block the codes are in order as the keys are. Assumes nothing.
-use Prim.Native.Nat.{ℕ, ◌+◌, ◌-◌, ◌/◌, ◌≤◌, ◌<◌}
-use mathlib.Core.Path.{subst}
+use Prim.Native.Nat.{ℕ, ◌≤◌, ◌<◌}
+use mathlib.Core.Bool.{true}
+use mathlib.Core.Logic.{⊎_elim}
+use mathlib.Core.Path.{◌≡◌}
 use native.Mathlib.Omega.{arith}
-use lib.ListN.{get_or}
-use Rattle.widths.specs.Steps.{key_number, with_code}
-use Rattle.widths.proofs.Search.{search_up, search_down, search_ends}
-use Rattle.widths.proofs.BlockSearch.{block_starts, code_below, code_above}
+use borrow.Author.Tests.{ltb-true, ltb-false, lt-ltb}
+use lib.Dec.{ltb}
+use Rattle.numbers.proofs.Radix.{less_or_not}
+use Rattle.names.specs.Names.{name_size}
+use Rattle.widths.specs.Table.{record_of}
+use Rattle.widths.proofs.TableLaws.{keys_rise}
+use Rattle.widths.proofs.BlockSearch.{block_starts, key_coded, code_below, code_above}
 use Rattle.widths.proofs.blocks.first_code.Goals as goal
-
--- what is between, whatever check sum, scale and name the block is that of
-pub loop-low-init : goal.loop-low-init
-loop-low-init c =
-    let bytes : (i : ℕ) → get_or c.args.table.now i 0 < 256 = λ i. omega (arith, c.type_inv.table i) in (
-      omega arith,
-      c.requires.1.0,
-      omega arith,
-      λ checksum scale name is. block_starts c.args.table.now bytes c.args.records c.requires.0 checksum scale name c.args.block is c.args.byte c.requires.2,
-    )
-
-pub code_of-requires : goal.code_of-requires
-code_of-requires c = (c.requires.0, omega (arith, c.loop-low.invariant.2, c.requires.1.1))
-
-pub loop-low-preserved-then-code_of-byte : goal.loop-low-preserved-then-code_of-byte
-loop-low-preserved-then-code_of-byte c =
-    let bytes : (i : ℕ) → get_or c.args.table.now i 0 < 256 = λ i. omega (arith, c.type_inv.table i) in
-    let l = c.loop-low in
-    let m = l.low + (l.high - l.low) / 2 in (
-      omega (arith, l.invariant.0),
-      omega arith,
-      l.invariant.2,
-      λ checksum scale name is.
-          search_up c.args.table.now c.args.records (key_number (with_code is.key c.args.byte)) c.requires.0 l.low l.high m (l.invariant.3 checksum scale name is) (omega arith) (omega arith)
-          (code_below c.args.table.now bytes c.args.records c.requires.0 checksum scale name c.args.block is m (omega (arith, l.invariant.0)) (omega (arith, l.invariant.2)) c.args.byte
-          (subst (λ (n : ℕ). n < c.args.byte) c.code_of.ensures c.if-code_of-byte.true)),
-    )
-
-pub loop-low-preserved : goal.loop-low-preserved
-loop-low-preserved c =
-    let bytes : (i : ℕ) → get_or c.args.table.now i 0 < 256 = λ i. omega (arith, c.type_inv.table i) in
-    let l = c.loop-low in
-    let m = l.low + (l.high - l.low) / 2 in (
-      l.invariant.0,
-      omega arith,
-      omega (arith, l.invariant.2),
-      λ checksum scale name is.
-          search_down c.args.table.now c.args.records (key_number (with_code is.key c.args.byte)) c.requires.0 l.low l.high m (l.invariant.3 checksum scale name is) (omega arith) (omega arith)
-          (code_above c.args.table.now bytes c.args.records c.requires.0 checksum scale name c.args.block is m (omega (arith, l.invariant.0)) (omega (arith, l.invariant.2)) c.args.byte
-          (subst (λ (n : ℕ). c.args.byte ≤ n) c.code_of.ensures c.if-code_of-byte.false)),
-    )
 
 pub returns : goal.returns
 returns c = λ checksum scale name is.
-    let l = c.loop-low in
-    search_ends c.args.table.now c.args.records (key_number (with_code is.key c.args.byte)) l.low l.high (l.invariant.3 checksum scale name is) c.loop-low-test.false
+    let w = c.args.widths in
+    let table = w.bytes.now in
+    let block = c.args.block in
+    let byte = c.args.byte in
+    let starts = block_starts table w.below w.records w.right checksum scale name block is byte c.requires.1 in
+    let coded = key_coded table w.below w.records w.right checksum scale name block is in
+    let rises : (i j : ℕ) → block.start ≤ i → i < j → j < block.end → ltb (record_of table j).code byte ≡ true → ltb (record_of table i).code byte ≡ true =
+    λ i j low h high e. lt-ltb (record_of table i).code byte
+    (omega (arith, coded i low (omega arith), coded j (omega arith) high, keys_rise name_size table w.records w.right i j h (omega (arith, starts.top)), ltb-true (record_of table j).code byte e)) in
+    let parts = c.first_past.ensures.parts (λ (i : ℕ). ltb (record_of table i).code byte) (λ i r low high post. post) rises in
+    let first = c.first_past.result in
+    let end : first ≤ block.end = c.first_past.ensures.bound.1 in
+    record {
+      bound = omega (arith, starts.top);
+      below = λ j h. ⊎_elim
+          (λ (under : j < block.start). starts.below j under)
+          (λ (from : block.start ≤ j). code_below table w.below w.records w.right checksum scale name block is j from (omega arith) byte (ltb-true (record_of table j).code byte (parts.0 j from h)))
+          (less_or_not j block.start);
+      above = λ j h inside. ⊎_elim
+          (λ (under : j < block.end). code_above table w.below w.records w.right checksum scale name block is j (omega (arith, c.first_past.ensures.bound.0)) under byte (ltb-false (record_of table j).code byte (parts.1 j h under)))
+          (λ (over : block.end ≤ j). starts.above j over inside)
+          (less_or_not j block.end);
+    }

@@ -12,15 +12,10 @@ use Rattle.widths.proofs.SameBlocks.{same_lawful}
 use Rattle.widths.proofs.TableLaws.{check_starts, check_ends, check_cut, key_right, check_key, check_rest}
 use Rattle.widths.proofs.Turns.{key_tested, turned}
 use Rattle.widths.proofs.table.check_table.Goals as goal
+use Rattle.widths.proofs.table.check_table.Goals.{then-not-lawful_key-via-then-not-lawful_key, then-not-lawful_key-via-else-not-lawful_key+then-not-lawful_rest}
 
 pub loop-at-init : goal.loop-at-init
 loop-at-init c = (omega arith, ((omega arith, omega arith, omega arith), λ h. absurd (omega arith)), check_starts name_size c.args.table.now)
-
-pub key_at-key-requires : goal.key_at-key-requires
-key_at-key-requires c = omega (arith, c.loop-at.invariant.2.place)
-
-pub lawful_key-requires : goal.lawful_key-requires
-lawful_key-requires c = (omega (arith, c.loop-at.invariant.2.place), c.key_at-key.ensures, c.loop-at.invariant.1)
 
 pub returns-then-not-lawful_key : goal.returns-then-not-lawful_key
 returns-then-not-lawful_key c =
@@ -28,22 +23,12 @@ returns-then-not-lawful_key c =
     let l = c.loop-at in
     let least = key_number l.least in
     let tested : c.lawful_key.result ≡ key_right name_size table l.at least l.invariant.2 = c.lawful_key.ensures ∙ key_tested table l.at least l.invariant.2 c.key_at-key.result c.key_at-key.ensures in
-    check_key name_size table l.at least l.invariant.2 (omega (arith, l.invariant.2.place)) (sym tested ∙ c.if-not-lawful_key.true)
-
-pub lawful_rest-requires : goal.lawful_rest-requires
-lawful_rest-requires c = omega (arith, c.loop-at.invariant.2.place)
-
-pub returns-then-not-lawful_rest : goal.returns-then-not-lawful_rest
-returns-then-not-lawful_rest c =
-    let table = c.args.table.now in
-    let l = c.loop-at in
-    let least = key_number l.least in
-    let tested : c.lawful_key.result ≡ key_right name_size table l.at least l.invariant.2 = c.lawful_key.ensures ∙ key_tested table l.at least l.invariant.2 c.key_at-key.result c.key_at-key.ensures in
-    check_rest name_size table l.at least l.invariant.2 (omega (arith, l.invariant.2.place))
-    (sym tested ∙ c.if-not-lawful_key.false) (sym c.lawful_rest.ensures ∙ c.if-not-lawful_rest.true)
-
-pub overflow_add-at : goal.overflow_add-at
-overflow_add-at c = omega (arith, c.loop-at.invariant.2.place)
+    elim c.then-not-lawful_key.branch [
+      | then-not-lawful_key-via-then-not-lawful_key w ↦ check_key name_size table l.at least l.invariant.2 (omega (arith, l.invariant.2.place)) (sym tested ∙ w.if-not-lawful_key.true)
+      | then-not-lawful_key-via-else-not-lawful_key+then-not-lawful_rest w ↦
+          check_rest name_size table l.at least l.invariant.2 (omega (arith, l.invariant.2.place))
+          (sym tested ∙ w.if-not-lawful_key.false) (sym w.lawful_rest.ensures ∙ w.if-not-lawful_rest.true)
+    ]
 
 pub pass_block-run-requires : goal.pass_block-run-requires
 pass_block-run-requires c =
@@ -65,12 +50,6 @@ pass_block-run-requires c =
         turned table l.at (key_number l.least) l.invariant.2 key.result key.ensures there reached (sym c.lawful_rest.ensures ∙ c.if-not-lawful_rest.false),
       ),
     )
-
-pub loop-at-smaller : goal.loop-at-smaller
-loop-at-smaller c = omega (arith, c.pass_block-run.ensures.0)
-
-pub loop-at-preserved : goal.loop-at-preserved
-loop-at-preserved c = c.pass_block-run.ensures.1
 
 pub returns-then-at-table : goal.returns-then-at-table
 returns-then-at-table c =

@@ -1,5 +1,6 @@
 -- `widths::table::lawful_key` meets its contract. Assumes nothing.
 use Rattle.widths.proofs.Keys.{in_key, code_reaches}
+use Rattle.widths.proofs.KeyOrder.{below_number}
 use Rattle.widths.specs.Steps.{block_number, key_number, KeyAt, reaches, LeastKey, lawful_block}
 use Rattle.widths.specs.Table.{record_at}
 use Rattle.widths.specs.declared.table.Key.{Key}
@@ -40,11 +41,12 @@ returns-then-same_block c =
     by_code c.args.table.now c.args.at c.args.key c.args.least c.requires.0 c.requires.1 c.requires.2
     (eqb-true (block_number c.args.key) (block_number c.args.least) (sym c.same_block.ensures ∙ c.if-same_block.true))
 
-pub returns : goal.returns
-returns c =
+pub returns-then-lawful_size : goal.returns-then-lawful_size
+returns-then-lawful_size c =
     let table = c.args.table.now in
     let at = c.args.at in
     let sixteen : at + 24 - (at + 8) ≡ 16 = omega arith in
-    sym (past-least table at c.args.key c.args.least c.requires.1 (sym c.below.ensures ∙ c.if-below.false)
-    ∙ ap (λ (t : Bool). t && name_then_zeros (record_at table at).name_bytes) (sym c.lawful_size.ensures ∙ c.if-not-lawful_size.false)
+    let below = c.lt.ensures ∙ below_number c.args.key c.args.least (in_key c.requires.1) c.requires.2.0 c.requires.1.code_below in
+    sym (past-least table at c.args.key c.args.least c.requires.1 (sym below ∙ c.if-lt.false)
+    ∙ ap (λ (t : Bool). t && name_then_zeros (record_at table at).name_bytes) (sym c.lawful_size.ensures ∙ c.if-lawful_size.true)
     ∙ sym (c.lawful_name.ensures ∙ ap (λ (n : ℕ). name_then_zeros (take n (drop (at + 8) table))) sixteen))
