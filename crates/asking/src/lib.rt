@@ -2,10 +2,8 @@
 // Each function that writes fails where a write of it fails, and nowhere else.
 #![tactic(auto)]
 
-ghost use Rattle.std.specs.Prelude.{◌≡◌, ◌++◌, [], ◌∷◌, IfSome, None};
+ghost use Rattle.std.specs.Prelude.{◌≡◌, ◌++◌, [], ◌∷◌, IfSome, None, take};
 ghost use lib.Chars.{codes};
-ghost use Rattle.std.specs.Fmt.Cut.{IsTextOrCut};
-ghost use Rattle.std.specs.Fmt.InlineText.{inline_text};
 ghost use Rattle.refusals.specs.Printed.{refusal_text};
 
 use printing::line::Line;
@@ -20,26 +18,30 @@ pub mod words;
 
 // What answers a line, or arguments, that are no question
 pub fn no_input_line() -> Line
-    ensures { IsTextOrCut 160 (codes "no input\n") (inline_text result) }
+    ensures { take result.length result.bytes ≡ codes "no input\n" }
 {
-    Line::of("no input\n")
+    Line::of(b"no input\n")
 }
 
 pub fn no_input<W: Write>(out: &mut W) -> Result<()> {
-    printing::line::print(out, &no_input_line())
+    no_input_line().print(out)
 }
 
 // The answer of a question, and where there is none, because the words are no such question, what says so
 pub fn or_no_input(answer: Option<Line>) -> Line
     ensures given { IfSome answer (λ line. result ≡ line) }
-    ensures none { answer ≡ None → IsTextOrCut 160 (codes "no input\n") (inline_text result) }
+    ensures none { answer ≡ None → take result.length result.bytes ≡ codes "no input\n" }
 {
     answer.unwrap_or_else(no_input_line)
 }
 
 // What answers a question that the reader refuses
 pub fn refused(refusal: Refusal) -> Line
-    ensures { IsTextOrCut 160 (refusal_text refusal ++ 10 ∷ []) (inline_text result) }
+    ensures { take result.length result.bytes ≡ refusal_text refusal ++ 10 ∷ [] }
 {
-    Line::of(format_args!("{refusal}\n"))
+    Line::of(b"refused")
+        .number(u8::from(refusal.reason))
+        .text(b" at")
+        .number(refusal.place)
+        .text(b"\n")
 }

@@ -2,7 +2,6 @@
 ghost use Rattle.std.specs.Prelude.{◌≡◌, ◌*◌, ◌≤◌, length};
 
 use printing::block::Block;
-use printing::line;
 use printing::line::Line;
 use reader::Counts;
 use std::io::{Result, Write};
@@ -24,12 +23,14 @@ pub fn place<W: Write>(
             },
         ) => {
             print_records(out, area, records)?;
-            line::print(
-                out,
-                &Line::of(format_args!("end {records} {missing} {specials}\n")),
-            )
+            Line::of(b"end")
+                .number(records)
+                .number(missing)
+                .number(specials)
+                .text(b"\n")
+                .print(out)
         }
-        Err(refusal) => line::print(out, &crate::refused(refusal)),
+        Err(refusal) => crate::refused(refusal).print(out),
     }
 }
 
@@ -37,11 +38,11 @@ pub fn place<W: Write>(
 fn print_records<W: Write>(out: &mut W, area: &[u8], records: usize) -> Result<()>
     requires { 20 * records ≤ length area.now }
 {
-    let mut block = Block::empty();
+    let mut block = Block::<4096>::empty();
     for record in area[..20 * records].chunks_exact(20) {
         let line = record_line(record);
         block.make_room(out, 160)?;
-        block.push(line.as_str().as_bytes());
+        block.push(line.held());
     }
     block.print(out)
 }
@@ -51,12 +52,19 @@ fn record_line(placed: &[u8]) -> Line
     requires { length placed.now ≡ 20 }
 {
     // 1 is a character, 2 a rule
-    let kind = if placed[0] == 1 { 'c' } else { 'r' };
+    let kind = if placed[0] == 1 { b"c" } else { b"r" };
     let font = placed[1];
     let page = numbers::unsigned_at(placed, 2, 2);
     let hh = numbers::signed_at(placed, 4, 4);
     let vv = numbers::signed_at(placed, 8, 4);
     let content = numbers::signed_at(placed, 12, 4);
     let extent = numbers::signed_at(placed, 16, 4);
-    Line::of(format_args!("{kind} {page} {font} {hh} {vv} {content} {extent}\n"))
+    Line::of(kind)
+        .number(page)
+        .number(font)
+        .number(hh)
+        .number(vv)
+        .number(content)
+        .number(extent)
+        .text(b"\n")
 }

@@ -31,7 +31,10 @@ pub fn give(answer: &mut [u64], numbers: &[u64]) -> u32
     ensures value { result ≡ 0 }
     ensures answer_after { answer.new ≡ in_front numbers.now answer.old }
 {
-    answer[..numbers.len()].copy_from_slice(numbers);
+    // Not copy_from_slice: of one number it leaves a test behind that a width's scaling is too short to bear.
+    for index in 0..numbers.len() {
+        answer[index] = numbers[index];
+    }
     GIVEN
 }
 

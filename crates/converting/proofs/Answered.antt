@@ -22,7 +22,7 @@ module _ (judged : Answer ℕ) (room size : ℕ) where
   pub answered_refused : {number place : ℕ} → judged ≡ refused number place → answered ≡ refused number place
   answered_refused e = ap (λ (a : Answer ℕ). and_then a (with_room room size)) e
 
-  answered_given : {records : ℕ} → judged ≡ given records → records * size ≤ room → answered ≡ given records
+  pub answered_given : {records : ℕ} → judged ≡ given records → records * size ≤ room → answered ≡ given records
   answered_given {records} e h =
       ap (λ (a : Answer ℕ). and_then a (with_room room size)) e ∙ ap (λ (t : Bool). refuse_if t area_too_short 0 (given records)) (le-ltb room (records * size) h)
 

@@ -7,15 +7,17 @@ use native.Mathlib.Omega.{arith}
 use lib.ListN.{length, drop, replicate, length-append, length-replicate}
 use lib.Seq.{sets, sets-eq}
 use borrow.Author.Tests.{lt-ltb, le-ltb, not-false}
-use Rattle.refusals.specs.Numbers.{area_too_short}
+use Rattle.refusals.specs.Numbers.{area_too_short, wrong_pages}
 use Rattle.refusals.specs.Answer.{refused, given}
 use Rattle.commands.specs.Commands.{Command, form, written, place}
 use Rattle.list.specs.Lawful.{fillers}
+use Rattle.volume.specs.declared.Summary.{Summary}
+use Rattle.volume.specs.Judged.{judged}
 use Rattle.volume.specs.History.{history}
 use Rattle.areas.proofs.Pasting.{sets_behind}
 use Rattle.cutting.specs.Chosen.{is_in, is_empty, rises_from, wrong_list}
 use Rattle.cutting.specs.CutList.{cut_past, fillers_at, onto}
-use Rattle.cutting.specs.CutFile.{cut_file, cut_accepted, cut_area}
+use Rattle.cutting.specs.CutFile.{cut_file, cut_accepted, cut_pages, cut_area}
 use Rattle.cutting.specs.Steps.{forms_of}
 use Rattle.cutting.proofs.WriteLaws.{forms_length}
 
@@ -73,3 +75,7 @@ module _ (file list : List ℕ) where
       ∙ sets-eq (forms_of new ++ tail) entry 0 (omega (arith, long))
       ∙ ap (λ (n : ℕ). (forms_of new ++ tail) ++ drop n entry) none_before
       ∙ ap (λ (l : List ℕ). l ++ drop (length l) entry) (sym file_is)
+
+-- a wrong list is refused whatever the area is: 23 before 17
+pub cut_wrong : (file list : List ℕ) (room : ℕ) (s : Summary) → judged file ≡ given s → wrong_list s.pages list ≡ true → cut_pages file list room ≡ refused wrong_pages 0
+cut_wrong file list room s accepted wrong = rw (accepted, wrong) refl

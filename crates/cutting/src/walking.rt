@@ -102,8 +102,10 @@ pub fn run_from(lengths: &Lengths, file: &[u8], p: Spot, from: Run) -> Run
     }
 }
 
-// The command at a place, where a walk stands that has come so far.
+// The command at a place, where a walk stands that has come so far. Put into both walks: as a call it hands a large answer back through memory for each command, and
+// selections take a third as long again.
 // No struct of lengths, file and list: run_from takes no list, and each contract would name its fields in their place.
+#[inline(always)]
 pub fn step_at(
     lengths: &Lengths,
     file: &[u8],

@@ -40,7 +40,7 @@ fn mended(out: &mut [u8], kind: Kind, command: &[u8], totals: Totals, m: Made) -
     ensures value { result ≡ made_mended kind (mended_size kind) m }
     ensures out_after { out.new ≡ sets out.old m.size (mended_form kind m.bop m.post totals.greatest totals.pages command.now) }
 {
-    areas::paste(out, m.size, command);
+    areas::paste_part(out, m.size, command);
     let size = m.size + command.len();
     match kind {
         Kind::Bop => {
@@ -74,7 +74,7 @@ fn copied(file: &[u8], out: &mut [u8], at: usize, next: usize, m: Made) -> Made
     ensures value { result ≡ made_copied at next m }
     ensures out_after { out.new ≡ area_copied file.now at m out.old }
 {
-    areas::paste(out, m.size, &file[m.from..at]);
+    areas::paste_part(out, m.size, &file[m.from..at]);
     Made {
         from: next,
         size: m.size + (at - m.from),
@@ -100,7 +100,7 @@ fn opened(file: &[u8], out: &mut [u8], at: usize, next: usize, m: Made) -> Made
     ensures value { result ≡ made_opened (next - at) m }
     ensures out_after { out.new ≡ sets out.old m.opened (between at next file.now) }
 {
-    areas::paste(out, m.opened, &file[at..next]);
+    areas::paste_part(out, m.opened, &file[at..next]);
     Made {
         opened: m.opened + (next - at),
         ..m

@@ -47,7 +47,7 @@ pub fn answer<R: Files, W: Write>(rt: &R, out: &mut W, line: &Line, room: &mut R
         (3.., b"cut") => {
             cuts_asked::cut(rt, out, line, count - 3, &mut room.file, &mut room.area)
         }
-        _ => line::print(out, &told(rt, line, count, room)),
+        _ => told(rt, line, count, room).print(out),
     }
 }
 

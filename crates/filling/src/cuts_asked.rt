@@ -3,7 +3,7 @@ use crate::rooms;
 use asking::lines::word;
 use asking::{files, words};
 use printing::line::Line;
-use printing::{line, rows};
+use printing::rows;
 use std::fs::Files;
 use std::io::{Result, Write};
 
@@ -36,11 +36,11 @@ fn try_cut<R: Files, W: Write>(
     Some(made(out, &file[..length], list, &mut area[..room]))
 }
 
-// The words from the fourth on, as numbers of pages; none where one is no such number.
+// The words from the fourth on, as numbers of pages; none where one is no such number, or missing.
 fn read_pages(line: &[u8], list: &mut [u32]) -> Option<()> {
-    let words = line.split(|byte| *byte == b' ').skip(3);
-    for (page, word) in list.iter_mut().zip(words) {
-        *page = words::read_unsigned32(word)?;
+    let mut words = line.split(|byte| *byte == b' ').skip(3);
+    for page in list.iter_mut() {
+        *page = words::read_unsigned32(words.next()?)?;
     }
     Some(())
 }
@@ -49,8 +49,8 @@ fn made<W: Write>(out: &mut W, file: &[u8], list: &[u32], area: &mut [u8]) -> Re
     match reader::cut_pages(file, list, area) {
         Ok(bytes) => {
             rows::print(out, &area[..bytes], 32)?;
-            line::print(out, &Line::of(format_args!("end {bytes}\n")))
+            Line::of(b"end").number(bytes).text(b"\n").print(out)
         }
-        Err(refusal) => line::print(out, &asking::refused(refusal)),
+        Err(refusal) => asking::refused(refusal).print(out),
     }
 }

@@ -2,7 +2,7 @@
 ghost use Rattle.std.specs.Prelude.{◌*◌, ◌≤◌, ◌<◌, length, IfOk};
 
 use printing::line::Line;
-use printing::{line, rows};
+use printing::rows;
 use reader::Refusal;
 use std::io;
 use std::io::Write;
@@ -20,8 +20,8 @@ pub fn print<W: Write>(
     match made {
         Ok(records) => {
             rows::print(out, &area[..records * size], size)?;
-            line::print(out, &Line::of(format_args!("end {records}\n")))
+            Line::of(b"end").number(records).text(b"\n").print(out)
         }
-        Err(refusal) => line::print(out, &asking::refused(refusal)),
+        Err(refusal) => asking::refused(refusal).print(out),
     }
 }

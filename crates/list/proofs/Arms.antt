@@ -1,9 +1,12 @@
--- What holds of each kind, one after the other, holds of every kind; and the test of a kind. Assumes nothing.
+-- What holds of each kind, one after the other, holds of every kind; the test of a kind; the arm of some kinds in a match. Assumes nothing.
 use mathlib.Core.Path.{◌≡◌, refl, ap, ap₂, sym, ◌∙◌}
 use mathlib.Core.Bool.{true}
 use mathlib.Core.List.{List, [], ◌∷◌, map}
+use mathlib.Core.Logic.{◌⊎◌, inl, ⊎_elim}
+use Prim.Native.Nat.{ℕ}
 use lib.ListN.{get_or, get_or-map}
 use borrow.Author.Tests.{eqb-true}
+use types.Run.{OneOf}
 use denote.Enum.Declared.{tag_of}
 use Rattle.commands.specs.declared.Kind.{Kind}
 use Rattle.commands.specs.declared.Kind.TheVariants.{SetCharacter, SetRule, PutCharacter, PutRule, Nop, Bop, Eop, Push, Pop, Right, W, X, Down, Y, Z, Select, Special, Define, Pre, Post, PostPost, Undefined}
@@ -52,3 +55,18 @@ kind_first k = on_kinds (λ j. kind_of (first_opcode j)) (λ j. j) (unfold kind_
 
 pub is_kind : (k other : Kind) → is k other ≡ true → k ≡ other
 is_kind k other e = sym (kind_first k) ∙ ap kind_of (eqb-true (first_opcode k) (first_opcode other) e) ∙ kind_first other
+
+same_kind : (x y : Kind) → tag_of kind-type x ≡ tag_of kind-type y → x ≡ y
+same_kind x y e = sym (kind_back x) ∙ ap (λ (t : ℕ). get_or kinds t Undefined) e ∙ kind_back y
+
+first_or_later : (key : ℕ) (keys : List ℕ) (x : ℕ) → OneOf (key ∷ keys) x → (x ≡ key) ⊎ OneOf keys x
+first_or_later key [] x o = inl o
+first_or_later key (next ∷ keys) x o = o
+
+-- an arm of these kinds: two functions that agree on them agree where it is taken
+pub kind_arm : {A : Type 0} (f g : Kind → A) (ks : List Kind) → map f ks ≡ map g ks
+    → (k : Kind) → OneOf (map (tag_of kind-type) ks) (tag_of kind-type k) → f k ≡ g k
+kind_arm f g [] e k o = absurd o
+kind_arm f g (first ∷ ks) e k o =
+    let here : tag_of kind-type k ≡ tag_of kind-type first → f k ≡ g k = λ same. ap f (same_kind k first same) ∙ (cc) ∙ ap g (sym (same_kind k first same)) in
+    ⊎_elim here (kind_arm f g ks (cc) k) (first_or_later (tag_of kind-type first) (map (tag_of kind-type) ks) (tag_of kind-type k) o)

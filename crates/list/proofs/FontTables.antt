@@ -59,7 +59,7 @@ entry_defined none = refl
 entry_defined (stands at c) = rw (ne_eqb (at + 1) 0 (λ e. absurd (omega arith)))
 
 module _ {after : Bool} {table : List ℕ} {past : List Command} (tells : Tells after table past) (number : ℤ) (lawful : lawful_font number ≡ true) where
-  told_entry : get_or table (nat_abs number) 0 ≡ entry_of (definition_of after number past)
+  pub told_entry : get_or table (nat_abs number) 0 ≡ entry_of (definition_of after number past)
   told_entry =
       let (sign, small, same) = lawful_in number lawful in
       tells.entry (nat_abs number) small ∙ ap (λ (n : ℤ). entry_of (definition_of after n past)) same

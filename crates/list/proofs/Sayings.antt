@@ -25,7 +25,7 @@ module _ (file : List ℕ) (at : ℕ) {c : Command} {rest : List ℕ} (ahead : f
   there : drop at file ≡ form c ++ rest
   there = (front_sound (drop at file) c rest ahead).1
 
-  inside : at + 1 + length c.params ≤ length file
+  pub inside : at + 1 + length c.params ≤ length file
   inside = omega (arith, front_length (drop at file) c rest ahead, length-drop at file)
 
   -- ---- the opcode

@@ -27,6 +27,10 @@ long = record { added = 0; length = 4; code = 4; width = 4; escapement = 4; fiel
 
 -- how large the fields of a form are
 pub record Sized (flag : ℕ) (f : Form) : Type 0 where
+  pub length_small : f.length ≤ 4
+  pub code_small : f.code ≤ 4
+  pub width_small : f.width ≤ 4
+  pub escapement_small : f.escapement ≤ 4
   pub fields_hold : f.width + f.escapement ≤ f.fields
   pub added_small : f.added + 256 ^ f.length ≤ 2 ^ 32
   pub long_four : is_long flag ≡ true → f.escapement ≡ 4
@@ -39,6 +43,10 @@ form_sized flag = go (ltb (flag % 8) 4) (ltb (flag % 8) 7) refl refl
     go : (a b : Bool) → ltb (flag % 8) 4 ≡ a → ltb (flag % 8) 7 ≡ b → Sized flag (cond a (short flag) (cond b (extended flag) long))
     go true b p q =
         record {
+          length_small = omega arith;
+          code_small = omega arith;
+          width_small = omega arith;
+          escapement_small = omega arith;
           fields_hold = omega arith;
           added_small = omega arith;
           long_four = λ e. absurd (omega (arith, ltb-true (flag % 8) 4 p, eqb-true (flag % 8) 7 e));
@@ -46,6 +54,10 @@ form_sized flag = go (ltb (flag % 8) 4) (ltb (flag % 8) 7) refl refl
         }
     go false true p q =
         record {
+          length_small = omega arith;
+          code_small = omega arith;
+          width_small = omega arith;
+          escapement_small = omega arith;
           fields_hold = omega arith;
           added_small = omega arith;
           long_four = λ e. absurd (omega (arith, ltb-true (flag % 8) 7 q, eqb-true (flag % 8) 7 e));
@@ -53,6 +65,10 @@ form_sized flag = go (ltb (flag % 8) 4) (ltb (flag % 8) 7) refl refl
         }
     go false false p q =
         record {
+          length_small = omega arith;
+          code_small = omega arith;
+          width_small = omega arith;
+          escapement_small = omega arith;
           fields_hold = omega arith;
           added_small = omega arith;
           long_four = λ e. refl;

@@ -13,19 +13,22 @@ use refusals::{Reason, Refusal};
 // The identification of a PK file.
 const IDENTIFICATION: u8 = 89;
 
-// 19: whether a command may not stand at its place.
+// How many codes there are.
+pub const CODES: usize = 256;
+
+// 19: whether a command may not stand at its place. Returns, not one expression: that the compiler works out whole for each command, and no-ops take a sixth longer.
 #[tactic(auto, using(crate::proofs::Fields::first_byte))]
 fn is_misplaced(pk: &[u8], at: usize, opcode: u64, ended: bool) -> bool
     requires { (at < length pk.now) × (opcode ≡ 247 → at + 1 < length pk.now) }
     ensures { result ≡ misplaced_at at ended opcode (drop (at + 1) pk.now) }
 {
     if at == 0 {
-        opcode != PREAMBLE || pk[at + 1] != IDENTIFICATION
-    } else if ended {
-        opcode != NO_OP
-    } else {
-        PREAMBLE <= opcode
+        return opcode != PREAMBLE || pk[at + 1] != IDENTIFICATION;
     }
+    if !ended {
+        return PREAMBLE <= opcode;
+    }
+    opcode != NO_OP
 }
 
 // Whether two bytes with a sign hold an escapement.
@@ -121,7 +124,7 @@ pub fn scan(pk: &[u8]) -> Result<Note, Refusal>
     ensures { answered result ≡ noted pk.now }
 {
     let mut note = Note {
-        places: [0; 256],
+        places: [0; CODES],
         packets: 0,
     };
     let mut at = 0;

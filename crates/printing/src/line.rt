@@ -1,26 +1,46 @@
 // A line put together before it is written, so that it is one write, which the pieces of a `write!` would not be.
-ghost use Rattle.std.specs.Prelude.{◌≡◌, ◌++◌, [], ◌∷◌, OnOk};
-ghost use Rattle.std.specs.Io.KnownBytes.{Appends};
+ghost use Rattle.std.specs.Prelude.{◌≡◌, ◌+◌, ◌≤◌, ◌++◌, [], ◌∷◌, length, take};
 ghost use Rattle.std.specs.Fmt.{signed_decimal};
-ghost use Rattle.std.specs.Fmt.Cut.{IsTextOrCut};
-ghost use Rattle.std.specs.Fmt.InlineText.{inline_text};
 
-use std::fmt::InlineText;
-use std::io::{Result, Write};
+use crate::block::Block;
+use itoa::{Buffer, Integer};
 
-// A line has room for six numbers of 20 digits with a sign and a blank, and for 28 bytes of words: no answer is longer, counted by hand. The library would cut a
-// longer one, and end it in dots.
-pub type Line = InlineText<160>;
+// No answer is longer than a line: each piece asks for its room, so none is cut, as format_args! into the library's InlineText might be.
+pub type Line = Block<160>;
+
+impl Line {
+    pub fn of(text: &[u8]) -> Line
+        requires { length text.now ≤ 160 }
+        ensures length { result.length ≡ length text.now }
+        ensures held { take result.length result.bytes ≡ text.now }
+    {
+        Line::empty().text(text)
+    }
+
+    // The line with a text more
+    pub fn text(mut self, text: &[u8]) -> Line
+        requires { self.length + length text.now ≤ 160 }
+        ensures length { result.length ≡ self.length + length text.now }
+        ensures held { take result.length result.bytes ≡ take self.length self.bytes ++ text.now }
+    {
+        self.push(text);
+        self
+    }
+
+    // The line with a blank and a number more
+    pub fn number<I: Integer>(self, n: I) -> Line
+        requires { self.length + 1 + I.MAX_STR_LEN ≤ 160 }
+        ensures length { result.length ≤ self.length + 1 + I.MAX_STR_LEN }
+        ensures held { take result.length result.bytes ≡ take self.length self.bytes ++ 32 ∷ I.text n }
+    {
+        self.text(b" ").text(Buffer::new().format(n).as_bytes())
+    }
+}
 
 // A word and a number
 pub fn number(word: &str, n: i64) -> Line
-    ensures { IsTextOrCut 160 (word.now ++ 32 ∷ signed_decimal n ++ 10 ∷ []) (inline_text result) }
+    requires { length word.now ≤ 138 }
+    ensures { take result.length result.bytes ≡ word.now ++ 32 ∷ signed_decimal n ++ 10 ∷ [] }
 {
-    Line::of(format_args!("{word} {n}\n"))
-}
-
-pub fn print<W: Write>(out: &mut W, line: &Line) -> Result<()>
-    ensures { OnOk result (Appends (W.contents out.old) (W.contents out.new) (inline_text line.now)) }
-{
-    out.write_all(line.as_str().as_bytes())
+    Line::of(word.as_bytes()).number(n).text(b"\n")
 }

@@ -8,7 +8,7 @@ use std::io::{Result, Write};
 pub fn print<W: Write>(out: &mut W, bytes: &[u8], width: usize) -> Result<()>
     requires { 0 < width }
 {
-    let mut block = Block::empty();
+    let mut block = Block::<4096>::empty();
     for row in bytes.chunks(width) {
         for byte in row {
             // its digits, and a line's end

@@ -138,3 +138,13 @@ part_one_to_one bytes (Ok name) (Ok other) e held held' =
     λ i. Ok (starts i, (held ∙ sym held') i)
 part_one_to_one bytes (Ok name) (Err r) e held held' = absurd (given_not_refused _ _ _ e)
 part_one_to_one bytes (Err r) s e held held' = ap part_named (sym (refused_same s r (sym e)))
+
+-- without the bytes: where the name stands, or the refusal
+abbrev pub start_named : Result FontName Refusal → Result ℕ Refusal
+start_named (Ok name) = Ok name.start
+start_named (Err r) = Err r
+
+pub start_one_to_one : (r s : Result FontName Refusal) → name_answer r ≡ name_answer s → start_named r ≡ start_named s
+start_one_to_one (Ok name) (Ok other) e = ap (λ (part : Part). Ok part.start) (given_same _ _ e)
+start_one_to_one (Ok name) (Err r) e = absurd (given_not_refused _ _ _ e)
+start_one_to_one (Err r) s e = ap start_named (sym (refused_same s r (sym e)))

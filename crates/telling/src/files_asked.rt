@@ -18,10 +18,11 @@ fn try_read<R: Files>(rt: &R, line: &[u8], file: &mut [u8]) -> Option<Line> {
 
 fn command(file: &[u8], at: usize) -> Line {
     match reader::read_command(file, at) {
-        Ok(reading) => Line::of(format_args!(
-            "command {} {} {}\n",
-            reading.opcode, reading.start, reading.next
-        )),
+        Ok(reading) => Line::of(b"command")
+            .number(reading.opcode)
+            .number(reading.start)
+            .number(reading.next)
+            .text(b"\n"),
         Err(refusal) => asking::refused(refusal),
     }
 }
@@ -38,10 +39,12 @@ fn try_check<R: Files>(rt: &R, line: &[u8], file: &mut [u8]) -> Option<Line> {
 
 fn checked(file: &[u8]) -> Line {
     match reader::check_file(file) {
-        Ok(summary) => Line::of(format_args!(
-            "accepted {} {} {} {}\n",
-            summary.pages, summary.fonts, summary.depth, summary.post
-        )),
+        Ok(summary) => Line::of(b"accepted")
+            .number(summary.pages)
+            .number(summary.fonts)
+            .number(summary.depth)
+            .number(summary.post)
+            .text(b"\n"),
         Err(refusal) => asking::refused(refusal),
     }
 }
@@ -59,11 +62,10 @@ fn try_name<R: Files>(rt: &R, line: &[u8], file: &mut [u8]) -> Option<Line> {
 
 fn named(file: &[u8], font: i32) -> Line {
     match reader::font_name(file, font) {
-        Ok(name) => Line::of(format_args!(
-            "name {} {}\n",
-            name.start,
-            name.start + name.bytes.len()
-        )),
+        Ok(name) => Line::of(b"name")
+            .number(name.start)
+            .number(name.start + name.bytes.len())
+            .text(b"\n"),
         Err(refusal) => asking::refused(refusal),
     }
 }
@@ -94,6 +96,6 @@ fn spelled<W: Write>(out: &mut W, file: &[u8], font: i32) -> Result<()> {
             printing::hexadecimal(out, name.bytes)?;
             printing::text(out, b"\n")
         }
-        Err(refusal) => printing::line::print(out, &asking::refused(refusal)),
+        Err(refusal) => asking::refused(refusal).print(out),
     }
 }

@@ -12,7 +12,7 @@ pub fn table<R: Files>(rt: &R, line: &[u8], widths: &mut [u8]) -> Line {
 fn try_table<R: Files>(rt: &R, line: &[u8], widths: &mut [u8]) -> Option<Line> {
     let length = files::read_whole(rt, word(line, 1), widths)?;
     Some(match reader::check_table(&widths[..length]) {
-        Ok(records) => Line::of(format_args!("right {records}\n")),
+        Ok(records) => Line::of(b"right").number(records).text(b"\n"),
         Err(refusal) => asking::refused(refusal),
     })
 }
@@ -36,12 +36,15 @@ fn looked(widths: &[u8], checksum: u32, scale: u32, name: &[u8], code: i32) -> L
     match reader::look_up(widths, checksum, scale, name, code) {
         Ok(Some(metric)) => {
             let width = metric.width;
-            Line::of(format_args!(
-                "found {} {} {} {} {}\n",
-                metric.escapement, width.b0, width.b1, width.b2, width.b3
-            ))
+            Line::of(b"found")
+                .number(metric.escapement)
+                .number(width.b0)
+                .number(width.b1)
+                .number(width.b2)
+                .number(width.b3)
+                .text(b"\n")
         }
-        Ok(None) => Line::of("absent\n"),
+        Ok(None) => Line::of(b"absent\n"),
         Err(refusal) => asking::refused(refusal),
     }
 }

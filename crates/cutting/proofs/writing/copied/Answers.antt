@@ -10,4 +10,4 @@ returns c =
     let a = c.args in
     let room = c.requires in
     let long = between_length a.m.from a.at a.file.now room.ahead room.inside in
-    record { value = refl; out_after = pasted_sets a.out.now a.m.size (between a.m.from a.at a.file.now) _ (omega (arith, room.fits, long)) c.paste.ensures }
+    record { value = refl; out_after = pasted_sets a.out.now a.m.size (between a.m.from a.at a.file.now) _ (omega (arith, room.fits, long)) c.paste_part.ensures }

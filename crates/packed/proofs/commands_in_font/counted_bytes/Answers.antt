@@ -10,8 +10,8 @@ use Prim.Native.Nat.{ℕ, ◌+◌, ◌-◌}
 use native.Mathlib.Omega.{arith}
 use Rattle.packed.proofs.commands_in_font.counted_bytes.Goals as goal
 
-pub returns-in-0-to-239 : goal.returns-in-0-to-239
-returns-in-0-to-239 c =
+pub returns-then-opcode-le-LAST_FLAG : goal.returns-then-opcode-le-LAST_FLAG
+returns-then-opcode-le-LAST_FLAG c =
     let a = c.args in
     let e = c.form_of-form.ensures in
     let s = subst (Sized a.opcode) (sym e) (form_sized a.opcode) in
@@ -22,18 +22,18 @@ returns-in-0-to-239 c =
       omega (arith, s.added_small, u.ensures.upper_bound),
     )
 
-pub returns-in-240-to-243 : goal.returns-in-240-to-243
-returns-in-240-to-243 c =
+pub returns-then-opcode-le-SPECIAL4 : goal.returns-then-opcode-le-SPECIAL4
+returns-then-opcode-le-SPECIAL4 c =
     let a = c.args in
-    let u = c.unsigned_at-in-240-to-243 in (
+    let u = c.unsigned_at-then-opcode-le-SPECIAL4 in (
       u.ensures.value ∙ there a.pk.now a.from 0 a.from _ (omega arith) ∙ counted_special a.opcode (drop a.from a.pk.now) (omega arith) (omega arith),
       omega (arith, u.ensures.upper_bound, power_le (a.opcode - 239) 4 (omega arith)),
     )
 
-pub returns-in-247 : goal.returns-in-247
-returns-in-247 c =
+pub returns-then-opcode-eq-PREAMBLE : goal.returns-then-opcode-eq-PREAMBLE
+returns-then-opcode-eq-PREAMBLE c =
     let a = c.args in
     let pk = a.pk.now in (
-      c.from.ensures ∙ sym (unsigned_one pk (a.from + 1)) ∙ there pk a.from 1 (a.from + 1) 1 (omega arith) ∙ counted_preamble a.opcode (drop a.from pk) c.in-247.is,
+      c.from.ensures ∙ sym (unsigned_one pk (a.from + 1)) ∙ there pk a.from 1 (a.from + 1) 1 (omega arith) ∙ counted_preamble a.opcode (drop a.from pk) c.if-opcode-eq-PREAMBLE.true,
       omega (arith, (c.type_inv.pk (a.from + 1)).fits),
     )
