@@ -16,7 +16,7 @@ const IDENTIFICATION: u8 = 89;
 // How many codes there are.
 pub const CODES: usize = 256;
 
-// 19: whether a command may not stand at its place. Returns, not one expression: that the compiler works out whole for each command, and no-ops take a sixth longer.
+// 19: whether a command may not stand at its place. Returns, not one expression: that the compiler works out whole for each command, and a no-op takes a sixth more instructions.
 #[tactic(auto, using(crate::proofs::Fields::first_byte))]
 fn is_misplaced(pk: &[u8], at: usize, opcode: u64, ended: bool) -> bool
     requires { (at < length pk.now) × (opcode ≡ 247 → at + 1 < length pk.now) }
