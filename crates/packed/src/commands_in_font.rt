@@ -56,7 +56,7 @@ pub fn form_of(flag: u64) -> Form
     }
 }
 
-// The parameter bytes that a command always has. Tests in this order, here and below, and no match of ranges: with one, a no-op takes a quarter more instructions and a special half as many again.
+// The parameter bytes that a command always has. Tests in this order, here and below, and no match of ranges: with one, and one expression in is_misplaced, a no-op takes a quarter more instructions and a special half as many again.
 #[tactic(auto, unfolding(crate::specs::Commands::fixed_bytes, crate::specs::Commands::form_of))]
 pub fn fixed_bytes(opcode: u64) -> usize
     ensures { (result ≡ fixed_bytes opcode) × (result ≤ 18) }

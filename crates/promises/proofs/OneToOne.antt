@@ -18,7 +18,7 @@ use Rattle.widths.specs.declared.Metric.{Metric}
 use Rattle.list.specs.declared.Part.{Part}
 use Rattle.reader.specs.declared.FontName.{FontName}
 use Rattle.std.specs.Prelude.{IfOk}
-use Rattle.promises.specs.Named.{part_named}
+use Rattle.promises.specs.Named.{part_named, start_named}
 
 -- the reasons in the order of their numbers; 0 is no reason's
 abbrev reasons : List Reason
@@ -139,11 +139,7 @@ part_one_to_one bytes (Ok name) (Ok other) e held held' =
 part_one_to_one bytes (Ok name) (Err r) e held held' = absurd (given_not_refused _ _ _ e)
 part_one_to_one bytes (Err r) s e held held' = ap part_named (sym (refused_same s r (sym e)))
 
--- without the bytes: where the name stands, or the refusal
-abbrev pub start_named : Result FontName Refusal → Result ℕ Refusal
-start_named (Ok name) = Ok name.start
-start_named (Err r) = Err r
-
+-- without the bytes
 pub start_one_to_one : (r s : Result FontName Refusal) → name_answer r ≡ name_answer s → start_named r ≡ start_named s
 start_one_to_one (Ok name) (Ok other) e = ap (λ (part : Part). Ok part.start) (given_same _ _ e)
 start_one_to_one (Ok name) (Err r) e = absurd (given_not_refused _ _ _ e)

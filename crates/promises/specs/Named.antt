@@ -14,3 +14,8 @@ bytes_named (Err why) = Err why
 abbrev pub part_named : Result FontName Refusal → Result (ℕ × List ℕ) Refusal
 part_named (Ok name) = Ok (name.start, name.bytes.now)
 part_named (Err why) = Err why
+
+-- where in the file the name starts, or the refusal (rule 9.4)
+abbrev pub start_named : Result FontName Refusal → Result ℕ Refusal
+start_named (Ok name) = Ok name.start
+start_named (Err why) = Err why
