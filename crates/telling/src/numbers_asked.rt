@@ -16,7 +16,7 @@ fn try_round(line: &[u8]) -> Option<Line> {
     let resolution = words::read_unsigned32(word(line, 4))?;
     let n = words::read_signed32(word(line, 5))?;
     Some(match reader::round_distance(num, den, mag, resolution, n) {
-        Ok(distance) => line::number("rounded", distance),
+        Ok(distance) => line::word_and_number("rounded", distance),
         Err(refusal) => asking::refused(refusal),
     })
 }
@@ -33,7 +33,7 @@ fn try_scale(line: &[u8]) -> Option<Line> {
     let b2 = words::read_byte(word(line, 4))?;
     let b3 = words::read_byte(word(line, 5))?;
     Some(match reader::scale_width(scale, b0, b1, b2, b3) {
-        Ok(width) => line::number("width", width),
+        Ok(width) => line::word_and_number("width", width),
         Err(refusal) => asking::refused(refusal),
     })
 }
