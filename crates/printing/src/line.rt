@@ -39,7 +39,7 @@ impl Line {
     }
 }
 
-// A word for which a line has room, and a number
+// A word that leaves room for any number, and the number
 pub fn word_and_number(word: &str, n: i64) -> Line
     requires { length word.now ≤ 138 }
     ensures { take result.length result.bytes ≡ word.now ++ 32 ∷ signed_decimal n ++ 10 ∷ [] }
